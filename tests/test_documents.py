@@ -111,3 +111,18 @@ def test_no_path_of_a_machine():
 def test_no_marks_of_a_merge():
     for name, text in documents():
         assert not re.search(r"^(?:<{7}|>{7}|={7}$)", text, re.M), name
+
+
+def test_no_line_is_too_wide():
+    """Definitions and proofs have lines of at most 160 columns, and code and contracts of at most 100, but for
+    imports."""
+    wide = []
+    for kind, most in [("src/**/*.rt", 100), ("specs/**/*.antt", 160), ("proofs/**/*.antt", 160)]:
+        paths = glob.glob(f"{TOP}/crates/*/{kind}", recursive=True)
+        assert paths, kind
+        for path in paths:
+            for number, line in enumerate(contracts.text_of(path).splitlines(), 1):
+                is_free = kind.startswith("src") and re.match(r"\s*(?:pub |ghost )?use ", line)
+                if len(line) > most and not is_free:
+                    wide.append((path, number))
+    assert not wide, wide

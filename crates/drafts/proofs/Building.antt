@@ -19,7 +19,8 @@ use Rattle.filetree.proofs.ComparedKeys.{not_same}
 use Rattle.filetree.specs.Dictionary.{pairs_in}
 use Rattle.filetree.specs.FileTree.{Walk, walks, is_nil, is_file, is_directory, is_node, HasBadPath, HasBadPathIn}
 use Rattle.filetree.specs.Paths.{IsFilePath, AreInOrder}
-use Rattle.drafts.proofs.BuiltTrees.{AreComponents, are_components, tree_walks, IsSome, ComesBefore, first_some, comes_before, IsInner, IsTidy, ArePairsTidy, IsFileValue, IsFileNode, IsBuilt, IsBuiltIn}
+use Rattle.drafts.proofs.BuiltTrees.{AreComponents, are_components, tree_walks, IsSome, ComesBefore, first_some, comes_before}
+use Rattle.drafts.proofs.BuiltTrees.{IsInner, IsTidy, ArePairsTidy, IsFileValue, IsFileNode, IsBuilt, IsBuiltIn}
 
 alone : (room : ℕ) (p : List (List ℕ)) (v : Bencode) → AreComponents p → length p < room → IsFileValue v → IsInner room (with_first p v no_pairs)
 alone room [] v good short file = inl (record { file = v; is = refl; good = file; space = short })

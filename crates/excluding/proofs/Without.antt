@@ -1,5 +1,6 @@
 -- A listing without the files that are left out, and paths whose components are joined.
-use Rattle.std.proofs.Common.{◌≡◌, ℕ, ◌+◌, List, [], ◌∷◌, ◌++◌, map, Bool, true, false, cond, not, ◌&&◌, ◌||◌, Option, Some, None, option_map, Result, Ok, Err, refl, ap, sym, ◌∙◌, subst}
+use Rattle.std.proofs.Common.{◌≡◌, ℕ, ◌+◌, List, [], ◌∷◌, ◌++◌, map, Bool, true, false, cond, not, ◌&&◌, ◌||◌}
+use Rattle.std.proofs.Common.{Option, Some, None, option_map, Result, Ok, Err, refl, ap, sym, ◌∙◌, subst}
 use Rattle.std.proofs.Common.{append-nil, true≢false, arith, codes, ◌<◌, drop, get_or, drop-drop, get_or-drop, length, take}
 use Rattle.std.specs.Prelude.{String}
 use Rattle.std.specs.Global.{Global, Vec}

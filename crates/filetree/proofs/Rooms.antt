@@ -1,5 +1,6 @@
 -- The nodes of a folder, and how deep the values in it may be.
-use Rattle.std.proofs.Common.{◌≡◌, ℕ, ◌+◌, ◌-◌, ◌<◌, Bool, true, false, not, ◌&&◌, ◌||◌, List, [], ◌∷◌, ◌++◌, length, drop, get_or, Option, None, arith, sym, ap, subst, inl, inr}
+use Rattle.std.proofs.Common.{◌≡◌, ℕ, ◌+◌, ◌-◌, ◌<◌, Bool, true, false, not, ◌&&◌, ◌||◌, List, [], ◌∷◌, ◌++◌}
+use Rattle.std.proofs.Common.{length, drop, get_or, Option, None, arith, sym, ap, subst, inl, inr}
 use Rattle.std.proofs.lemmas.List.{length-append}
 use Rattle.benc.specs.Text.{Fits, PairsFit}
 use Rattle.benc.specs.Value.{Bencode, Pairs, dict, pair}

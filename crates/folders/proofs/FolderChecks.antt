@@ -1,5 +1,6 @@
 -- What a check of a folder has found so far.
-use Rattle.std.proofs.Common.{◌≡◌, ◌∙◌, ℕ, suc, ◌+◌, ◌<◌, ◌≤◌, ◌&&◌, Bool, true, false, is_some, List, [], ◌∷◌, ◌++◌, length, get_or, slice_get, take, Option, Some, None}
+use Rattle.std.proofs.Common.{◌≡◌, ◌∙◌, ℕ, suc, ◌+◌, ◌<◌, ◌≤◌, ◌&&◌, Bool, true, false, is_some, List}
+use Rattle.std.proofs.Common.{[], ◌∷◌, ◌++◌, length, get_or, slice_get, take, Option, Some, None}
 use Rattle.std.proofs.Common.{vec_capacity, ap, refl, subst, sym, append_assoc, append-nil, arith}
 use Rattle.std.proofs.lemmas.Option.{get_or_from_slice_get, none-some, slice_get-get_or, slice_get_within}
 use Rattle.std.proofs.lemmas.List.{get_or-take, length-take, length_push}

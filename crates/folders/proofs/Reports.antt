@@ -15,7 +15,8 @@ use Rattle.pieces.specs.declared.v1_feed.V1Feed.{V1Feed}
 use Rattle.folders.specs.Compared.{IsDigestVerdict}
 use Rattle.folders.specs.Folder.{Contents, GoodFolder, IsGoodFile, IsStream, V1Good, tree_entry_of}
 use Rattle.folders.specs.Streaming.{StreamEndsAt, IsStreamVerdict, StandsAt}
-use Rattle.folders.specs.Verdicts.{HasVerdicts, IsBad, IsV1Verdict, IsVerdict, AreTrueVerdicts, fault_count, is_checked, is_good, is_unreadable, is_whole, is_yes}
+use Rattle.folders.specs.Verdicts.{HasVerdicts, IsBad, IsV1Verdict, IsVerdict, AreTrueVerdicts, fault_count}
+use Rattle.folders.specs.Verdicts.{is_checked, is_good, is_unreadable, is_whole, is_yes}
 use Rattle.folders.specs.Verdicts.{stream_is_good, unreadable_count}
 use Rattle.folders.proofs.Prefixes.{IsStreamPrefix, prefix_all}
 use Rattle.folders.proofs.Passes.{IsPassed, AreFound}

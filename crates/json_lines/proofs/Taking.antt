@@ -1,5 +1,6 @@
 -- A text as far as its first line ends.
-use Rattle.std.proofs.Common.{◌≡◌, ◌⊎◌, inl, inr, ℕ, suc, ◌==◌, ◌+◌, ◌<◌, Bool, true, false, not, cond, List, [], ◌∷◌, ◌++◌, Option, Some, None, length, take, append_assoc, refl, sym, ap, subst, ◌∙◌, if◌then◌else◌, arith}
+use Rattle.std.proofs.Common.{◌≡◌, ◌⊎◌, inl, inr, ℕ, suc, ◌==◌, ◌+◌, ◌<◌, Bool, true, false, not, cond, List, [], ◌∷◌, ◌++◌, Option}
+use Rattle.std.proofs.Common.{Some, None, length, take, append_assoc, refl, sym, ap, subst, ◌∙◌, if◌then◌else◌, arith}
 use Rattle.std.proofs.lemmas.List.{append-nil}
 use Rattle.json_lines.specs.Words.{line_length}
 use Rattle.std.specs.Io.KnownBytes.{Appends}

@@ -9,7 +9,8 @@ use Rattle.partial_tree.specs.TreeRoot.{TreeRoot}
 use Rattle.partial_tree.specs.declared.refusal.HashRefusal.{HashRefusal}
 use Rattle.partial_tree.specs.declared.refusal.BlockRefusal.{BlockRefusal}
 use Rattle.partial_tree.specs.declared.answer.Answer.{Answer}
-use Rattle.session.specs.Session.{SessionSeen, TreeState, IsTree, IsStored, IsHashRefused, IsVerified, IsBlockRefused, IsBlock, IsAnswered, AreTaken, AreRefused, AreBlocks}
+use Rattle.session.specs.Session.{SessionSeen, TreeState, IsTree, IsStored, IsHashRefused, IsVerified, IsBlockRefused}
+use Rattle.session.specs.Session.{IsBlock, IsAnswered, AreTaken, AreRefused, AreBlocks}
 use Rattle.session.specs.Answers.{IsAnswerTo}
 use Rattle.session.specs.Noted.{IsOpenAsk, IsAnswerStored, IsAnswerRefused, with_ask}
 use Rattle.session.specs.Blocks.{BlocksSeen}

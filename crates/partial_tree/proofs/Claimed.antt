@@ -12,7 +12,8 @@ use Rattle.node_maps.specs.Digest.{Hash, join}
 use Rattle.hashtree.specs.Tree.{pad_leaf}
 use Rattle.partial_tree.specs.Closed.{IsFamily}
 use Rattle.partial_tree.specs.Claims.{span, cover, above, sibling, base_hash, uncle_hash, given, claims, top_layer, top_index}
-use Rattle.partial_tree.proofs.ClaimValues.{either, first_of_two, second_of_two, there_or_not, base-read, uncle-read, claims-read, claims-zero, claims-given, claims-joined, sibling-apart, sibling-half, pair_of}
+use Rattle.partial_tree.proofs.ClaimValues.{either, first_of_two, second_of_two, there_or_not, base-read, uncle-read, claims-read}
+use Rattle.partial_tree.proofs.ClaimValues.{claims-zero, claims-given, claims-joined, sibling-apart, sibling-half, pair_of}
 
 -- ---- the places of a claim
 

@@ -1,7 +1,9 @@
 -- The node over a piece, from the bytes of that piece alone.
-use Rattle.std.proofs.Common.{◌≡◌, inl, inr, ℕ, suc, ◌+◌, ◌-◌, ◌*◌, ◌^◌, ◌<◌, ◌≤◌, min, List, [], ◌++◌, length, take, drop, replicate, get_or, refl, ap, ap₂, sym, ◌∙◌, subst, arith, take-take, take_at, drop_at}
+use Rattle.std.proofs.Common.{◌≡◌, inl, inr, ℕ, suc, ◌+◌, ◌-◌, ◌*◌, ◌^◌, ◌<◌, ◌≤◌, min, List, [], ◌++◌, length, take, drop}
+use Rattle.std.proofs.Common.{replicate, get_or, refl, ap, ap₂, sym, ◌∙◌, subst, arith, take-take, take_at, drop_at}
 use Rattle.std.proofs.lemmas.Bool.{cases_lt}
-use Rattle.std.proofs.lemmas.List.{ext_get_or, get_or-take, get_or-drop, get_or_append_left, get_or-append_right, get_or-replicate, length-append, length-take, length-drop, length-replicate, drop-drop, drop-take}
+use Rattle.std.proofs.lemmas.List.{ext_get_or, get_or-take, get_or-drop, get_or_append_left, get_or-append_right, get_or-replicate}
+use Rattle.std.proofs.lemmas.List.{length-append, length-take, length-drop, length-replicate, drop-drop, drop-take}
 use Rattle.std.proofs.lemmas.List.FromFn.{get_or-map-range_with_len}
 use Rattle.sha2.specs.Sha256.{sha256}
 use Rattle.hashtree.specs.Tree.{block, block_count, block_hashes, height, leaves, node, pad_leaf, root_of, tree, zero_hash}

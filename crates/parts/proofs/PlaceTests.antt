@@ -1,5 +1,6 @@
 -- Whether a file has a place in a part, and the lines of those that have.
-use Rattle.std.proofs.Common.{◌≡◌, ℕ, ◌+◌, ◌<◌, ◌≤◌, ◌++◌, ◌∷◌, max, Bool, true, false, IsTrue, ◌&&◌, nat_le, nat_lt, List, length, drop, map, get_or, refl, ap, sym, ◌∙◌, arith}
+use Rattle.std.proofs.Common.{◌≡◌, ℕ, ◌+◌, ◌<◌, ◌≤◌, ◌++◌, ◌∷◌, max, Bool, true, false, IsTrue, ◌&&◌, nat_le}
+use Rattle.std.proofs.Common.{nat_lt, List, length, drop, map, get_or, refl, ap, sym, ◌∙◌, arith}
 use Rattle.std.proofs.lemmas.List.{drop_more}
 use Rattle.opening.specs.Description.{Description, FileEntry}
 use Rattle.opening.specs.Seen.{file_entry}

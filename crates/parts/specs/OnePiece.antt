@@ -1,5 +1,6 @@
 -- One piece of a file, as a part reads and judges it.
-use Rattle.std.specs.Prelude.{◌≡◌, ℕ, ◌+◌, ◌-◌, ◌*◌, ◌^◌, ◌<◌, ◌≤◌, min, ◌++◌, List, length, take, drop, replicate, slice_get, Bool, IsTrue, ◌↔◌, Option, Some, None, is_some, ⊤}
+use Rattle.std.specs.Prelude.{◌≡◌, ℕ, ◌+◌, ◌-◌, ◌*◌, ◌^◌, ◌<◌, ◌≤◌, min, ◌++◌, List, length, take, drop}
+use Rattle.std.specs.Prelude.{replicate, slice_get, Bool, IsTrue, ◌↔◌, Option, Some, None, is_some, ⊤}
 use Rattle.benc.specs.Device.{SourceSeen}
 use Rattle.sha1.specs.Sha1.{Holds, sha1}
 use Rattle.sha1.specs.declared.Sha1.{Sha1}

@@ -12,9 +12,11 @@ use Rattle.benc.specs.Parser.{◌>>=◌, GrowsForItem, GrowsForPair, begun_at, v
 use Rattle.benc.specs.Fails.{Reaches}
 use Rattle.benc.proofs.Reached.{list_reaches, dict_reaches}
 use Rattle.benc.proofs.Lookups.{span_push}
-use Rattle.benc.proofs.SoFar.{value_of, same_value, left_mapped, value_bytes, items_begin, items_next, items_all, items_cut, items_failed, items_grow_here, items_reach, pairs_begin, pairs_next, pairs_all, pairs_cut, pairs_keyless, pairs_failed, pairs_grow_here, pairs_reach}
+use Rattle.benc.proofs.SoFar.{value_of, same_value, left_mapped, value_bytes, items_begin, items_next, items_all, items_cut, items_failed, items_grow_here}
+use Rattle.benc.proofs.SoFar.{items_reach, pairs_begin, pairs_next, pairs_all, pairs_cut, pairs_keyless, pairs_failed, pairs_grow_here, pairs_reach}
 use Rattle.benc.proofs.Stores.{keeps_before, refused_more, refused_then, kept_push}
-use Rattle.benc.proofs.Values.{value_none, value_integer, value_items, value_pairs, list_too_deep, dict_too_deep, value_text, value_other, view-Int, view-Bytes, view-List, view-Dict, view-Pair}
+use Rattle.benc.proofs.Values.{value_none, value_integer, value_items, value_pairs, list_too_deep, dict_too_deep}
+use Rattle.benc.proofs.Values.{value_text, value_other, view-Int, view-Bytes, view-List, view-Dict, view-Pair}
 use Rattle.benc.specs.declared.value.Pair.{Pair}
 use Rattle.benc.proofs.parser.+read.Goals as goal
 use Rattle.benc.proofs.parser.+read.Goals.{value-in_default-first-via-then-first-lt48, value-in_default-first-via-else-first-lt48+else-first-lt58}

@@ -1,4 +1,5 @@
-use Rattle.std.proofs.Common.{◌≡◌, ◌∙◌, ◌+◌, ◌<◌, ◌≤◌, [], ◌∷◌, ◌++◌, ap, arith, drop, drop-set-lt, false, length, map, not, refl, string_bytes, sym, take_all, true}
+use Rattle.std.proofs.Common.{◌≡◌, ◌∙◌, ◌+◌, ◌<◌, ◌≤◌, [], ◌∷◌, ◌++◌, ap, arith, drop, drop-set-lt}
+use Rattle.std.proofs.Common.{false, length, map, not, refl, string_bytes, sym, take_all, true}
 use Rattle.std.proofs.lemmas.List.{length-set, map-append}
 use Rattle.std.specs.List.{filter}
 use Rattle.std.specs.Prelude.{vec_len}

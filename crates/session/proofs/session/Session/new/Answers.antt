@@ -1,4 +1,5 @@
-use Rattle.std.proofs.Common.{◌≡◌, ℕ, zero, suc, ◌+◌, ◌<◌, ◌∙◌, true, false, Result, Ok, Err, OnErr, Option, Some, None, SomeIff, List, map, take, length, refl, ap, sym, subst, subst₂, arith}
+use Rattle.std.proofs.Common.{◌≡◌, ℕ, zero, suc, ◌+◌, ◌<◌, ◌∙◌, true, false, Result, Ok, Err, OnErr, Option, Some}
+use Rattle.std.proofs.Common.{None, SomeIff, List, map, take, length, refl, ap, sym, subst, subst₂, arith}
 use Rattle.std.specs.Prelude.{IsSome}
 use Rattle.std.proofs.lemmas.Bool.{false≢true}
 use Rattle.std.proofs.lemmas.List.{length-map}
