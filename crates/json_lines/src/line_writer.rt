@@ -1,5 +1,6 @@
 //! The sink that takes printed lines, and writes their objects.
 ghost use Rattle.std.specs.Prelude.{◌≡◌, ◌++◌, ◌+◌, ◌≤◌, ◌<◌, [], length, take, true, false, None, Err, IfOk, OnOk, OnErr};
+ghost use Rattle.std.specs.Io.KnownBytes.{Keeps};
 ghost use Rattle.benc.specs.Device.{Broke, CountsFault, Sent, one_more};
 ghost use Rattle.json_lines.specs.Lines.{Failed, Took, object_text};
 ghost use Rattle.json_lines.specs.Words.{line_length};
@@ -56,6 +57,7 @@ impl<W: Sink> LineWriter<W> {
         ensures forms { result.forms ≡ forms.entry }
         ensures starts { result.line.items ≡ [] }
         ensures memory { result.lacks_memory ≡ false }
+        ensures faults { result.faults ≡ 0 }
     {
         LineWriter {
             sink,
@@ -148,6 +150,7 @@ impl<W: Sink> Sink for LineWriter<W> {
             self.new.line.items) }
         ensures failed { OnErr result (Failed self.old.forms.now self.old.line.items
             (W.seen self.old.sink) (W.seen self.new.sink) buf.now self.new.lacks_memory) }
+        ensures memory { OnOk result (self.new.lacks_memory ≡ self.old.lacks_memory) }
         ensures forms { self.new.forms ≡ self.old.forms }
         ensures counts { CountsFault self.old.faults self.new.faults result }
         ensures flushes { (W.seen self.new.sink).flushes ≡ (W.seen self.old.sink).flushes }
@@ -161,7 +164,16 @@ impl<W: Sink> Sink for LineWriter<W> {
         }
     }
 
-    fn flush(&mut self) -> Result<(), DeviceFault> {
+    fn flush(&mut self) -> Result<(), DeviceFault>
+        ensures bytes { Keeps (W.seen self.old.sink).written (W.seen self.new.sink).written }
+        ensures flushed { OnOk result ((W.seen self.new.sink).is_flushed ≡ true) }
+        ensures flushes { (W.seen self.new.sink).flushes
+            ≡ one_more (W.seen self.old.sink).flushes }
+        ensures counts { CountsFault self.old.faults self.new.faults result }
+        ensures line { self.new.line ≡ self.old.line }
+        ensures forms { self.new.forms ≡ self.old.forms }
+        ensures memory { self.new.lacks_memory ≡ self.old.lacks_memory }
+    {
         match self.sink.flush() {
             Ok(()) => Ok(()),
             Err(_) => Err(self.failed()),
