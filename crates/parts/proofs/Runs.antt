@@ -1,7 +1,7 @@
 -- The runs of bad pieces, as far as the pieces were judged.
 use Rattle.std.proofs.Common.{◌≡◌, ◌⊎◌, inl, inr, ℕ, zero, suc, ◌+◌, ◌-◌, ◌*◌, ◌<◌, ◌≤◌, min, Bool, true}
 use Rattle.std.proofs.Common.{false, IsTrue, nat_lt, if◌then◌else◌, List, [], ◌∷◌, ◌++◌, length}
-use Rattle.std.proofs.Common.{take, drop, slice_get, Some, refl, ap, sym, ◌∙◌, subst, append-nil, append_assoc, arith}
+use Rattle.std.proofs.Common.{take, drop, slice_get, Some, None, refl, ap, sym, ◌∙◌, subst, append-nil, append_assoc, arith}
 use Rattle.std.proofs.Math.Nat.{mul-le-mul_left}
 use Rattle.std.proofs.Math.Seq.{take-append-add}
 use Rattle.std.proofs.lemmas.Bool.{cases_lt}
@@ -178,7 +178,7 @@ none_bad t f = record { count = omega arith; so_far = λ rest. no_runs (piece_co
 
 -- what was judged of a piece is true of each content that goes on so
 pub judged_so : (t : Description) (f : FileEntry) (number : ℕ) (given own rest : List ℕ) (j : Judged) → 0 < t.piece_length → number < piece_count t f
-    → length given ≡ min (t.piece_length * number) f.length → length own ≡ piece_size t f number → IsJudged t f number own j
+    → length given ≡ min (t.piece_length * number) f.length → length own ≡ piece_size t f number → IsJudged t None f number own j
     → (IsTrue j.good → HasGoodPiece t f ((given ++ own) ++ rest) number) × (HasGoodPiece t f ((given ++ own) ++ rest) number → IsTrue j.good)
 judged_so t f number given own rest j positive lt count size is =
     let pl : ℕ = t.piece_length in
@@ -205,7 +205,7 @@ judged_so t f number given own rest j positive lt count size is =
 
 -- one piece more, which is good or not
 pub good_next : (t : Description) (f : FileEntry) (number first : ℕ) (given own : List ℕ) (runs : List Run) (j : Judged) → 0 < t.piece_length
-    → number < piece_count t f → length own ≡ piece_size t f number → IsJudged t f number own j → IsTrue j.good → BadSoFar t f number first given runs
+    → number < piece_count t f → length own ≡ piece_size t f number → IsJudged t None f number own j → IsTrue j.good → BadSoFar t f number first given runs
     → BadSoFar t f (number + 1) (number + 1) (given ++ own) (runs ++ run_between first number)
 good_next t f number first given own runs j positive lt size is good before =
     let pl : ℕ = t.piece_length in
@@ -219,8 +219,8 @@ good_next t f number first given own runs j positive lt size is good before =
     }
 
 pub bad_next : (t : Description) (f : FileEntry) (number first : ℕ) (given own : List ℕ) (runs : List Run) (j : Judged) → 0 < t.piece_length
-    → number < piece_count t f → length own ≡ piece_size t f number → IsJudged t f number own j → (IsTrue j.good → ⊥) → BadSoFar t f number first given runs
-    → BadSoFar t f (number + 1) first (given ++ own) runs
+    → number < piece_count t f → length own ≡ piece_size t f number → IsJudged t None f number own j → (IsTrue j.good → ⊥)
+    → BadSoFar t f number first given runs → BadSoFar t f (number + 1) first (given ++ own) runs
 bad_next t f number first given own runs j positive lt size is bad before =
     let pl : ℕ = t.piece_length in
     let below : pl * number < f.length = in_pieces pl number f.length positive lt in

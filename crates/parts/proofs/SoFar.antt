@@ -81,7 +81,7 @@ read_next t f bytes given own xs from number positive lt count size is end =
 -- one piece more
 pub more_so_far : (t : Description) (f : FileEntry) (from number : ℕ) (given own : List ℕ) (bad bad_cut : Option ℕ) (j : Judged) → 0 < t.piece_length
     → from ≤ number → number < piece_count t f
-    → length own ≡ piece_size t f number → IsJudged t f number own j → AreJudgedFrom t f from number given bad bad_cut
+    → length own ≡ piece_size t f number → IsJudged t t.v1 f number own j → AreJudgedFrom t f from number given bad bad_cut
     → AreJudgedFrom t f from (number + 1) (given ++ own) (first_of bad number j.good) (first_of bad_cut number j.cut_good)
 more_so_far t f from number given own bad bad_cut j positive le lt size is so_far =
     let pl : ℕ = t.piece_length in

@@ -72,16 +72,16 @@ abbrev pub piece_size : Description → FileEntry → ℕ → ℕ
 piece_size t f k = min t.piece_length (f.length - t.piece_length * k)
 
 -- these bytes of a piece were judged so: the piece of a content that has them is good or not, and
--- the version 1 piece is
-pub record IsJudged (t : Description) (f : FileEntry) (k : ℕ) (own : List ℕ) (j : Judged) : Type 0
-  where
-    pub good : (bytes : List ℕ) → IsRead t f bytes k own → IsTrue j.good ↔ IsPieceGood t f bytes k
-    pub cut : (v : Version1) → t.v1 ≡ Some v
-        → IsTrue j.cut_good ↔ IsCutListed t.piece_length v (f.first_piece + k) own
+-- the version 1 piece is, if version 1 pieces are given
+pub record IsJudged (t : Description) (v1 : Option Version1) (f : FileEntry) (k : ℕ)
+    (own : List ℕ) (j : Judged) : Type 0 where
+  pub good : (bytes : List ℕ) → IsRead t f bytes k own → IsTrue j.good ↔ IsPieceGood t f bytes k
+  pub cut : (v : Version1) → v1 ≡ Some v
+      → IsTrue j.cut_good ↔ IsCutListed t.piece_length v (f.first_piece + k) own
 
 -- the next piece was read and judged, or the source ended before
-abbrev pub JudgesNext : Description → FileEntry → ℕ → SourceSeen → SourceSeen → Option Judged
-    → Type 0
-JudgesNext t f k old new None = EndsBefore old new (piece_size t f k)
-JudgesNext t f k old new (Some j) =
-    (own : List ℕ) × (length own ≡ piece_size t f k) × Gave old new own × IsJudged t f k own j
+abbrev pub JudgesNext : Description → Option Version1 → FileEntry → ℕ → SourceSeen → SourceSeen
+    → Option Judged → Type 0
+JudgesNext t v1 f k old new None = EndsBefore old new (piece_size t f k)
+JudgesNext t v1 f k old new (Some j) =
+    (own : List ℕ) × (length own ≡ piece_size t f k) × Gave old new own × IsJudged t v1 f k own j

@@ -76,7 +76,7 @@ fn write_runs<F: Source, W: Sink>(
     // The first piece after the last good one.
     let mut first: u64 = 0;
     'pieces: for number in 0..count {
-        let Some(judged) = check_piece(source, torrent, file, number, buffer)? else {
+        let Some(judged) = check_piece(source, torrent, file, number, None, buffer)? else {
             write_run(torrent, file, first, count, out)?;
             return Ok(());
         };

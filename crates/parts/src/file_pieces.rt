@@ -111,7 +111,7 @@ fn judge_one<F: Source>(
     ensures counts { CountsFault (F.seen source.old).faults (F.seen source.new).faults result }
 {
     torrent.sound();
-    let Some(judged) = check_piece(source, torrent, file, number, buffer)? else {
+    let Some(judged) = check_piece(source, torrent, file, number, torrent.v1(), buffer)? else {
         return Ok(None);
     };
     Ok(Some(Found {

@@ -1,5 +1,5 @@
 //! One piece of a file: whether it is good, and whether the version 1 piece is that begins with it.
-ghost use Rattle.std.specs.Prelude.{◌≡◌, ℕ, ◌*◌, ◌^◌, ◌<◌, ◌≤◌, ◌↔◌, List, length, is_some, IsTrue, IfOk, Some};
+ghost use Rattle.std.specs.Prelude.{◌≡◌, ℕ, ◌*◌, ◌^◌, ◌<◌, ◌≤◌, ◌↔◌, List, length, is_some, option_map, IsTrue, IfOk, Some};
 ghost use Rattle.benc.specs.Device.{CountsFault};
 ghost use Rattle.hashtree.specs.Tree.{root_of};
 ghost use Rattle.opening.specs.Description.{Version1};
@@ -28,19 +28,22 @@ pub(crate) struct Judged {
     pub(crate) cut_good: bool,
 }
 
-/// Reads and judges the next piece of a file. `None`: the source has fewer bytes than the piece.
+/// Reads and judges the next piece of a file, and if version 1 pieces are given, the one that
+/// begins with it; else no SHA-1 is made. `None`: the source has fewer bytes than the piece.
 /// Conditions: the torrent has the file, the file has the piece, and the buffer is not empty.
 pub(crate) fn check_piece<F: Source>(
     source: &mut F,
     torrent: &Torrent<'_>,
     file: &File<'_>,
     number: u64,
+    v1: Option<&V1<'_>>,
     buffer: &mut [u8],
 ) -> Result<Option<Judged>, DeviceFault>
     requires some { 0 < length buffer.old }
     requires file { IsFileOf torrent.now (file_entry file.now) }
     requires inside { number < piece_count torrent.now (file_entry file.now) }
-    ensures judged { IfOk result (JudgesNext torrent.now (file_entry file.now) number
+    ensures judged { IfOk result (JudgesNext torrent.now
+        (option_map (λ v. version1 v.now) v1.entry) (file_entry file.now) number
         (F.seen source.old) (F.seen source.new)) }
     ensures no_further { IsReadWithin (piece_size torrent.now (file_entry file.now) number)
         (F.seen source.old) (F.seen source.new) }
@@ -49,27 +52,33 @@ pub(crate) fn check_piece<F: Source>(
     torrent.sound();
     let piece_length = torrent.piece_length();
     let size = piece_length.min(file.length - piece_length * number);
-    let Some(piece) = read_piece(source, size, torrent.v1().is_some(), buffer)? else {
+    let Some(piece) = read_piece(source, size, v1.is_some(), buffer)? else {
         return Ok(None);
     };
     let (root, cut) = piece.finish();
     Ok(Some(Judged {
         good: is_listed(torrent, file, number, &root, size),
-        cut_good: is_cut_good(torrent, file.first_piece + number, cut, size),
+        cut_good: is_cut_good(v1, piece_length, file.first_piece + number, cut, size),
     }))
 }
 
 // Whether the version 1 piece is good that begins with this piece of the torrent, of which the file
 // gave so many bytes.
-fn is_cut_good(torrent: &Torrent<'_>, index: u64, cut: Option<Sha1>, size: u64) -> bool
-    requires kind { is_some cut ≡ is_some torrent.now.v1 }
-    requires place { torrent.now.piece_length * index < 2 ^ 64 }
+fn is_cut_good(
+    v1: Option<&V1<'_>>,
+    piece_length: u64,
+    index: u64,
+    cut: Option<Sha1>,
+    size: u64,
+) -> bool
+    requires kind { is_some cut ≡ is_some v1 }
+    requires place { piece_length * index < 2 ^ 64 }
     ensures { (own : List ℕ) (v : Version1) → HoldsCut cut own → length own ≡ size
-        → torrent.now.v1 ≡ Some v
-        → IsTrue result ↔ IsCutListed torrent.now.piece_length v index own }
+        → option_map (λ v. version1 v.now) v1.entry ≡ Some v
+        → IsTrue result ↔ IsCutListed piece_length v index own }
 {
-    match (torrent.v1(), cut) {
-        (Some(v1), Some(cut)) => is_v1_listed(v1, torrent.piece_length(), index, cut, size),
+    match (v1, cut) {
+        (Some(v1), Some(cut)) => is_v1_listed(v1, piece_length, index, cut, size),
         _ => true,
     }
 }

@@ -1,4 +1,4 @@
-use Rattle.std.proofs.Common.{◌≡◌, ◌+◌, ◌<◌, ◌∙◌, [], ◌++◌, Err, rules, append_assoc, refl, ap, sym, subst, arith}
+use Rattle.std.proofs.Common.{◌≡◌, ◌+◌, ◌<◌, ◌∙◌, [], ◌++◌, None, Err, rules, append_assoc, refl, ap, sym, subst, arith}
 use Rattle.std.proofs.lemmas.Result.{err_from_is_err_and}
 use Rattle.benc.specs.Device.{Broke, Sent}
 use Rattle.opening.specs.Seen.{file_entry}
@@ -48,7 +48,7 @@ returns-in_err-write_run-clause-lines g c =
     let new = g.F.Source.seen c.check_piece.new.source in
     let s = c.pieces.invariant.so_far in
     let lt : c.pieces.number < piece_count t f = omega (arith, c.pieces-test.true, c.piece_count-count.ensures) in
-    let short = subst (JudgesNext t f c.pieces.number old new) c.in_default.is c.in_ok-judged.ensures.judged in
+    let short = subst (JudgesNext t None f c.pieces.number old new) c.in_default.is c.in_ok-judged.ensures.judged in
     let all = Gave-trans start old new s.0 short.bytes s.1 short.gave in
     let so_far = bad_to_end t f c.pieces.number c.pieces.first s.0 short.bytes s.2 (pieces_are_positive t c.sound.ensures) lt short.short s.3 in
     let p = err_from_is_err_and c.from_residual-in_err-write_run.result c.from_residual-in_err-write_run.ensures.1 in
@@ -66,7 +66,7 @@ returns-in_default-clause-lines g c =
     let new = g.F.Source.seen c.check_piece.new.source in
     let s = c.pieces.invariant.so_far in
     let lt : c.pieces.number < piece_count t f = omega (arith, c.pieces-test.true, c.piece_count-count.ensures) in
-    let short = subst (JudgesNext t f c.pieces.number old new) c.in_default.is c.in_ok-judged.ensures.judged in
+    let short = subst (JudgesNext t None f c.pieces.number old new) c.in_default.is c.in_ok-judged.ensures.judged in
     let all = Gave-trans start old new s.0 short.bytes s.1 short.gave in
     let so_far = bad_to_end t f c.pieces.number c.pieces.first s.0 short.bytes s.2 (pieces_are_positive t c.sound.ensures) lt short.short s.3 in
     all_written t f (Agrees start.left) _ (g.W.Sink.seen c.pieces.out) _ (s.0 ++ short.bytes) c.piece_count-count.result
@@ -82,7 +82,7 @@ returns-in_err-write_run-2-clause-lines g c =
     let new = g.F.Source.seen c.check_piece.new.source in
     let s = c.pieces.invariant.so_far in
     let lt : n < piece_count t f = omega (arith, c.pieces-test.true, c.piece_count-count.ensures) in
-    let judged = subst (JudgesNext t f n old new) c.in-Some.is c.in_ok-judged.ensures.judged in
+    let judged = subst (JudgesNext t None f n old new) c.in-Some.is c.in_ok-judged.ensures.judged in
     let all = Gave-trans start old new s.0 judged.0 s.1 judged.2 in
     let more = agrees_more _ _ (s.0 ++ judged.0) all.given in
     let good =
@@ -104,7 +104,7 @@ pieces-preserved g c =
     let new = g.F.Source.seen c.check_piece.new.source in
     let s = c.pieces.invariant.so_far in
     let lt : n < piece_count t f = omega (arith, c.pieces-test.true, c.piece_count-count.ensures) in
-    let judged = subst (JudgesNext t f n old new) c.in-Some.is c.in_ok-judged.ensures.judged in
+    let judged = subst (JudgesNext t None f n old new) c.in-Some.is c.in_ok-judged.ensures.judged in
     let all = Gave-trans start old new s.0 judged.0 s.1 judged.2 in
     let positive = pieces_are_positive t c.sound.ensures in
     elim c.if-judged.branch [

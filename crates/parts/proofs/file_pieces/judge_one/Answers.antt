@@ -1,4 +1,4 @@
-use Rattle.std.proofs.Common.{◌+◌, ◌*◌, ◌<◌, ◌≤◌, [], None, sym, subst, arith}
+use Rattle.std.proofs.Common.{◌+◌, ◌*◌, ◌<◌, ◌≤◌, [], Some, None, sym, subst, arith}
 use Rattle.opening.specs.Seen.{file_entry}
 use Rattle.folders.proofs.Places.{pieces_are_positive}
 use Rattle.parts.specs.FilePieces.{AreJudgedFrom, first_of}
@@ -14,8 +14,10 @@ returns-clause-judged g c =
     let n = c.args.number in
     let some = pieces_are_positive t c.sound.ensures in
     let below : t.piece_length * n < f.length = in_pieces t.piece_length n f.length some c.requires.inside in
-    let judged = subst (JudgesNext t f n (g.F.Source.seen c.args.source.now) (g.F.Source.seen c.check_piece.new.source)) c.in-Some.is
-    c.in_ok-judged.ensures.judged in
+    let old = g.F.Source.seen c.args.source.now in
+    let new = g.F.Source.seen c.check_piece.new.source in
+    let found = subst (JudgesNext t _ f n old new) c.in-Some.is c.in_ok-judged.ensures.judged in
+    let judged = subst (λ v1. JudgesNext t v1 f n old new (Some c.in-Some.judged)) c.v1.ensures found in
     let more = more_so_far t f n n [] judged.0 None None c.in-Some.judged some (let le : n ≤ n = omega arith in le) c.requires.inside judged.1 judged.3
     (none_so_far t f n (omega (arith, below))) in (
       judged.0,

@@ -1,9 +1,9 @@
-use Rattle.std.proofs.Common.{◌≡◌, ◌∙◌, ℕ, ◌-◌, ◌*◌, ◌<◌, min, ap, sym, subst, arith}
+use Rattle.std.proofs.Common.{◌≡◌, ◌∙◌, ◌↔◌, IsTrue, ℕ, ◌+◌, ◌-◌, ◌*◌, ◌^◌, ◌<◌, min, ap, sym, subst, arith}
 use Rattle.folders.specs.TakeAll.{IsReadWithin}
 use Rattle.opening.specs.Description.{Description, FileEntry}
 use Rattle.opening.specs.Seen.{file_entry}
 use Rattle.parts.specs.Exactly.{EndsBefore}
-use Rattle.parts.specs.OnePiece.{IsPieceRead, piece_size}
+use Rattle.parts.specs.OnePiece.{IsCutListed, IsPieceRead, piece_size}
 use Rattle.folders.proofs.Places.{pieces_are_positive}
 use Rattle.parts.proofs.GoodPieces.{piece_fits}
 use Rattle.parts.proofs.judging.check_piece.Goals as goal
@@ -82,7 +82,9 @@ overflow_add-file g c =
 pub is_cut_good-requires-clause-place : goal.is_cut_good-requires-clause-place
 is_cut_good-requires-clause-place g c =
     let file = c.requires.file in
-    (piece_fits c.args.torrent.now file.0 (file_entry c.args.file.now) c.args.number c.sound.ensures file.1 c.requires.inside).1
+    let f = file_entry c.args.file.now in
+    subst (λ p. p * (f.first_piece + c.args.number) < 2 ^ 64) (sym c.piece_length-piece_length.ensures)
+    (piece_fits c.args.torrent.now file.0 f c.args.number c.sound.ensures file.1 c.requires.inside).1
 
 pub returns-clause-judged : goal.returns-clause-judged
 returns-clause-judged g c =
@@ -90,13 +92,16 @@ returns-clause-judged g c =
     let new = g.F.Source.seen c.read_piece.new.source in
     let read = subst (IsPieceRead old new c.min-size.result c.is_some.result) c.in-Some.is c.in_ok-piece.ensures.read in
     let len = c.args.file.now.length in
+    let place = c.args.file.now.first_piece + c.args.number in
     let number = c.args.number in (
       read.bytes,
       read.count ∙ c.min-size.ensures ∙ ap (λ p. min p (len - p * number)) c.piece_length-piece_length.ensures,
       read.gave,
       record {
         good = λ bytes is. c.is_listed.ensures bytes read.bytes is read.count (c.finish-cut.ensures.root read.bytes read.given);
-        cut = λ v hybrid. c.is_cut_good.ensures read.bytes v (c.finish-cut.ensures.cut read.bytes read.given) read.count hybrid;
+        cut = λ v given.
+            subst (λ p. IsTrue c.is_cut_good.result ↔ IsCutListed p v place read.bytes) c.piece_length-piece_length.ensures
+            (c.is_cut_good.ensures read.bytes v (c.finish-cut.ensures.cut read.bytes read.given) read.count given);
       },
     )
 
