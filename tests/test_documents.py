@@ -126,3 +126,11 @@ def test_no_line_is_too_wide():
                 if len(line) > most and not is_free:
                     wide.append((path, number))
     assert not wide, wide
+
+
+def test_no_file_of_proofs_is_too_long():
+    """A file of definitions or proofs has at most 300 lines."""
+    paths = glob.glob(f"{TOP}/crates/*/specs/**/*.antt", recursive=True)
+    paths += glob.glob(f"{TOP}/crates/*/proofs/**/*.antt", recursive=True)
+    long = [path for path in paths if len(contracts.text_of(path).splitlines()) > 300]
+    assert paths and not long, long

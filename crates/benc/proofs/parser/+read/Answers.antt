@@ -21,35 +21,37 @@ use Rattle.benc.specs.declared.value.Pair.{Pair}
 use Rattle.benc.proofs.parser.+read.Goals as goal
 use Rattle.benc.proofs.parser.+read.Goals.{value-in_default-first-via-then-first-lt48, value-in_default-first-via-else-first-lt48+else-first-lt58}
 
+-- bytes whose first one is known begin with it
+at_front : {b first : ℕ} {bytes rest : List ℕ} → bytes ≡ first ∷ rest → first ≡ b → bytes ≡ b ∷ rest
+at_front {rest = rest} is same = is ∙ ap (λ x. x ∷ rest) same
+
 pub value-returns-in_default-clause-read : goal.value-returns-in_default-clause-read
 value-returns-in_default-clause-read t c = value_none c.args.room c.args.bytes.now (grind arith)
 
 pub value-returns-then-room-eq0-clause-read : goal.value-returns-then-room-eq0-clause-read
 value-returns-then-room-eq0-clause-read t c =
-    list_too_deep c.args.room c.args.bytes.now c.in-Some.rest.now (omega arith) (c.in-Some.ensures ∙ ap (λ x. x ∷ c.in-Some.rest.now) c.in-108.is)
+    list_too_deep c.args.room c.args.bytes.now c.in-Some.rest.now (omega arith) (at_front c.in-Some.ensures c.in-108.is)
 
 pub value-returns-then-room-eq0-2-clause-read : goal.value-returns-then-room-eq0-2-clause-read
 value-returns-then-room-eq0-2-clause-read t c =
-    dict_too_deep c.args.room c.args.bytes.now c.in-Some.rest.now (omega arith) (c.in-Some.ensures ∙ ap (λ x. x ∷ c.in-Some.rest.now) c.in-100.is)
+    dict_too_deep c.args.room c.args.bytes.now c.in-Some.rest.now (omega arith) (at_front c.in-Some.ensures c.in-100.is)
 
 pub value-returns-in-Ok-clause-kept : goal.value-returns-in-Ok-clause-kept
 value-returns-in-Ok-clause-kept t c kept =
     let bytes = c.args.bytes.now in
-    let first : bytes ≡ 105 ∷ c.in-Some.rest.now = c.in-Some.ensures ∙ ap (λ x. x ∷ c.in-Some.rest.now) c.in-105.is in
-    value_integer c.args.room bytes _ first ∙ ap (λ r. begun_at bytes r >>= λ x. Ok (int x.0, x.1)) c.in-Ok.ensures.read
+    value_integer c.args.room bytes _ (at_front c.in-Some.ensures c.in-105.is) ∙ ap (λ r. begun_at bytes r >>= λ x. Ok (int x.0, x.1)) c.in-Ok.ensures.read
     ∙ ap (λ v. Ok (v, c.in-Ok.after.now)) (ap int (sym (to_z-of_z w64 c.in-Ok.n c.in-Ok.ensures.fits)) ∙ sym (view-Int _))
 
 pub value-returns-in-Ok-clause-read : goal.value-returns-in-Ok-clause-read
 value-returns-in-Ok-clause-read t c =
     let bytes = c.args.bytes.now in
-    let first : bytes ≡ 105 ∷ c.in-Some.rest.now = c.in-Some.ensures ∙ ap (λ x. x ∷ c.in-Some.rest.now) c.in-105.is in
+    let first = at_front c.in-Some.ensures c.in-105.is in
     ap (λ r. r >>= λ y. Ok y.1) (value_integer c.args.room bytes _ first ∙ ap (λ r. begun_at bytes r >>= λ x. Ok (int x.0, x.1)) c.in-Ok.ensures.read)
 
 pub value-returns-in-Err-clause-read : goal.value-returns-in-Err-clause-read
 value-returns-in-Err-clause-read t c =
     let bytes = c.args.bytes.now in
-    let first : bytes ≡ 105 ∷ c.in-Some.rest.now = c.in-Some.ensures ∙ ap (λ x. x ∷ c.in-Some.rest.now) c.in-105.is in
-    value_integer c.args.room bytes _ first ∙ ap (λ r. begun_at bytes r >>= λ x. Ok (int x.0, x.1)) c.in-Err.ensures.read
+    value_integer c.args.room bytes _ (at_front c.in-Some.ensures c.in-105.is) ∙ ap (λ r. begun_at bytes r >>= λ x. Ok (int x.0, x.1)) c.in-Err.ensures.read
 
 pub value-returns-in-Ok-string-clause-kept : goal.value-returns-in-Ok-string-clause-kept
 value-returns-in-Ok-string-clause-kept t c kept =
@@ -82,13 +84,12 @@ pub value-returns-in_ok-found-in-108-clause-read : goal.value-returns-in_ok-foun
 value-returns-in_ok-found-in-108-clause-read t c =
     let bytes = c.args.bytes.now in
     let rest = c.in-Some.rest.now in
-    let first : bytes ≡ 108 ∷ rest = c.in-Some.ensures ∙ ap (λ x. x ∷ rest) c.in-108.is in
     left_mapped (items_behind (c.args.room - 1) rest) list (value_at c.args.room bytes) c.in_ok-found-in-108.after.now
-    (value_items c.args.room bytes rest (omega arith) first) c.in_ok-found-in-108.ensures.read
+    (value_items c.args.room bytes rest (omega arith) (at_front c.in-Some.ensures c.in-108.is)) c.in_ok-found-in-108.ensures.read
 
 pub value-returns-in_ok-found-in-108-clause-kept : goal.value-returns-in_ok-found-in-108-clause-kept
 value-returns-in_ok-found-in-108-clause-kept t c kept =
-    let first : c.args.bytes.now ≡ 108 ∷ c.in-Some.rest.now = c.in-Some.ensures ∙ ap (λ x. x ∷ c.in-Some.rest.now) c.in-108.is in
+    let first = at_front c.in-Some.ensures c.in-108.is in
     value_items c.args.room _ _ (omega arith) first ∙ ap (λ r. r >>= λ x. Ok (list x.0, x.1)) (c.in_ok-found-in-108.ensures.kept kept)
     ∙ ap (λ v. Ok (v, c.in_ok-found-in-108.after.now)) (sym (view-List c.in_ok-found-in-108.found))
 
@@ -96,21 +97,19 @@ pub value-returns-in_ok-found-in-108-clause-memory : goal.value-returns-in_ok-fo
 value-returns-in_ok-found-in-108-clause-memory t c =
     let bytes = c.args.bytes.now in
     let rest = c.in-Some.rest.now in
-    let first : bytes ≡ 108 ∷ rest = c.in-Some.ensures ∙ ap (λ x. x ∷ rest) c.in-108.is in
     refused_more _ _ (GrowsForItem (c.args.room - 1) bytes rest) (Reaches c.args.room bytes) c.in_ok-found-in-108.ensures.memory
-    (λ there r. list_reaches c.args.room bytes rest there (omega arith) first r)
+    (λ there r. list_reaches c.args.room bytes rest there (omega arith) (at_front c.in-Some.ensures c.in-108.is) r)
 
 pub value-returns-in_ok-found-in-100-clause-read : goal.value-returns-in_ok-found-in-100-clause-read
 value-returns-in_ok-found-in-100-clause-read t c =
     let bytes = c.args.bytes.now in
     let rest = c.in-Some.rest.now in
-    let first : bytes ≡ 100 ∷ rest = c.in-Some.ensures ∙ ap (λ x. x ∷ rest) c.in-100.is in
     left_mapped (pairs_behind (c.args.room - 1) rest) dict (value_at c.args.room bytes) c.in_ok-found-in-100.after.now
-    (value_pairs c.args.room bytes rest (omega arith) first) c.in_ok-found-in-100.ensures.read
+    (value_pairs c.args.room bytes rest (omega arith) (at_front c.in-Some.ensures c.in-100.is)) c.in_ok-found-in-100.ensures.read
 
 pub value-returns-in_ok-found-in-100-clause-kept : goal.value-returns-in_ok-found-in-100-clause-kept
 value-returns-in_ok-found-in-100-clause-kept t c kept =
-    let first : c.args.bytes.now ≡ 100 ∷ c.in-Some.rest.now = c.in-Some.ensures ∙ ap (λ x. x ∷ c.in-Some.rest.now) c.in-100.is in
+    let first = at_front c.in-Some.ensures c.in-100.is in
     value_pairs c.args.room _ _ (omega arith) first ∙ ap (λ r. r >>= λ x. Ok (dict x.0, x.1)) (c.in_ok-found-in-100.ensures.kept kept)
     ∙ ap (λ v. Ok (v, c.in_ok-found-in-100.after.now)) (sym (view-Dict c.in_ok-found-in-100.found))
 
@@ -118,19 +117,18 @@ pub value-returns-in_ok-found-in-100-clause-memory : goal.value-returns-in_ok-fo
 value-returns-in_ok-found-in-100-clause-memory t c =
     let bytes = c.args.bytes.now in
     let rest = c.in-Some.rest.now in
-    let first : bytes ≡ 100 ∷ rest = c.in-Some.ensures ∙ ap (λ x. x ∷ rest) c.in-100.is in
     refused_more _ _ (GrowsForPair (c.args.room - 1) bytes rest) (Reaches c.args.room bytes) c.in_ok-found-in-100.ensures.memory
-    (λ there r. dict_reaches c.args.room bytes rest there (omega arith) first r)
+    (λ there r. dict_reaches c.args.room bytes rest there (omega arith) (at_front c.in-Some.ensures c.in-100.is) r)
 
 pub value-returns-in_err-found-in-108-clause-read : goal.value-returns-in_err-found-in-108-clause-read
 value-returns-in_err-found-in-108-clause-read t c =
-    let first : c.args.bytes.now ≡ 108 ∷ c.in-Some.rest.now = c.in-Some.ensures ∙ ap (λ x. x ∷ c.in-Some.rest.now) c.in-108.is in
+    let first = at_front c.in-Some.ensures c.in-108.is in
     let p = err_from_is_err_and c.from_residual.result c.from_residual.ensures.1 in
     rw (p.1, p.2) (value_items c.args.room _ _ (omega arith) first ∙ ap (λ r. r >>= λ x. Ok (list x.0, x.1)) c.in_err-found-in-108.ensures.read)
 
 pub value-returns-in_err-found-in-100-clause-read : goal.value-returns-in_err-found-in-100-clause-read
 value-returns-in_err-found-in-100-clause-read t c =
-    let first : c.args.bytes.now ≡ 100 ∷ c.in-Some.rest.now = c.in-Some.ensures ∙ ap (λ x. x ∷ c.in-Some.rest.now) c.in-100.is in
+    let first = at_front c.in-Some.ensures c.in-100.is in
     let p = err_from_is_err_and c.from_residual-in_err-found-in-100.result c.from_residual-in_err-found-in-100.ensures.1 in
     rw (p.1, p.2) (value_pairs c.args.room _ _ (omega arith) first ∙ ap (λ r. r >>= λ x. Ok (dict x.0, x.1)) c.in_err-found-in-100.ensures.read)
 
