@@ -134,3 +134,13 @@ def test_no_file_of_proofs_is_too_long():
     paths += glob.glob(f"{TOP}/crates/*/proofs/**/*.antt", recursive=True)
     long = [path for path in paths if len(contracts.text_of(path).splitlines()) > 300]
     assert paths and not long, long
+
+
+def test_proofs_in_specs_are_listed():
+    """DECISIONS.md names each file of definitions that holds a proof, with its crate."""
+    section = contracts.text_of(TOP, "docs", "DECISIONS.md").split("\n## Proofs and tests\n")[1].split("\n## ")[0]
+    for crate in os.listdir(contracts.CRATES):
+        for path in glob.glob(f"{contracts.CRATES}/{crate}/specs/**/*.antt", recursive=True):
+            name = os.path.basename(path).removesuffix(".antt")
+            if re.search(r"\b(?:refl|omega|subst)\b", contracts.text_of(path)):
+                assert f"`{name}`" in section and f"`{crate}`" in section, path
