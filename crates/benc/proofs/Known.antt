@@ -1,5 +1,5 @@
 -- Known bytes over several calls.
-use Rattle.std.proofs.Common.{◌≡◌, ◌++◌, ℕ, List, [], ap, sym, ◌∙◌, Option, Some, None, subst, length, Result, Ok, Err, OnErr}
+use Rattle.std.proofs.Common.{◌≡◌, ◌++◌, ℕ, List, [], ap, sym, ◌∙◌, Option, Some, None, subst, length}
 use Rattle.std.proofs.lemmas.List.{append_assoc, append-nil}
 use Rattle.std.proofs.Math.Seq.{take-length}
 use Rattle.benc.specs.Device.{AppendsPrefix}
@@ -31,8 +31,3 @@ Consumes_all (Some a) (Some b) xs file e p q =
 -- all the bytes are a prefix of them
 pub Appends_whole : (a b c : Option (List ℕ)) (xs : List ℕ) → Appends a b xs → Keeps b c → AppendsPrefix a c xs
 Appends_whole a b c xs p q = (length xs, subst (Appends a c) (sym (take-length xs)) (Appends-keeps a b c xs p q))
-
--- a fact that holds anyway
-pub OnErr_anyway : {A E : Type 0} (P : Type 0) (r : Result A E) → P → OnErr r P
-OnErr_anyway P (Ok x) p = tt
-OnErr_anyway P (Err e) p = p

@@ -7,7 +7,7 @@ use Rattle.std.specs.List.{prefix_len}
 use Rattle.std.specs.Fmt.{decimal, signed_decimal}
 use Rattle.std.specs.Str.Parse.{digits_value, AllDigits}
 use Rattle.std.proofs.lemmas.Bool.Decides.{nat_tests}
-use Rattle.std.proofs.lemmas.Bool.{ltb-false, eqb-true}
+use Rattle.std.proofs.lemmas.Bool.{ltb-false, eqb-true, both_ways}
 use Rattle.std.proofs.lemmas.List.{take-append-drop, length-take-le}
 use Rattle.std.proofs.lemmas.Str.Parse.{IsNumeralModel, numerals_by_value, tells_digits, digits_value_short}
 use Rattle.std.proofs.lemmas.Fmt.{decimal-digits_value, decimal_digit}
@@ -50,10 +50,6 @@ run_digits (c ∷ cs) h =
 run_decimal : (run : List ℕ) → IsRun run → is_plain run ≡ true → digits_value 10 run < 2 ^ 64 → decimal (digits_value 10 run) ≡ run
 run_decimal run h plain small = let facts = plain_facts run plain in decimal-digits_value own run (run_digits run h) facts.0 facts.1 small
 
-not_both : (b : Bool) → b ≡ true → b ≡ false → ⊥
-not_both true p q = absurd cc
-not_both false p q = absurd cc
-
 abbrev done : {A E : Type 0} → E → A → Result A E
 done e x = Ok x
 
@@ -74,7 +70,7 @@ signed_text true run h plain nz inside =
     below_zero : (n : ℕ) → digits_value 10 run ≡ n → n ≤ 2 ^ 63 → FitsSigned w64 (signed true n) × (signed_decimal (signed true n) ≡ 45 ∷ run)
     below_zero zero e le =
         let zero_text : (48 ∷ []) ≡ run = sym (decimal_digit 0 (omega arith)) ∙ ap decimal (sym e) ∙ run_decimal run h plain (omega arith) in
-        absurd (not_both (eqb (get_or run 0 0) 48) (subst (λ r. (eqb (get_or r 0 0) 48) ≡ true) zero_text refl) nz)
+        absurd (both_ways (eqb (get_or run 0 0) 48) nz (subst (λ r. (eqb (get_or r 0 0) 48) ≡ true) zero_text refl))
     below_zero (suc n) e le = (record { sfits = omega arith }, ap (λ r. 45 ∷ r) (ap decimal (sym e) ∙ run_decimal run h plain (omega arith)))
 
 integer_of_takes : (minus : Bool) (run after : List ℕ) (z : ℤ) (rest : List ℕ) → IsRun run → integer_of minus run after ≡ Ok (z, rest)

@@ -3,7 +3,7 @@
 
 use command_line::{ExplainFault, action, explain};
 use performing::perform;
-use printing::Fault;
+use printing::{Fault, OUTPUT};
 use real_files::{System, print_fault};
 use std::process::ExitCode;
 use std::{env, io};
@@ -24,7 +24,7 @@ fn run<'a>(system: &System, rt: &HostRuntime, line: &'a [&'a str]) -> Result<u8,
         Err(error) => match explain(rt, &error) {
             Ok(status) => Ok(status),
             Err(ExplainFault::NoMemory) => Err(Fault::NoMemory),
-            Err(ExplainFault::Write) => Err(Fault::Write("-")),
+            Err(ExplainFault::Write) => Err(Fault::Write(OUTPUT)),
         },
     }
 }

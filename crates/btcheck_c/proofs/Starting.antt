@@ -1,5 +1,5 @@
 -- The beginning of the check of a file.
-use Rattle.std.proofs.Common.{◌≡◌, ℕ, ◌<◌, List, length, map, get_or, Option, Some, None, Result, Err, SomeIff, refl, sym, ap, ◌∙◌, subst, arith}
+use Rattle.std.proofs.Common.{◌≡◌, ℕ, ◌<◌, List, length, map, get_or, Option, Some, None, Result, Err, refl, sym, ap, subst, arith}
 use Rattle.std.specs.Prelude.{slice_get}
 use Rattle.std.proofs.lemmas.List.{length-map}
 use Rattle.std.proofs.lemmas.Option.{none-some, slice_get-get_or, slice_get_within}
@@ -7,7 +7,6 @@ use Rattle.opening.specs.Description.{Description, FileEntry}
 use Rattle.opening.specs.Seen.{tree_entry}
 use Rattle.opening.specs.Sound.{IsSound, IsSoundFile, IsSoundTree}
 use Rattle.opening.specs.declared.torrent.TreeInfo.{TreeInfo}
-use Rattle.pieces.specs.Pieces.{IsPieceLength}
 use Rattle.owned_sessions.proofs.Trees.{tree_at}
 use Rattle.btcheck_c.specs.CheckCalls.{CheckKept, CheckStarted, StartsCheck}
 use Rattle.btcheck_c.specs.declared.file_check.FileCheck.{FileCheck}
@@ -26,10 +25,6 @@ start_done n o None h' o' t lent t' made status free is is' same starts kept =
     subst (λ w. CheckStarted n w None status h' o') is
     (made, (t', is', subst (λ (s : Thing). StartsCheck n s.kind made t'.kind) same starts), kept)
 start_done n o (Some u) h' o' t lent t' made status free is is' same starts kept = absurd (none-some u (sym free))
-
--- a piece length that was made of a torrent's is it
-pub piece_length_is : (made : Option ℕ) (p n torrents : ℕ) → made ≡ Some p → SomeIff made (IsPieceLength n) n → n ≡ torrents → p ≡ torrents
-piece_length_is made p n torrents is out same = (subst (λ o. SomeIff o (IsPieceLength n) n) is out).1 ∙ same
 
 -- the tree of a file is there, and sound
 pub info_inside : (d : Description) (infos : List TreeInfo) (f : FileEntry) (n : ℕ) → map tree_entry infos ≡ d.trees → IsSoundFile d f → f.tree ≡ Some n

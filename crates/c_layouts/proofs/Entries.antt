@@ -4,9 +4,8 @@ use Rattle.std.specs.Prelude.{IfSome, slice_get, option_map}
 use Rattle.std.proofs.lemmas.List.{length-map, map-append, take_more, take_more_set}
 use Rattle.std.proofs.lemmas.Option.{get_or_from_slice_get, slice_get-get_or, slice_get-map, slice_get_within}
 use Rattle.opening.specs.Description.{Description, FileEntry, TreeEntry}
-use Rattle.opening.specs.Seen.{file_entry, tree_entry}
+use Rattle.opening.specs.Seen.{tree_entry}
 use Rattle.opening.specs.Sound.{IsSoundFile}
-use Rattle.opening.specs.declared.torrent.File.{File}
 use Rattle.opening.specs.declared.torrent.TreeInfo.{TreeInfo}
 use Rattle.partial_tree.specs.declared.refusal.BlockRefusal.{BlockRefusal}
 use Rattle.c_layouts.specs.Blocks.{entry_status}
@@ -31,13 +30,6 @@ tree_there d infos n x are low =
     ap (λ ts. slice_get ts n) (sym are) ∙ slice_get-map tree_entry infos n
     ∙ ap (option_map tree_entry) (slice_get-get_or infos n x inside) in
     (tree_entry (get_or infos n x), there, refl)
-
--- the file at an index
-pub file_at : (d : Description) (files : List File) (n : ℕ) (file : File) → map file_entry files ≡ d.files → n < length files
-    → file ≡ get_or files n file → slice_get d.files n ≡ Some (file_entry file)
-file_at d files n file are inside is =
-    ap (λ fs. slice_get fs n) (sym are) ∙ slice_get-map file_entry files n
-    ∙ ap (option_map file_entry) (slice_get-get_or files n file inside ∙ ap Some (sym is))
 
 -- the tree of a file is one of the torrent's
 pub tree_inside : (d : Description) (f : FileEntry) → IsSoundFile d f → IfSome f.tree (λ n. n < length d.trees)

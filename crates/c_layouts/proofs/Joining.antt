@@ -1,10 +1,11 @@
 -- A path's text, component by component.
 use Rattle.std.proofs.Common.{◌≡◌, ℕ, ◌+◌, ◌-◌, ◌^◌, ◌<◌, ◌≤◌, List, [], ◌∷◌, ◌++◌, Bor, drop, take, get_or, length}
-use Rattle.std.proofs.Common.{map, min, refl, sym, ap, ap₂, ◌∙◌, subst, arith, append_assoc, length-append}
+use Rattle.std.proofs.Common.{min, refl, sym, ap, ap₂, ◌∙◌, subst, arith, append_assoc, length-append}
 use Rattle.std.specs.List.{flat_map}
 use Rattle.std.proofs.lemmas.List.{append-nil, drop-drop, drop_more, length-drop}
 use Rattle.std.proofs.Math.Seq.{drop-append-add, take-append_seam}
 use Rattle.filetree.specs.FileTree.{slash}
+use Rattle.filetree.proofs.Folders.{texts}
 use Rattle.c_layouts.specs.Paths.{path_text}
 
 -- the components after the first one
@@ -15,10 +16,6 @@ tail_text parts = flat_map (λ part. slash ∷ part) parts
 pub path_text-cons : (first : List ℕ) (others : List (List ℕ)) → path_text (first ∷ others) ≡ first ++ tail_text others
 path_text-cons first [] = sym (append-nil first)
 path_text-cons first (next ∷ others) = ap (λ t. first ++ (slash ∷ t)) (path_text-cons next others)
-
--- the components of borrowed texts
-abbrev pub texts : List (Bor (List ℕ)) → List (List ℕ)
-texts parts = map (λ s. s.now) parts
 
 pub from_first : (path : List (Bor (List ℕ))) (first : Bor (List ℕ)) (others : List (Bor (List ℕ))) → path ≡ first ∷ others
     → path_text (texts path) ≡ first.now ++ tail_text (texts others)

@@ -8,7 +8,7 @@ use benc::Sink;
 use folders::{Lines, Shelf};
 use opening::Torrent;
 use parts::{BadCheckFault, BadFault, check_with_bad_pieces};
-use printing::Fault;
+use printing::{Fault, OUTPUT};
 use std::alloc::Global;
 
 /// Checks that a shelf holds the torrent's files, as `check` does, and prints behind the line of
@@ -31,7 +31,7 @@ pub fn check_bad<'a, S: Shelf, W: Sink>(
     match check_with_bad_pieces(alloc, torrent, shelf, lines, out) {
         Ok(report) => Ok(status(report.yes())),
         Err(BadCheckFault::NoMemory) => Err(Fault::NoMemory),
-        Err(BadCheckFault::Stopped(BadFault::Write)) => Err(Fault::Write("-")),
+        Err(BadCheckFault::Stopped(BadFault::Write)) => Err(Fault::Write(OUTPUT)),
         Err(BadCheckFault::Stopped(BadFault::Read | BadFault::Gone)) => Err(Fault::Read(dir)),
     }
 }

@@ -31,7 +31,7 @@ use gathering::GatherFault;
 use opening::Torrent;
 use part_reports::{JoinFault, join_reports};
 use parts::{Places, print_part};
-use printing::{Fault, refusal_line, write_line};
+use printing::{Fault, OUTPUT, refusal_line, write_line};
 use seeding::SeedFault;
 use session::{NodeMap, Paged, Session};
 use std::alloc::Global;
@@ -51,7 +51,7 @@ pub fn root<'a, R: Source, W: Sink>(
     match root_line(source, out) {
         Ok(within) => Ok(status(within)),
         Err(RootFault::Read) => Err(Fault::Read(path)),
-        Err(RootFault::Write) => Err(Fault::Write("-")),
+        Err(RootFault::Write) => Err(Fault::Write(OUTPUT)),
     }
 }
 
@@ -65,7 +65,7 @@ pub fn show<'a, W: Sink>(torrent: &Torrent<'_>, out: &mut W) -> Result<u8, Fault
 {
     match printing::show(torrent, out) {
         Ok(()) => Ok(status(true)),
-        Err(_) => Err(Fault::Write("-")),
+        Err(_) => Err(Fault::Write(OUTPUT)),
     }
 }
 
@@ -85,7 +85,7 @@ pub fn refuse<'a, W: Sink>(refusal: &Refusal, path: &[String], out: &mut W) -> R
         Refusal::NoMemory => Err(Fault::NoMemory),
         _ => match refusal_line(refusal, path, out) {
             Ok(()) => Ok(status(false)),
-            Err(_) => Err(Fault::Write("-")),
+            Err(_) => Err(Fault::Write(OUTPUT)),
         },
     }
 }
@@ -110,7 +110,7 @@ pub fn check<'a, S: Shelf, W: Sink>(
     match check_onto(alloc, torrent, shelf, lines, out) {
         Ok(report) => Ok(status(report.yes())),
         Err(CheckFault::NoMemory) => Err(Fault::NoMemory),
-        Err(CheckFault::Write) => Err(Fault::Write("-")),
+        Err(CheckFault::Write) => Err(Fault::Write(OUTPUT)),
     }
 }
 
@@ -138,7 +138,7 @@ pub fn check_part<'a, S: SeekShelf, W: Sink>(
     };
     match print_part(&report, torrent, number, part.count, out) {
         Ok(()) => Ok(status(report.yes())),
-        Err(_) => Err(Fault::Write("-")),
+        Err(_) => Err(Fault::Write(OUTPUT)),
     }
 }
 
@@ -161,7 +161,7 @@ pub fn join<'a, W: Sink>(
     };
     match print_report(&report, torrent, out) {
         Ok(()) => Ok(Ok(status(report.yes()))),
-        Err(_) => Err(Fault::Write("-")),
+        Err(_) => Err(Fault::Write(OUTPUT)),
     }
 }
 
@@ -195,7 +195,7 @@ pub fn seed<'a, N: NodeMap, S: Shelf, W: Sink>(
     match seeding::seed(alloc, session, shelf, out) {
         Ok(()) => Ok(()),
         Err(SeedFault::NoMemory) => Err(Fault::NoMemory),
-        Err(SeedFault::Write) => Err(Fault::Write("-")),
+        Err(SeedFault::Write) => Err(Fault::Write(OUTPUT)),
     }
 }
 
@@ -215,7 +215,7 @@ pub fn replay<'a, N: NodeMap, R: Source, W: Sink>(
     ensures fault { IfErr result NamesOutput }
 {
     let Ok(outcome) = replays::replay(alloc, session, source, out, None::<&mut MemSink>) else {
-        return Err(Fault::Write("-"));
+        return Err(Fault::Write(OUTPUT));
     };
     Ok(outcome.status())
 }
@@ -247,7 +247,7 @@ pub fn replay_and_answer<'a, N: NodeMap, R: Source, W: Sink, A: Sink>(
     let faults = out.failures();
     match replays::replay(alloc, session, source, out, Some(answers)) {
         Ok(outcome) => Ok(outcome.status()),
-        Err(_) if out.failures() != faults => Err(Fault::Write("-")),
+        Err(_) if out.failures() != faults => Err(Fault::Write(OUTPUT)),
         Err(_) => Err(Fault::Write(path)),
     }
 }
@@ -333,7 +333,7 @@ fn refuse_form_2<'a, W: Sink>(out: &mut W) -> Result<u8, Fault<'a>>
     ensures fault { IfErr result NamesOutput }
 {
     if write_line(out, b"refused 3 AlreadyForm2\n").is_err() {
-        return Err(Fault::Write("-"));
+        return Err(Fault::Write(OUTPUT));
     }
     Ok(status(false))
 }

@@ -43,7 +43,30 @@ pub(crate) fn try_all(rt: &HostRuntime, world: &World<'_, '_>) -> io::Result<()>
         try_shelf(rt, world, call)?;
         try_file(rt, world, call)?;
     }
-    Ok(())
+    try_listings(rt, world)
+}
+
+// A shelf that has a name that is not UTF-8, or what is no file, is not gathered from.
+fn try_listings(rt: &HostRuntime, world: &World<'_, '_>) -> io::Result<()> {
+    let files = world.files();
+    let mut odd = MemShelf::new(rt.alloc(), &files).with_odd_name();
+    judge(rt, "gather", "an odd name", 0, has_odd_name(rt, &mut odd))?;
+    let mut special = MemShelf::new(rt.alloc(), &files).with_specials(&[&["b"]]);
+    judge(rt, "gather", "a pipe", 0, has_special(rt, &mut special))
+}
+
+fn has_odd_name(rt: &HostRuntime, shelf: &mut MemShelf<'_>) -> bool {
+    let gathered = gather(rt.alloc(), shelf, "x", 16384, true);
+    matches!(gathered, Err(GatherFault::List(ShelfFault::Name))) && shelf.openings() == 0
+}
+
+fn has_special(rt: &HostRuntime, shelf: &mut MemShelf<'_>) -> bool {
+    match gather(rt.alloc(), shelf, "x", 16384, true) {
+        Err(GatherFault::List(ShelfFault::Special(path))) => {
+            path.len() == 1 && path[0].as_str() == "b" && shelf.openings() == 0
+        }
+        _ => false,
+    }
 }
 
 fn try_shelf(rt: &HostRuntime, world: &World<'_, '_>, call: Call) -> io::Result<()> {

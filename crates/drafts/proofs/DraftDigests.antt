@@ -1,20 +1,19 @@
 -- A draft has one version 1 digest for each piece of its stream.
-use Rattle.std.proofs.Common.{◌≡◌, ℕ, zero, suc, ◌+◌, ◌-◌, ◌*◌, ◌/◌, ◌<◌, Bool, true, false, ◌||◌, if◌then◌else◌, List, [], ◌∷◌, ◌++◌}
-use Rattle.std.proofs.Common.{length, map, take, Some, slice_get, inl, inr, refl, sym, ap, ◌∙◌, arith, ◌⊎◌, length-append}
-use Rattle.std.proofs.Common.{add_assoc, add-zero, zero-mul}
-use Rattle.std.proofs.Math.Nat.{mul-add-div_right}
+use Rattle.std.proofs.Common.{◌≡◌, ℕ, zero, suc, ◌+◌, ◌-◌, ◌*◌, ◌<◌, Bool, true, false, if◌then◌else◌, List, [], ◌∷◌, ◌++◌}
+use Rattle.std.proofs.Common.{length, map, take, Some, slice_get, inl, inr, refl, sym, ap, ◌∙◌, arith, length-append}
+use Rattle.std.proofs.Common.{add-zero}
 use Rattle.std.proofs.lemmas.List.{length-take}
 use Rattle.std.proofs.lemmas.List.Sums.{sum_by-cons}
 use Rattle.filetree.specs.declared.files.ListedFile.{ListedFile}
 use Rattle.opening.specs.Trees.{pieces_in}
 use Rattle.std.specs.Prelude.{nat_lt}
+use Rattle.std.proofs.lemmas.Bool.{or_parts}
 use Rattle.drafts.proofs.Building.{AreOutlineFiles}
 use Rattle.drafts.specs.Outline.{AreOfLength, IsOutlineFile, OutlineFile, listed_file}
 use Rattle.drafts.specs.Written.{digests_in, digests_of, filled_cuts, has_content}
 use Rattle.drafts.specs.Written.{stream_of}
 use Rattle.filetree.proofs.Bytes.{true_or_false}
-use Rattle.opening.proofs.Placing.{pieces_cover}
-use Rattle.pieces.proofs.Cutting.{cut_count_none}
+use Rattle.pieces.proofs.Cutting.{cut_count_none, some_pieces, more_pieces}
 use Rattle.pieces.specs.Pieces.{pieces_of}
 
 of_length_append : (width : ℕ) (xs ys : List (List ℕ)) → AreOfLength width xs → AreOfLength width ys → AreOfLength width (xs ++ ys)
@@ -46,18 +45,6 @@ digests_length p (f ∷ fs) files = of_length_append 20 (digests_in f fs) (diges
 abbrev pub HaveCuts : ℕ → List OutlineFile → Type 0
 HaveCuts p fs = (n : ℕ) (f : OutlineFile) → slice_get fs n ≡ Some f → 0 < f.length → length f.cuts ≡ pieces_of p f.length
 
-some_pieces : (p n : ℕ) → 0 < p → 0 < n → 0 < pieces_of p n
-some_pieces p n legal some =
-    let cover = pieces_cover p n legal in
-    elim (cases_zero (pieces_of p n)) [
-      | inl none ↦ let nothing : pieces_of p n * p ≡ 0 = ap (λ k. k * p) none ∙ zero-mul p in absurd (omega (arith, cover, nothing, some))
-      | inr more ↦ more
-    ]
-  where
-    cases_zero : (k : ℕ) → (k ≡ 0) ⊎ (0 < k)
-    cases_zero zero = inl refl
-    cases_zero (suc k) = inr (omega arith)
-
 digests_in_count : (p : ℕ) (f : OutlineFile) (fs : List OutlineFile) → 0 < p → (0 < f.length → length f.cuts ≡ pieces_of p f.length)
     → length (digests_in f fs) ≡ pieces_of p f.length
 digests_in_count p f fs legal cuts =
@@ -85,17 +72,10 @@ digests_in_all p (f ∷ fs) legal cuts =
 no_stream : (p : ℕ) (fs : List OutlineFile) → has_content fs ≡ false → stream_of p fs ≡ 0
 no_stream p [] none = refl
 no_stream p (f ∷ fs) none =
-    let parts = neither (nat_lt 0 f.length) (has_content fs) none in
+    let parts = or_parts (nat_lt 0 f.length) (has_content fs) none in
     let empty : f.length ≡ 0 = let e : nat_lt 0 f.length ≡ false = parts.0 in grind (arith, e) in
     let bare : has_content fs ≡ false = parts.1 in
     rw bare (ap (λ n. n + stream_of p fs) empty ∙ ap (λ n. 0 + n) (no_stream p fs bare))
-  where
-    neither : (a b : Bool) → a || b ≡ false → (a ≡ false) × (b ≡ false)
-    neither true b e = let bad : true ≡ false = e in cc
-    neither false b e = (refl, e)
-
-shifted : (p k n : ℕ) → 0 < p → pieces_of p (k * p + n) ≡ k + pieces_of p n
-shifted p k n legal = ap (λ m. m / p) (add_assoc (k * p) n (p - 1)) ∙ mul-add-div_right legal k (n + (p - 1))
 
 pub digests_count : (p : ℕ) (fs : List OutlineFile) → 0 < p → HaveCuts p fs → length (digests_of fs) ≡ pieces_of p (stream_of p fs)
 digests_count p [] legal cuts = sym (cut_count_none p legal)
@@ -108,7 +88,7 @@ digests_count p (f ∷ fs) legal cuts =
   where
     stream_step : (b : Bool) → has_content fs ≡ b → pieces_of p (stream_of p (f ∷ fs)) ≡ pieces_of p f.length + pieces_of p (stream_of p fs)
     stream_step true content = ap (λ b. pieces_of p (if b then pieces_of p f.length * p + stream_of p fs else f.length + stream_of p fs)) content
-        ∙ shifted p (pieces_of p f.length) (stream_of p fs) legal
+        ∙ more_pieces p (pieces_of p f.length) (stream_of p fs) legal
     stream_step false bare =
         let nothing : stream_of p fs ≡ 0 = no_stream p fs bare in
         ap (λ b. pieces_of p (if b then pieces_of p f.length * p + stream_of p fs else f.length + stream_of p fs)) bare

@@ -16,10 +16,10 @@ use Rattle.drafts.specs.Written.{entries_value, entry_value, gap, has_content}
 use Rattle.drafts.specs.Written.{needs_pad, pad_value, stream_of, texts_value}
 use Rattle.filetree.proofs.Bytes.{true_or_false}
 use Rattle.filetree.specs.FileTree.{length_at}
-use Rattle.opening.proofs.Placing.{pieces_cover}
 use Rattle.opening.specs.Stream.{Named, Part, as_path, files_in, is_broken, length_in, named}
 use Rattle.opening.specs.Stream.{named_part, entry_part, parts_of, some_texts, stream_length, texts_in}
 use Rattle.pieces.specs.Pieces.{IsPieceLength, pieces_of}
+use Rattle.pieces.proofs.Cutting.{pieces_cover}
 
 -- ---- the list of a draft
 

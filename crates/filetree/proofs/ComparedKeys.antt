@@ -1,5 +1,5 @@
 -- Comparing the components of paths.
-use Rattle.std.proofs.Common.{◌≡◌, ℕ, Bool, true, false, not, ◌&&◌, ◌||◌, List, [], ◌∷◌}
+use Rattle.std.proofs.Common.{◌≡◌, ℕ, Bool, true, false, ◌&&◌, ◌||◌, List, [], ◌∷◌}
 use Rattle.std.proofs.Common.{inl, inr, refl, sym, ap, ◌∙◌, arith, ◌⊎◌}
 use Rattle.std.specs.Cmp.Lexicographic.{slice_cmp}
 use Rattle.std.specs.Ordering.{nat_cmp, is_eq}
@@ -45,7 +45,3 @@ and_both false b e = cc
 pub or_one : (a b : Bool) → a || b ≡ true → (a ≡ true) ⊎ (b ≡ true)
 or_one true b e = inl refl
 or_one false b e = inr e
-
-pub not_is : (a : Bool) → not a ≡ true → a ≡ false
-not_is true e = cc
-not_is false e = refl

@@ -10,7 +10,7 @@ by_last : (c : TreeFolder) → names_to c ≡ names_of (out-TreeFolder c).above 
 by_last (TreeFolder' None' name) = search (rules, the_lemmas)
 by_last (TreeFolder' (Some' p c) name) = search (rules, the_lemmas)
 
-abbrev texts : List (Bor (List ℕ)) → List (List ℕ)
+abbrev pub texts : List (Bor (List ℕ)) → List (List ℕ)
 texts xs = map (λ s. s.now) xs
 
 -- once those above were put there is room for one more

@@ -7,6 +7,7 @@ use Rattle.std.specs.List.Sorted.{IsStrictlySortedBy}
 use Rattle.std.specs.Ordering.{nat_cmp, ordering_then}
 use Rattle.std.specs.Str.{bytes_eq}
 use Rattle.std.specs.declared.cmp.Ordering.TheVariants.{Less, Equal}
+use Rattle.std.proofs.lemmas.Bool.{not-true}
 use Rattle.benc.specs.Value.{Bencode, int, text, list, dict, Pairs, no_pairs, pair}
 use Rattle.benc.specs.Text.{Fits, PairsFit}
 use Rattle.filetree.specs.Dictionary.{under}
@@ -15,7 +16,7 @@ use Rattle.filetree.specs.Paths.{path_cmp, AreInOrder, LeadsToFile, AreAllWalks}
 use Rattle.filetree.specs.Dictionary.{keys_in}
 use Rattle.filetree.proofs.Ascending.{AllAbove, above_all}
 use Rattle.filetree.proofs.Bytes.{equal_bytes, same_bytes, true_or_false}
-use Rattle.filetree.proofs.ComparedKeys.{cmp_same, nil_is, above_some, and_both, or_one, not_is}
+use Rattle.filetree.proofs.ComparedKeys.{cmp_same, nil_is, above_some, and_both, or_one}
 
 abbrev pub paths_of : List Walk → List (List (List ℕ))
 paths_of ws = map (λ (w : Walk). w.path) ws
@@ -88,7 +89,7 @@ mutual
   pairs_order room before (pair k v ps) fits d =
       let parts : (not (is_nil k) && is_node v ≡ true) × (is_directory ps ≡ true) = and_both (not (is_nil k) && is_node v) (is_directory ps) d in
       let inner : (not (is_nil k) ≡ true) × (is_node v ≡ true) = and_both (not (is_nil k)) (is_node v) parts.0 in
-      let some : is_nil k ≡ false = not_is (is_nil k) inner.0 in
+      let some : is_nil k ≡ false = not-true (is_nil k) inner.0 in
       rw some (order_append (map (below k) (walks_in v)) (walks ps) (order_below k (walks_in v) (value_order room v fits.2 inner.1))
       (pairs_order room (Some k) ps fits.3 parts.1)
       (cross k (walks_in v) (walks ps) (heads k ps (above_all room k ps fits.3))))

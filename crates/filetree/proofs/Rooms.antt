@@ -1,14 +1,16 @@
 -- The nodes of a folder, and how deep the values in it may be.
-use Rattle.std.proofs.Common.{◌≡◌, ℕ, ◌+◌, ◌-◌, ◌<◌, Bool, true, false, not, ◌&&◌, ◌||◌, List, [], ◌∷◌, ◌++◌}
+use Rattle.std.proofs.Common.{◌≡◌, ℕ, ◌+◌, ◌-◌, ◌<◌, true, false, not, ◌&&◌, List, [], ◌∷◌, ◌++◌}
 use Rattle.std.proofs.Common.{length, drop, get_or, Option, None, arith, sym, ap, subst, inl, inr}
 use Rattle.std.proofs.lemmas.List.{length-append}
+use Rattle.std.proofs.lemmas.Bool.{not-true}
+use Rattle.chains.proofs.Cases.{or_right}
 use Rattle.benc.specs.Text.{Fits, PairsFit}
 use Rattle.benc.specs.Value.{Bencode, Pairs, dict, pair}
 use Rattle.benc.specs.View.{pair_view, pairs_view}
 use Rattle.benc.specs.declared.value.Pair.{Pair}
 use Rattle.filetree.specs.FileTree.{HasBadPathIn, is_directory, is_file, is_nil, is_node}
 use Rattle.filetree.specs.Walked.{HasGoodPaths, IsFolderAt, IsNodeBelow}
-use Rattle.filetree.proofs.ComparedKeys.{and_both, not_is}
+use Rattle.filetree.proofs.ComparedKeys.{and_both}
 use Rattle.filetree.proofs.Views.{pairs_next}
 
 -- the pairs of a folder from some pair on
@@ -40,7 +42,7 @@ node_at path xs i x lt is h =
       room = next.room;
       deep = next.deep;
       fits = next.fits.2;
-      named = not_is (is_nil (pair_view x).0) here.0;
+      named = not-true (is_nil (pair_view x).0) here.0;
       shape = here.1;
       good =
           record { good = λ bad. next.good.good (inl bad) };
@@ -60,10 +62,6 @@ folder_at path longer k v ps e is other h = record {
   room = h.room;
   deep = omega (arith, h.deep, ap length e, length-append path (k ∷ []));
   fits = subst (Fits h.room) is h.fits;
-  shape = second (is_file ps) (is_directory ps) other (subst (λ w. is_node w ≡ true) is h.shape);
+  shape = or_right (is_file ps) (is_directory ps) other (subst (λ w. is_node w ≡ true) is h.shape);
   good = record { good = λ bad. h.good.good (h.named, inr (subst HasBadPathIn (sym is) bad)) };
 }
-  where
-    second : (a b : Bool) → a ≡ false → (a || b) ≡ true → b ≡ true
-    second true b f either = cc
-    second false b f either = either

@@ -1,6 +1,7 @@
 -- The walks of a file tree are paths that stay inside a folder.
 use Rattle.std.proofs.Common.{◌≡◌, ◌≢◌, ℕ, zero, suc, ◌+◌, ◌-◌, ◌<◌, ◌≤◌, true, false, not, ◌&&◌, List, [], ◌∷◌, ◌++◌, length, map, Option, Some, None}
 use Rattle.std.proofs.Common.{slice_get, inl, inr, sym, ap, subst, ◌∙◌, arith}
+use Rattle.std.proofs.lemmas.Bool.{not-true}
 use Rattle.benc.specs.Text.{Fits, PairsFit}
 use Rattle.benc.specs.Value.{Bencode, int, text, list, dict, Pairs, no_pairs, pair}
 use Rattle.filetree.specs.FileTree.{HasBadPath, HasBadPathIn, Walk, below, is_dict, is_directory, is_file, is_nil, is_node, walks, walks_in}
@@ -8,7 +9,7 @@ use Rattle.filetree.specs.Paths.{IsComponent, IsFilePath, LeadsToFile}
 use Rattle.filetree.proofs.Ascending.{under_fits}
 use Rattle.filetree.proofs.Bytes.{true_or_false}
 use Rattle.filetree.proofs.Paths.{Has, each_leads, has_at, has_below, has_split}
-use Rattle.filetree.proofs.ComparedKeys.{and_both, not_is, or_one}
+use Rattle.filetree.proofs.ComparedKeys.{and_both, or_one}
 
 -- ---- how long a path is
 
@@ -46,7 +47,7 @@ mutual
   directory_walk (pair k v ps) w d h =
       let parts : (not (is_nil k) && is_node v ≡ true) × (is_directory ps ≡ true) = and_both (not (is_nil k) && is_node v) (is_directory ps) d in
       let inner : (not (is_nil k) ≡ true) × (is_node v ≡ true) = and_both (not (is_nil k)) (is_node v) parts.0 in
-      let some : is_nil k ≡ false = not_is (is_nil k) inner.0 in
+      let some : is_nil k ≡ false = not-true (is_nil k) inner.0 in
       let here : Has (map (below k) (walks_in v) ++ walks ps) w = rw some at h in
       elim (has_split (map (below k) (walks_in v)) (walks ps) w here) [
         | inl front ↦

@@ -1,12 +1,12 @@
 -- The test of the shape in the words of the standard.
-use Rattle.std.proofs.Common.{◌≡◌, ◌⊎◌, ℕ, Bool, true, false, not, ◌&&◌, List, [], ◌∷◌, length, inl, inr, refl, sym, subst, ◌∙◌, arith}
-use Rattle.std.proofs.lemmas.Bool.{or_parts}
+use Rattle.std.proofs.Common.{◌≡◌, ◌⊎◌, ℕ, true, false, not, ◌&&◌, List, [], ◌∷◌, length, inl, inr, refl, sym, subst, arith}
+use Rattle.std.proofs.lemmas.Bool.{or_parts, not-true, both_ways}
 use Rattle.benc.specs.Value.{Bencode, int, text, list, dict, Pairs, no_pairs, pair}
 use Rattle.filetree.specs.Dictionary.{keys_in}
 use Rattle.filetree.specs.FileTree.{is_dict, is_directory, is_file, is_nil, is_node}
 use Rattle.filetree.specs.Shape.{HasFault, HasFile, HasOddComponent, HasOddFile, HoldsPair, HasSibling, IsMisshapen, LeadsToDirectory}
 use Rattle.filetree.proofs.Bytes.{true_or_false}
-use Rattle.filetree.proofs.ComparedKeys.{and_both, not_is, or_one}
+use Rattle.filetree.proofs.ComparedKeys.{and_both, or_one}
 
 abbrev Within : Pairs → Pairs → Type 0
 Within ps all = (k : List ℕ) (v : Bencode) → HoldsPair ps k v → HoldsPair all k v
@@ -75,7 +75,7 @@ has_node (pair l w ps) k v d h =
     let parts : (not (is_nil l) && is_node w ≡ true) × (is_directory ps ≡ true) = and_both (not (is_nil l) && is_node w) (is_directory ps) d in
     let inner : (not (is_nil l) ≡ true) × (is_node w ≡ true) = and_both (not (is_nil l)) (is_node w) parts.0 in
     elim h [
-      | inl here ↦ (subst (λ x. is_nil x ≡ false) here.0 (not_is (is_nil l) inner.0), subst (λ x. is_node x ≡ true) here.1 inner.1)
+      | inl here ↦ (subst (λ x. is_nil x ≡ false) here.0 (not-true (is_nil l) inner.0), subst (λ x. is_node x ≡ true) here.1 inner.1)
       | inr later ↦ has_node ps k v parts.1 later
     ]
 
@@ -85,11 +85,8 @@ node_dict (text s) node = cc
 node_dict (list vs) node = cc
 node_dict (dict ps) node = refl
 
-both_ways : (b : Bool) → b ≡ true → b ≡ false → ⊥
-both_ways b holds fails = let never : true ≡ false = sym holds ∙ fails in let bad : ⊥ = cc in bad
-
 no_file : (ps : Pairs) (file : Bencode) → is_directory ps ≡ true → HasFile ps file → ⊥
-no_file ps file d has = both_ways (is_nil has.key) has.zero_length (has_node ps has.key file d has.there).0
+no_file ps file d has = both_ways (is_nil has.key) (has_node ps has.key file d has.there).0 has.zero_length
 
 -- a file's node has one pair, of the zero-length key and a dictionary
 file_pair : (ps : Pairs) (k : List ℕ) (v : Bencode) → is_file ps ≡ true → HoldsPair ps k v → (is_nil k ≡ true) × (is_dict v ≡ true) × (length (keys_in ps) ≡ 1)
@@ -103,14 +100,14 @@ file_pair (pair l w no_pairs) k v is h =
 file_pair (pair l w (pair m x ps)) k v is h = cc
 
 no_fault_here : (ps : Pairs) → is_directory ps ≡ true → HasOddComponent ps ⊎ HasSibling ps ⊎ HasOddFile ps → ⊥
-no_fault_here ps d (inl one) = both_ways (is_dict one.value) (node_dict one.value (has_node ps one.component one.value d one.there).1) one.odd
+no_fault_here ps d (inl one) = both_ways (is_dict one.value) one.odd (node_dict one.value (has_node ps one.component one.value d one.there).1)
 no_fault_here ps d (inr (inl two)) = no_file ps two.file d two.has
 no_fault_here ps d (inr (inr three)) = no_file ps three.file d three.has
 
 no_fault_file : (ps : Pairs) → is_file ps ≡ true → HasOddComponent ps ⊎ HasSibling ps ⊎ HasOddFile ps → ⊥
-no_fault_file ps is (inl one) = both_ways (is_nil one.component) (file_pair ps one.component one.value is one.there).0 one.some
+no_fault_file ps is (inl one) = both_ways (is_nil one.component) one.some (file_pair ps one.component one.value is one.there).0
 no_fault_file ps is (inr (inl two)) = let one = (file_pair ps two.has.key two.file is two.has.there).2 in let bad : ⊥ = omega (arith, one, two.several) in bad
-no_fault_file ps is (inr (inr three)) = both_ways (is_dict three.file) (file_pair ps three.has.key three.file is three.has.there).1 three.odd
+no_fault_file ps is (inr (inr three)) = both_ways (is_dict three.file) three.odd (file_pair ps three.has.key three.file is three.has.there).1
 
 no_fault : (path : List (List ℕ)) (ps dir : Pairs) → is_directory ps ≡ true → LeadsToDirectory ps path dir → HasOddComponent dir ⊎ HasSibling dir
     ⊎ HasOddFile dir → ⊥
@@ -124,7 +121,7 @@ no_fault (k ∷ ks) ps dir d reached fault =
     behind_file : (ks : List (List ℕ)) (ps dir : Pairs) → is_file ps ≡ true → LeadsToDirectory ps ks dir → HasOddComponent dir ⊎ HasSibling dir ⊎ HasOddFile dir
         → ⊥
     behind_file [] ps dir is reached fault = no_fault_file dir (subst (λ x. is_file x ≡ true) reached is) fault
-    behind_file (k ∷ ks) ps dir is reached fault = both_ways (is_nil k) (file_pair ps k (dict reached.0) is reached.2).0 reached.1
+    behind_file (k ∷ ks) ps dir is reached fault = both_ways (is_nil k) reached.1 (file_pair ps k (dict reached.0) is reached.2).0
 
 pub shape_is_standard : (ps : Pairs) → (is_directory ps ≡ false → IsMisshapen ps) × (IsMisshapen ps → is_directory ps ≡ false)
 shape_is_standard ps = (

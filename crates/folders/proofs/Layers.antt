@@ -1,14 +1,12 @@
 -- The piece layer of a tree: how many hashes it has.
-use Rattle.std.proofs.Common.{◌≡◌, inl, inr, ℕ, zero, suc, ◌+◌, ◌-◌, ◌*◌, ◌/◌, ◌^◌, ◌<◌, ◌≤◌, List, [], length, get_or, Option, Some, IfSome, ap, sym, ◌∙◌}
+use Rattle.std.proofs.Common.{◌≡◌, ℕ, ◌+◌, ◌-◌, ◌*◌, ◌/◌, ◌^◌, ◌<◌, ◌≤◌, List, [], length, get_or, Option, Some, IfSome, ap, sym, ◌∙◌}
 use Rattle.std.proofs.Common.{subst, arith}
 use Rattle.std.proofs.Math.Nat.{div-eq_of_lt-le, lt-div-mul-add, div-mul-le_self}
 use Rattle.std.proofs.lemmas.Nat.{pow_pos}
 use Rattle.std.proofs.Common.{pow-add}
 use Rattle.std.proofs.lemmas.List.FromFn.{length-map-range_with_len, get_or-map-range_with_len}
 use Rattle.hashtree.specs.Tree.{block_count, first_pad, height, layer_count, layer_of, node}
-use Rattle.hashtree.proofs.Heights.{height_enough, height_is, height_least}
-use Rattle.hashtree.proofs.Pairs.{two-pow}
-use Rattle.chains.proofs.Cases.{last_or_before}
+use Rattle.hashtree.proofs.Heights.{height_enough, height_least, height_pow}
 
 -- ---- the hashes of a layer
 
@@ -29,23 +27,13 @@ first_pad_at_root n some =
 pub one_at_root : (len : ℕ) → 0 < len → first_pad (block_count len) (height (block_count len)) ≡ 1
 one_at_root len some = first_pad_at_root (block_count len) (let p : 0 < block_count len = omega arith in p)
 
-pow_less : (k m : ℕ) → k < m → 2 ^ k < 2 ^ m
-pow_less k zero lt = absurd (omega arith)
-pow_less k (suc m) lt = elim (last_or_before k m (omega (arith, lt))) [
-  | inl before ↦ omega (arith, pow_less k m before, two-pow m)
-  | inr last ↦ omega (arith, ap (λ e. 2 ^ e) last, two-pow m, pow_pos m)
-]
-
-height_of_power : (m : ℕ) → height (2 ^ m) ≡ m
-height_of_power m = sym (height_is (2 ^ m) m (let r : 2 ^ m ≤ 2 ^ m = omega arith in r) (λ k lt. pow_less k m lt))
-
 -- a piece is a power of two of blocks
 pub piece_is_blocks : (m k piece_length : ℕ) → k ≡ m + 14 → piece_length ≡ 2 ^ k → (piece_length ≡ 16384 * 2 ^ m) × (height (block_count piece_length) ≡ m)
 piece_is_blocks m k piece_length at is =
     let a : piece_length ≡ 2 ^ m * 2 ^ 14 = is ∙ ap (λ e. 2 ^ e) at ∙ pow-add 2 m 14 in
     let b : piece_length ≡ 16384 * 2 ^ m = omega (arith, a) in
     let c : block_count piece_length ≡ 2 ^ m = omega (arith, b) in
-    (b, ap height c ∙ height_of_power m)
+    (b, ap height c ∙ height_pow m)
 
 -- rounding up twice is rounding up once
 pub round_up_twice : (len q : ℕ) → 0 < q → (len + (16384 * q - 1)) / (16384 * q) ≡ (block_count len + (q - 1)) / q

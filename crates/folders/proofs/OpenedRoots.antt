@@ -1,5 +1,5 @@
 -- The root, the first bad piece and the version 1 stream of an opened file.
-use Rattle.std.proofs.Common.{◌≡◌, ◌⊎◌, inl, inr, ℕ, ◌+◌, ◌-◌, ◌*◌, ◌/◌, ◌^◌, ◌<◌, ◌≤◌, leb, if◌then◌else◌, List, [], ◌∷◌, ◌++◌, length}
+use Rattle.std.proofs.Common.{◌≡◌, inl, inr, ℕ, ◌+◌, ◌-◌, ◌*◌, ◌/◌, ◌^◌, ◌<◌, ◌≤◌, leb, if◌then◌else◌, List, [], ◌∷◌, ◌++◌, length}
 use Rattle.std.proofs.Common.{replicate, get_or, Option, Some, None, refl, ap, sym, ◌∙◌, subst, arith}
 use Rattle.std.proofs.Math.Nat.{div-mul-le_self, mul-le-mul_left}
 use Rattle.std.proofs.lemmas.Bool.Decides.{nat_tests}
@@ -7,6 +7,7 @@ use Rattle.std.proofs.lemmas.Nat.{pow_pos}
 use Rattle.std.proofs.lemmas.List.{length-replicate}
 use Rattle.std.proofs.lemmas.List.FromFn.{length-map-range_with_len}
 use Rattle.std.proofs.lemmas.Option.{slice_get-get_or, get_or_from_slice_get}
+use Rattle.std.proofs.lemmas.Bool.{cases_lt}
 use Rattle.hashtree.specs.Tree.{block_count, first_pad, height, layer_count, layer_of, node, root_of, root_over}
 use Rattle.hashtree.specs.Difference.{IsComparison}
 use Rattle.hashtree.proofs.Nodes.{top_is_root}
@@ -24,15 +25,12 @@ use Rattle.hashtree.proofs.Comparing.{length-layer_of}
 use Rattle.hashtree.proofs.Leading.{layers_lead_to_root}
 use Rattle.folders.specs.ConsumerLaws.{takes_append}
 
-short_or_long : (a b : ℕ) → (a ≤ b) ⊎ (b < a)
-short_or_long a b = grind arith
-
 -- the nodes of the compared layer are the given hashes: the root is the tree's
 pub same_root : (piece_length : ℕ) (e : TreeEntry) (layer : ℕ) (hashes : List (List ℕ)) (bytes : List ℕ) → IsComparedLayer piece_length e layer hashes
     → IsSoundTree piece_length e
     → length bytes ≡ e.length → layer_of bytes layer ≡ hashes → root_of bytes ≡ e.root
-same_root piece_length e layer hashes bytes of sound len same = elim (short_or_long e.length piece_length) [
-  | inl short ↦
+same_root piece_length e layer hashes bytes of sound len same = elim (cases_lt piece_length e.length) [
+  | inr short ↦
       let at = of.at_root short in
       let h : ℕ = height (block_count (length bytes)) in
       let top : layer ≡ h = at.0 ∙ ap (λ n. height (block_count n)) (sym len) in
@@ -42,7 +40,7 @@ same_root piece_length e layer hashes bytes of sound len same = elim (short_or_l
       ∙ sym (layer_of_at bytes h 0 (omega arith))
       ∙ ap (λ l. get_or (layer_of bytes l) 0 []) (sym top)
       ∙ ap (λ xs. get_or xs 0 []) (same ∙ at.1)
-  | inr long ↦
+  | inl long ↦
       let at = of.at_pieces long in
       let low : layer ≤ height (block_count (length bytes)) =
       omega (arith, at.0, layer_is_low piece_length e.length (omega arith), ap (λ n. height (block_count n)) len) in
@@ -104,9 +102,9 @@ few_nodes bytes layer =
     at_most l h a n le = grind (arith, nat_tests)
 
     rounded : (n d : ℕ) → 0 < d → (n + (d - 1)) / d ≤ n
-    rounded n d some = elim (short_or_long ((n + (d - 1)) / d) n) [
-      | inl le ↦ le
-      | inr gt ↦
+    rounded n d some = elim (cases_lt n ((n + (d - 1)) / d)) [
+      | inr le ↦ le
+      | inl gt ↦
           let low : (n + (d - 1)) / d * d ≤ n + (d - 1) = div-mul-le_self (n + (d - 1)) d in
           let big : d * (n + 1) ≤ d * ((n + (d - 1)) / d) = mul-le-mul_left d (let g : n + 1 ≤ (n + (d - 1)) / d = omega arith in g) in
           let over : n * 1 ≤ n * d = mul-le-mul_left n (let o : 1 ≤ d = omega arith in o) in

@@ -5,6 +5,7 @@ use Rattle.std.specs.List.{list_all}
 use Rattle.std.proofs.lemmas.List.{length-append, length-replicate, length_push, get_or_push, get_or_append_left}
 use Rattle.std.proofs.lemmas.List.Folds.{list_all-append}
 use Rattle.std.proofs.lemmas.Option.{none-some, same_Some, slice_get_within, slice_get-get_or, get_or_from_slice_get}
+use Rattle.std.proofs.lemmas.Bool.{cases_Bool}
 use Rattle.opening.specs.Description.{Description, FileEntry, Version1}
 use Rattle.opening.specs.Sound.{IsSound}
 use Rattle.folders.specs.declared.report.FileVerdict.{FileVerdict}
@@ -143,14 +144,10 @@ passed_broken t n files v old new broken stopped passed = record {
 pub passed_one : (t : Description) (n : ℕ) (files : List FileVerdict) (v : FileVerdict) (f : FileEntry) (shown : Option (Option (List ℕ)))
     (old new : Option V1Feed)
     → IsSound t → slice_get t.files n ≡ Some f → FindsVerdict t f shown old new v → IsPassed t n files old → IsPassed t (n + 1) (files ++ v ∷ []) new
-passed_one t n files v f shown old new sound is found passed = elim (true_or_false (is_whole v)) [
+passed_one t n files v f shown old new sound is found passed = elim (cases_Bool (is_whole v)) [
   | inl whole ↦ let part = found.taken whole in passed_whole t n files v f part.0 old new sound is whole part.2 passed
   | inr broken ↦ passed_broken t n files v old new broken (found.stopped broken) passed
 ]
-  where
-    true_or_false : (b : Bool) → (b ≡ true) ⊎ (b ≡ false)
-    true_or_false true = inl refl
-    true_or_false false = inr refl
 
 -- ---- what is found
 
@@ -195,7 +192,7 @@ pub one_found : (t : Description) (contents : Contents) (n : ℕ) (files : List 
     → IsPassed t n files old → AreFound t contents n files old → AreFound t contents (n + 1) (files ++ v ∷ []) new
 one_found t contents n files v f shelf old new sound is found here passed shown = record {
   each = each_push t contents n files v f passed.count is (subst (λ c. IsVerdict t f c v) (sym here) found.verdict) shown.each;
-  stream = λ w hybrid on. elim (true_or_false (is_whole v)) [
+  stream = λ w hybrid on. elim (cases_Bool (is_whole v)) [
     | inr broken ↦ let no : ⊥ = gone new (found.stopped broken) on in absurd no
     | inl whole ↦
         let part = found.taken whole in
@@ -215,10 +212,6 @@ one_found t contents n files v f shelf old new sound is found here passed shown 
   ];
 }
   where
-    true_or_false : (b : Bool) → (b ≡ true) ⊎ (b ≡ false)
-    true_or_false true = inl refl
-    true_or_false false = inr refl
-
     gone : (o : Option V1Feed) → o ≡ None → is_some o ≡ true → ⊥
     gone None e h = cc
     gone (Some r) e h = cc

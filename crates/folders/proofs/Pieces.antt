@@ -13,6 +13,7 @@ use Rattle.hashtree.proofs.Comparing.{difference_within}
 use Rattle.benc.specs.Device.{SourceSeen}
 use Rattle.wire.specs.Reading.{Gave}
 use Rattle.std.specs.Io.KnownBytes.{Consumes}
+use Rattle.std.proofs.lemmas.Bool.{not-false}
 use Rattle.folders.specs.declared.file_check.FileCheck.{FileCheck}
 use Rattle.folders.specs.Feeding.{FeedsBoth}
 use Rattle.folders.specs.TakeAll.{ReadAll, TookAll}
@@ -53,11 +54,7 @@ other_count (Some k) n b differs shown is =
 
 pub same_count : (r : Option ℕ) (n : ℕ) (b : Bool) → b ≡ false → b ≡ not (option_eq eqb r (Some n)) → r ≡ Some n
 same_count None n b equal shown = let never : ⊥ = cc in absurd never
-same_count (Some k) n b equal shown = ap Some (eqb-true k n (by_test (eqb k n) (sym shown ∙ equal)))
-  where
-    by_test : (c : Bool) → not c ≡ false → c ≡ true
-    by_test true e = refl
-    by_test false e = sym e
+same_count (Some k) n b equal shown = ap Some (eqb-true k n (not-false (eqb k n) (sym shown ∙ equal)))
 
 -- it has another length than the one that is stated
 pub wrong_length : {T : Type 0} (t : Description) (f : FileEntry) (took : T → List ℕ → T → Type 0) (source source' : SourceSeen)

@@ -1,17 +1,17 @@
 -- Where the files of a torrent stand in the version 1 stream.
-use Rattle.std.proofs.Common.{◌≡◌, ℕ, ◌+◌, ◌-◌, ◌*◌, ◌<◌, ◌≤◌, List, length, take, map, get_or, slice_get, sum_by, option_and_then, option_map, Some, refl, ap}
+use Rattle.std.proofs.Common.{◌≡◌, ℕ, ◌+◌, ◌*◌, ◌<◌, ◌≤◌, List, length, take, map, get_or, slice_get, sum_by, option_and_then, option_map, Some, ap}
 use Rattle.std.proofs.Common.{sym, subst, ◌^◌, ◌∙◌, arith}
-use Rattle.std.proofs.Math.Nat.{lt-div-mul-add, mul-le-mul, pow-le-pow_right}
+use Rattle.std.proofs.Math.Nat.{mul-le-mul, pow-le-pow_right}
 use Rattle.std.proofs.lemmas.Nat.{pow_pos}
 use Rattle.std.proofs.lemmas.List.{length-map}
 use Rattle.std.proofs.lemmas.List.Sums.{sum_by_more, sum_by-take-le}
-use Rattle.std.proofs.lemmas.Option.{slice_get_within, get_or_from_slice_get, slice_get-get_or, slice_get-map, slice_get_read}
-use Rattle.opening.specs.declared.torrent.File.{File}
-use Rattle.opening.specs.Seen.{file_entry, tree_entry}
+use Rattle.std.proofs.lemmas.Option.{slice_get_within, get_or_from_slice_get, slice_get-get_or, slice_get-map}
+use Rattle.opening.specs.Seen.{tree_entry}
 use Rattle.opening.specs.declared.torrent.TreeInfo.{TreeInfo}
 use Rattle.opening.specs.Description.{Description, FileEntry}
 use Rattle.opening.specs.Sound.{IsSound, IsSoundFile}
 use Rattle.pieces.specs.Pieces.{pieces_of}
+use Rattle.pieces.proofs.Cutting.{pieces_cover}
 use Rattle.folders.specs.Folder.{start_of, tree_entry_of}
 
 -- how many pieces the first n files have
@@ -31,29 +31,16 @@ pieces_next t n f is =
     sum_by_more (λ g. pieces_of t.piece_length g.length) t.files n f (slice_get_within t.files n f is)
     ∙ ap (λ g. pieces_before t n + pieces_of t.piece_length g.length) (get_or_from_slice_get t.files n f f is)
 
--- a length is no more than its pieces
-pub within_pieces : (piece_length len : ℕ) → 0 < piece_length → len ≤ pieces_of piece_length len * piece_length
-within_pieces piece_length len some =
-    let lt : len + (piece_length - 1) < pieces_of piece_length len * piece_length + piece_length = lt-div-mul-add {a = len + (piece_length - 1)}
-    {b = piece_length} some in
-    omega (arith, lt)
-
 -- a file ends before the next begins
 pub ends_before_next : (t : Description) (n : ℕ) (f : FileEntry) → IsSound t → 0 < t.piece_length → slice_get t.files n ≡ Some f
     → start_of t f + f.length ≤ place_before t (n + 1)
 ends_before_next t n f sound some is =
     let next : place_before t (n + 1) ≡ (pieces_before t n + pieces_of t.piece_length f.length) * t.piece_length =
     ap (λ k. k * t.piece_length) (pieces_next t n f is) in
-    omega (arith, next, start_is t n f sound is, within_pieces t.piece_length f.length some)
+    omega (arith, next, start_is t n f sound is, pieces_cover t.piece_length f.length some)
 
 pub pieces_are_positive : (t : Description) → IsSound t → 0 < t.piece_length
 pieces_are_positive t sound = subst (λ n. 0 < n) (sym sound.legal.3) (pow_pos sound.legal.0)
-
--- the file at this place of the torrent's list
-pub file_there : (t : Description) (files : List File) (i : ℕ) (file : File) → map file_entry files ≡ t.files → i < length files → file ≡ get_or files i file
-    → slice_get t.files i ≡ Some (file_entry file)
-file_there t files i file is lt at =
-    ap (λ l. slice_get l i) (sym is) ∙ slice_get-map file_entry files i ∙ ap (option_map file_entry) (slice_get_read files (length files) i file refl lt at)
 
 -- where a file starts fits 64 bits
 pub start_fits : (t : Description) (n : ℕ) (f : FileEntry) → IsSound t → slice_get t.files n ≡ Some f

@@ -1,9 +1,10 @@
 -- The version 1 stream as far as its first files reach.
-use Rattle.std.proofs.Common.{◌≡◌, ◌⊎◌, inl, inr, ℕ, ◌+◌, ◌-◌, ◌<◌, ◌≤◌, List, [], ◌++◌, length, take, drop, replicate, get_or, slice_get, Some, refl, ap, sym}
+use Rattle.std.proofs.Common.{◌≡◌, inl, inr, ℕ, ◌+◌, ◌-◌, ◌<◌, ◌≤◌, List, [], ◌++◌, length, take, drop, replicate, get_or, slice_get, Some, refl, ap, sym}
 use Rattle.std.proofs.Common.{◌∙◌, arith}
 use Rattle.std.proofs.lemmas.List.{length-append, length-take, length-drop, length-replicate, take-append-le, drop-append-le, drop_at, take_all}
 use Rattle.std.proofs.lemmas.List.{get_or_append_left, get_or-append_right, get_or-replicate}
 use Rattle.std.proofs.lemmas.Option.{same_Some, slice_get_within}
+use Rattle.std.proofs.lemmas.Bool.{cases_lt}
 use Rattle.opening.specs.Description.{Description, FileEntry}
 use Rattle.folders.specs.Folder.{Contents, Covers, IsStream, start_of}
 use Rattle.chains.proofs.Cases.{last_or_before}
@@ -20,9 +21,6 @@ prefix_none t contents = record {
   zeros = λ i lt. absurd (omega arith);
 }
 
-before_or_after : (i n : ℕ) → (i < n) ⊎ (n ≤ i)
-before_or_after i n = grind arith
-
 -- a file that is there stays there, whatever follows
 file_stays : (front more bytes : List ℕ) (start : ℕ) → 0 < length bytes → take (length bytes) (drop start front) ≡ bytes
     → take (length bytes) (drop start (front ++ more)) ≡ bytes
@@ -38,7 +36,7 @@ pub prefix_zeros : (t : Description) (contents : Contents) (n : ℕ) (front : Li
     → IsStreamPrefix t contents n (front ++ replicate m 0)
 prefix_zeros t contents n front m so_far = record {
   file_at = λ k lt f bytes there content some. file_stays front (replicate m 0) bytes (start_of t f) some (so_far.file_at k lt f bytes there content some);
-  zeros = λ i lt uncovered. elim (before_or_after i (length front)) [
+  zeros = λ i lt uncovered. elim (cases_lt i (length front)) [
     | inl before ↦ get_or_append_left front (replicate m 0) 0 i before ∙ so_far.zeros i before uncovered
     | inr after ↦ get_or-append_right front (replicate m 0) (length front) i 0 refl after
         ∙ get_or-replicate m (i - length front) 0 0 (omega (arith, length-append front (replicate m 0), length-replicate {A = ℕ} m 0))
@@ -61,7 +59,7 @@ prefix_file t contents n front f bytes so_far is content at = record {
         ∙ take_all (length bytes) bytes (omega arith)
         ∙ same_bytes
   ];
-  zeros = λ i lt uncovered. elim (before_or_after i (length front)) [
+  zeros = λ i lt uncovered. elim (cases_lt i (length front)) [
     | inl before ↦ get_or_append_left front bytes 0 i before ∙ so_far.zeros i before uncovered
     | inr after ↦ absurd (uncovered (record {
       number = n;

@@ -4,6 +4,7 @@ use Rattle.std.proofs.Common.{Option, Some, None, option_and_then, refl, ap, sym
 use Rattle.std.specs.List.{list_all}
 use Rattle.std.proofs.lemmas.List.Sums.{sum_by-cons}
 use Rattle.std.proofs.lemmas.Option.{same_Some, slice_get_within, none-some}
+use Rattle.std.proofs.lemmas.Bool.{and_parts}
 use Rattle.opening.specs.Description.{Description, FileEntry, TreeEntry, Version1}
 use Rattle.opening.specs.Sound.{IsSound, IsSoundTree}
 use Rattle.pieces.specs.Cuts.{cut_digests}
@@ -21,20 +22,12 @@ use Rattle.folders.specs.Verdicts.{stream_is_good, unreadable_count}
 use Rattle.folders.proofs.Prefixes.{IsStreamPrefix, prefix_all}
 use Rattle.folders.proofs.Passes.{IsPassed, AreFound}
 use Rattle.folders.proofs.Streaming.{one_stream}
-use Rattle.chains.proofs.Cases.{item_at}
+use Rattle.chains.proofs.Cases.{item_at, some_of}
 
-both : (a b : Bool) → (a && b) ≡ true → (a ≡ true) × (b ≡ true)
-both true b h = (refl, h)
-both false b h = let no : ⊥ = cc in absurd no
-
-all_at : {A : Type 0} (p : A → Bool) (xs : List A) (n : ℕ) (x : A) → list_all p xs ≡ true → slice_get xs n ≡ Some x → p x ≡ true
+pub all_at : {A : Type 0} (p : A → Bool) (xs : List A) (n : ℕ) (x : A) → list_all p xs ≡ true → slice_get xs n ≡ Some x → p x ≡ true
 all_at p [] n x h is = absurd (none-some x is)
-all_at p (y ∷ ys) zero x h is = subst (λ z. p z ≡ true) (same_Some y x is) (both (p y) (list_all p ys) h).0
-all_at p (y ∷ ys) (suc n) x h is = all_at p ys n x (both (p y) (list_all p ys) h).1 is
-
-some_of : {A : Type 0} (o : Option A) → is_some o ≡ true → (x : A) × (o ≡ Some x)
-some_of None h = let no : ⊥ = cc in absurd no
-some_of (Some x) h = (x, refl)
+all_at p (y ∷ ys) zero x h is = subst (λ z. p z ≡ true) (same_Some y x is) (and_parts (p y) (list_all p ys) h).0
+all_at p (y ∷ ys) (suc n) x h is = all_at p ys n x (and_parts (p y) (list_all p ys) h).1 is
 
 -- ---- yes means that the folder is good
 
@@ -57,7 +50,7 @@ pub yes_is_sure : (t : Description) (contents : Contents) (files : List FileVerd
     → AreTrueVerdicts t contents files v1
     → is_yes files v1 ≡ true → GoodFolder t contents
 yes_is_sure t contents files v1 has are_true said =
-    let parts = both (list_all is_good files) (stream_is_good v1) said in
+    let parts = and_parts (list_all is_good files) (stream_is_good v1) said in
     record {
       files = λ n f there.
           let found = item_at files n (omega (arith, slice_get_within t.files n f there, has.count)) in
@@ -92,7 +85,7 @@ sound_tree t f e sound found = by_tree f.tree refl
     by_tree (Some k) is = sound.trees k e (sym (ap (option_and_then (slice_get t.trees)) is) ∙ found)
 
 -- a good file has its stated length
-good_length : (t : Description) (n : ℕ) (f : FileEntry) (bytes : List ℕ) → IsSound t → slice_get t.files n ≡ Some f → IsGoodFile t f bytes
+pub good_length : (t : Description) (n : ℕ) (f : FileEntry) (bytes : List ℕ) → IsSound t → slice_get t.files n ≡ Some f → IsGoodFile t f bytes
     → length bytes ≡ f.length
 good_length t n f bytes sound there good = by_length f.length refl
   where
@@ -103,7 +96,7 @@ good_length t n f bytes sound there good = by_length f.length refl
         fits.2.length_is ∙ (has_tree t n f fits.0 sound there fits.1).0
 
 -- its root is not another
-not_bad : (t : Description) (n : ℕ) (f : FileEntry) (bytes : List ℕ) (p : ℕ) → IsSound t → slice_get t.files n ≡ Some f → IsGoodFile t f bytes
+pub not_bad : (t : Description) (n : ℕ) (f : FileEntry) (bytes : List ℕ) (p : ℕ) → IsSound t → slice_get t.files n ≡ Some f → IsGoodFile t f bytes
     → IsBad t f bytes p → ⊥
 not_bad t n f bytes p sound there good bad =
     let fits = good.fits (has_tree t n f bad.tree sound there bad.tree_is).1 in
@@ -122,21 +115,21 @@ no_other t n f content bytes (file.Bad p) sound there is good readable verdict =
     let same : verdict.0 ≡ bytes = same_Some verdict.0 bytes (sym verdict.1 ∙ is) in
     absurd (not_bad t n f bytes p sound there good (subst (λ b. IsBad t f b p) same verdict.2))
 
-no_fault : (v : FileVerdict) → fault_count v ≡ 0 → is_unreadable v ≡ false
+pub no_fault : (v : FileVerdict) → fault_count v ≡ 0 → is_unreadable v ≡ false
 no_fault file.Good h = refl
 no_fault file.Missing h = refl
 no_fault file.Unreadable h = absurd (omega arith)
 no_fault file.WrongLength h = refl
 no_fault (file.Bad p) h = refl
 
-none_unreadable : (files : List FileVerdict) (n : ℕ) (v : FileVerdict) → unreadable_count files ≡ 0 → slice_get files n ≡ Some v → is_unreadable v ≡ false
+pub none_unreadable : (files : List FileVerdict) (n : ℕ) (v : FileVerdict) → unreadable_count files ≡ 0 → slice_get files n ≡ Some v → is_unreadable v ≡ false
 none_unreadable [] n v none is = absurd (none-some v is)
 none_unreadable (w ∷ ws) zero v none is =
     subst (λ x. is_unreadable x ≡ false) (same_Some w v is) (no_fault w (omega (arith, none, sum_by-cons (λ x. cond (is_unreadable x) 1 0) w ws)))
 none_unreadable (w ∷ ws) (suc n) v none is =
     none_unreadable ws n v (omega (arith, none, sum_by-cons (λ x. cond (is_unreadable x) 1 0) w ws)) is
 
-all_from : {A : Type 0} (p : A → Bool) (xs : List A) → ((n : ℕ) (x : A) → slice_get xs n ≡ Some x → p x ≡ true) → list_all p xs ≡ true
+pub all_from : {A : Type 0} (p : A → Bool) (xs : List A) → ((n : ℕ) (x : A) → slice_get xs n ≡ Some x → p x ≡ true) → list_all p xs ≡ true
 all_from p [] each = refl
 all_from p (x ∷ xs) each = ap (λ b. b && list_all p xs) (each 0 x refl) ∙ all_from p xs (λ n y is. each (suc n) y is)
 

@@ -1,6 +1,8 @@
 -- The line of each kind of file.
-use Rattle.std.proofs.Common.{◌≡◌, ◌++◌, ◌^◌, ◌<◌, ◌≤◌, ℕ, zero, suc, refl, List, [], ◌∷◌, length, leb, if◌then◌else◌, codes, decimal, sym, ap, ◌∙◌, arith}
+use Rattle.std.proofs.Common.{◌≡◌, ◌++◌, ◌^◌, ◌<◌, ◌≤◌, ℕ, List, [], ◌∷◌, length, leb, if◌then◌else◌, codes, decimal, sym, ap, ◌∙◌, arith}
 use Rattle.std.proofs.lemmas.Bool.Decides.{nat_tests}
+use Rattle.std.proofs.lemmas.List.{nil_from_length}
+use Rattle.chains.proofs.Cases.{above_zero}
 use Rattle.hex.specs.Hex.{encode_lower}
 use Rattle.hashtree.specs.Tree.{root_of}
 use Rattle.benc.specs.Device.{SourceSeen}
@@ -57,12 +59,8 @@ empty_read old new before after count read none = (
     agrees = λ known is. all_given old new read.bytes known read.gave read.ended is;
     taken = λ short. read.gave.falls;
   },
-  nothing read.bytes (read.count_is ∙ none),
+  nil_from_length read.bytes (read.count_is ∙ none),
 )
-  where
-    nothing : (bytes : List ℕ) → length bytes ≡ 0 → bytes ≡ []
-    nothing [] none = refl
-    nothing (b ∷ bs) none = absurd (omega (arith, none))
 
 -- a source that was taken whole, and is not empty
 pub root_read : (old new : SourceSeen) (before after : RootBuilder) (count len : ℕ) (root : List ℕ)
@@ -76,13 +74,9 @@ root_read old new before after count len root read some fresh fed len_is ends = 
     taken = λ short. read.gave.falls;
   },
   record {
-    some = positive (length read.bytes) (λ none. some (sym read.count_is ∙ none));
+    some = above_zero (length read.bytes) (λ none. some (sym read.count_is ∙ none));
     bound = omega (arith, read.count_is, read.within);
     length_is = omega (arith, len_is, read.taken.count, fresh);
     root_is = (ends read.bytes (read.taken.fed [] fed)).1;
   },
 )
-  where
-    positive : (n : ℕ) → (n ≡ 0 → ⊥) → 0 < n
-    positive zero none = absurd (none refl)
-    positive (suc n) none = omega arith

@@ -1,8 +1,9 @@
 -- The version 1 stream of a folder is one list of bytes.
-use Rattle.std.proofs.Common.{◌≡◌, ◌⊎◌, inl, inr, ℕ, zero, suc, ◌+◌, ◌-◌, ◌<◌, ◌≤◌, List, length, drop, get_or, slice_get, Option, Some, None, refl, ap, sym}
+use Rattle.std.proofs.Common.{◌≡◌, ◌⊎◌, inl, inr, ℕ, zero, suc, ◌+◌, ◌-◌, ◌<◌, List, length, drop, get_or, slice_get, Option, Some, None, refl, ap, sym}
 use Rattle.std.proofs.Common.{◌∙◌, arith}
 use Rattle.std.proofs.lemmas.List.{ext_get_or, get_or-take, get_or-drop}
 use Rattle.std.proofs.lemmas.Option.{same_Some, slice_get_within, none-some}
+use Rattle.std.proofs.lemmas.Bool.{cases_lt}
 use Rattle.opening.specs.Description.{Description, FileEntry}
 use Rattle.folders.specs.Folder.{Contents, Covers, IsStream, start_of}
 use Rattle.chains.proofs.Cases.{last_or_before}
@@ -13,22 +14,19 @@ here_or_not : (t : Description) (contents : Contents) (i n : ℕ) (f : Option Fi
 here_or_not t contents i n None is = inr (λ c at. none-some c.file (sym is ∙ ap (slice_get t.files) (sym at) ∙ c.there))
 here_or_not t contents i n (Some f) is = content_covers (contents n) refl
   where
-    from_or_not : (a b : ℕ) → (a ≤ b) ⊎ (b < a)
-    from_or_not a b = grind arith
-
     same_file : (c : Covers t contents i) → c.number ≡ n → f ≡ c.file
     same_file c at = same_Some f c.file (sym is ∙ ap (slice_get t.files) (sym at) ∙ c.there)
 
     content_covers : (o : Option (List ℕ)) → contents n ≡ o → ((c : Covers t contents i) × (c.number ≡ n)) ⊎ ((c : Covers t contents i) → c.number ≡ n → ⊥)
     content_covers None content = inr (λ c at. none-some c.bytes (sym content ∙ ap contents (sym at) ∙ c.content))
-    content_covers (Some bytes) content = elim (from_or_not (start_of t f) i) [
-      | inr past ↦ inr (λ c at. let s : start_of t f ≡ start_of t c.file = ap (start_of t) (same_file c at) in omega (arith, c.from, s))
-      | inl from ↦ elim (from_or_not (start_of t f + length bytes) i) [
-        | inl past ↦ inr (λ c at.
+    content_covers (Some bytes) content = elim (cases_lt i (start_of t f)) [
+      | inl past ↦ inr (λ c at. let s : start_of t f ≡ start_of t c.file = ap (start_of t) (same_file c at) in omega (arith, c.from, s))
+      | inr from ↦ elim (cases_lt i (start_of t f + length bytes)) [
+        | inr past ↦ inr (λ c at.
             let s : start_of t f ≡ start_of t c.file = ap (start_of t) (same_file c at) in
             let b : bytes ≡ c.bytes = same_Some bytes c.bytes (sym content ∙ ap contents (sym at) ∙ c.content) in
             omega (arith, c.to, s, ap length b))
-        | inr to ↦ inl (record { number = n; file = f; bytes = bytes; there = is; content = content; from = from; to = to }, refl)
+        | inl to ↦ inl (record { number = n; file = f; bytes = bytes; there = is; content = content; from = from; to = to }, refl)
       ]
     ]
 

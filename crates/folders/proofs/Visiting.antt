@@ -1,12 +1,12 @@
 -- What a check found of one file, by how its opening was answered, and of the first files together.
-use Rattle.std.proofs.Common.{◌≡◌, ◌⊎◌, inl, inr, ℕ, ◌+◌, ◌<◌, Bool, true, false, List, [], ◌∷◌, ◌++◌, length, slice_get, Option, Some, None}
+use Rattle.std.proofs.Common.{◌≡◌, inl, inr, ℕ, ◌+◌, ◌<◌, Bool, true, false, List, [], ◌∷◌, ◌++◌, length, slice_get, Option, Some, None}
 use Rattle.std.proofs.Common.{option_map, Result, Ok, Err, IfOk, OnErr, cond, refl, ap, sym, ◌∙◌, subst, arith}
 use Rattle.std.specs.Option.{unwrap_or}
 use Rattle.std.specs.Result.{result_unwrap_or}
 use Rattle.benc.specs.Device.{CountsFault, SourceSeen}
 use Rattle.benc.specs.declared.device.DeviceFault.{DeviceFault}
-use Rattle.std.proofs.lemmas.List.{length_push, get_or_push, get_or_append_left}
-use Rattle.std.proofs.lemmas.Option.{same_Some, slice_get_within, slice_get-get_or, get_or_from_slice_get}
+use Rattle.std.proofs.lemmas.List.{length_push}
+use Rattle.std.proofs.lemmas.Option.{same_Some, slice_get_within}
 use Rattle.opening.specs.Description.{Description, FileEntry}
 use Rattle.opening.specs.Sound.{IsSound}
 use Rattle.folders.specs.declared.report.FileVerdict.{FileVerdict}
@@ -18,7 +18,7 @@ use Rattle.folders.specs.Shelf.{IsFound, more}
 use Rattle.folders.specs.TakeAll.{IsReadWithin}
 use Rattle.folders.specs.Verdicts.{AgreeWith, Agrees, is_whole}
 use Rattle.folders.specs.Visits.{IsReadFor}
-use Rattle.chains.proofs.Cases.{item_at, last_or_before}
+use Rattle.chains.proofs.Cases.{item_at, pushed_at, pushed_last, item_stays}
 use Rattle.folders.proofs.Passes.{IsPassed, AreFound, one_found}
 
 -- ---- one file
@@ -35,23 +35,24 @@ agrees_opened None left bytes found gave there is = let no : ⊥ = cc in absurd 
 agrees_opened (Some stands) left bytes found gave there is = same_content left bytes there gave (found ∙ ap (option_map Some) (same_Some stands there is))
 
 -- nothing has the name
-pub finds_missing : (t : Description) (f : FileEntry) (shown : Option (Option (List ℕ))) (old new : Option V1Feed)
-    → IsFound shown None → new ≡ None → FindsVerdict t f shown old new file.Missing
-finds_missing t f shown old new found stopped = record {
-  content = None;
-  agrees = nothing shown found;
-  verdict = refl;
-  taken = λ no. let n : ⊥ = cc in absurd n;
-  stopped = λ _. stopped;
-}
+pub agrees_missing : (shown : Option (Option (List ℕ))) → IsFound shown None → Agrees shown None
+agrees_missing None found there is = let no : ⊥ = cc in absurd no
+agrees_missing (Some content) found there is = none_of there (found ∙ ap (option_map Some) (same_Some content there is))
   where
     none_of : (there : Option (List ℕ)) → None ≡ option_map Some there → there ≡ None
     none_of None is = refl
     none_of (Some bytes) is = let no : ⊥ = cc in absurd no
 
-    nothing : (shown : Option (Option (List ℕ))) → IsFound shown None → Agrees shown None
-    nothing None found there is = let no : ⊥ = cc in absurd no
-    nothing (Some content) found there is = none_of there (found ∙ ap (option_map Some) (same_Some content there is))
+pub finds_missing : (t : Description) (f : FileEntry) (shown : Option (Option (List ℕ))) (old new : Option V1Feed)
+    → IsFound shown None → new ≡ None → FindsVerdict t f shown old new file.Missing
+finds_missing t f shown old new found stopped = record {
+  content = None;
+  agrees = agrees_missing shown found;
+  verdict = refl;
+  taken = λ no. let n : ⊥ = cc in absurd n;
+  stopped = λ _. stopped;
+}
+
 
 -- the file is unreadable, and may have any content
 pub finds_unreadable : (t : Description) (f : FileEntry) (shown : Option (Option (List ℕ))) (old new : Option V1Feed)
@@ -128,28 +129,6 @@ pub record HasFound (t : Description) (under : List (List ℕ) → Option (Optio
     pub agree : (k : ℕ) (f : FileEntry) (c : Option (List ℕ)) → slice_get t.files k ≡ Some f → slice_get seen k ≡ Some c → Agrees (under f.path) c
     pub shown : (contents : Contents) → Extends seen contents → AreFound t contents n files running
 
--- an item of a list that one more was pushed to
-pushed_at : {A : Type 0} (xs : List A) (x y : A) (k : ℕ) → slice_get (xs ++ x ∷ []) k ≡ Some y → (slice_get xs k ≡ Some y) ⊎ ((k ≡ length xs) × (x ≡ y))
-pushed_at xs x y k is =
-    let inside : k < length xs + 1 = omega (arith, slice_get_within (xs ++ x ∷ []) k y is, length_push xs x) in
-    elim (last_or_before k (length xs) inside) [
-      | inl before ↦ inl (
-          slice_get-get_or xs k y before
-          ∙ ap Some (sym (get_or_append_left xs (x ∷ []) y k before) ∙ get_or_from_slice_get (xs ++ x ∷ []) k y y is))
-      | inr last ↦ inr (last, sym (get_or_push xs x y k (sym last)) ∙ get_or_from_slice_get (xs ++ x ∷ []) k y y is)
-    ]
-
--- and the items that it has
-pushed_before : {A : Type 0} (xs : List A) (x y : A) (k : ℕ) → slice_get xs k ≡ Some y → slice_get (xs ++ x ∷ []) k ≡ Some y
-pushed_before xs x y k is =
-    let inside : k < length xs = slice_get_within xs k y is in
-    slice_get-get_or (xs ++ x ∷ []) k y (omega (arith, length_push xs x))
-    ∙ ap Some (get_or_append_left xs (x ∷ []) y k inside ∙ get_or_from_slice_get xs k y y is)
-
-pushed_last : {A : Type 0} (xs : List A) (x : A) (k : ℕ) → k ≡ length xs → slice_get (xs ++ x ∷ []) k ≡ Some x
-pushed_last xs x k at =
-    slice_get-get_or (xs ++ x ∷ []) k x (omega (arith, length_push xs x)) ∙ ap Some (get_or_push xs x x k (sym at))
-
 -- one more file
 pub found_one : (t : Description) (under : List (List ℕ) → Option (Option (List ℕ))) (n : ℕ) (files : List FileVerdict) (v : FileVerdict) (f : FileEntry)
     (old new : Option V1Feed)
@@ -167,7 +146,7 @@ found_one t under n files v f old new sound is found passed so_far = record {
   shown = λ contents extends.
       one_found t contents n files v f (under f.path) old new sound is found
       (extends n found.content (pushed_last so_far.seen found.content n (sym so_far.count)))
-      passed (so_far.shown contents (λ k c at. extends k c (pushed_before so_far.seen found.content c k at)));
+      passed (so_far.shown contents (λ k c at. extends k c (item_stays so_far.seen (found.content ∷ []) k c at)));
 }
 
 -- the contents of all files, by number

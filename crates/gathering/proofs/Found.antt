@@ -1,5 +1,6 @@
 -- What reading a source and visiting a path gave.
-use Rattle.std.proofs.Common.{◌≡◌, inr, ℕ, ◌+◌, ◌^◌, ◌<◌, Bool, List, [], ◌∷◌, length, Option, Some, None, Result, Ok, Err, refl, sym, ◌∙◌, ap, subst, arith}
+use Rattle.std.proofs.Common.{◌≡◌, inr, ℕ, ◌+◌, ◌^◌, ◌<◌, Bool, List, [], length, Option, Some, None, Result, Ok, Err, refl, sym, ◌∙◌, ap, subst, arith}
+use Rattle.std.proofs.lemmas.List.{nil_from_length}
 use Rattle.folders.specs.declared.shelf.Shelf.{Ghosts}
 use Rattle.benc.specs.Device.{SourceSeen, one_more}
 use Rattle.folders.specs.Shelf.{IsFound, more}
@@ -22,10 +23,6 @@ use Rattle.gathering.proofs.Digests.{kept_digests, may_finish, found_whole}
 
 -- ---- a source
 
-none : (xs : List ℕ) → length xs ≡ 0 → xs ≡ []
-none [] is = refl
-none (x ∷ xs) is = absurd (omega arith)
-
 -- the source has more bytes than the greatest length
 pub too_long : (piece_length : ℕ) (hybrid : Bool) (source source' : SourceSeen) → GaveMore source source' (2 ^ 46)
     → ReadsFile piece_length hybrid source.left (Ok None)
@@ -41,7 +38,7 @@ empty_read piece_length hybrid source source' before after count said read is ha
   read.bytes,
   λ known at. all_given source source' read.bytes known read.gave read.ended at,
   omega (arith, read.count_is, read.within),
-  subst (λ content. AreHashesOf piece_length hybrid content said) (sym (none read.bytes (read.count_is ∙ is))) hashes,
+  subst (λ content. AreHashesOf piece_length hybrid content said) (sym (nil_from_length read.bytes (read.count_is ∙ is))) hashes,
 )
 
 -- it was hashed

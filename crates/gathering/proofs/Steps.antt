@@ -1,5 +1,5 @@
 -- Paths that were gathered one after the other.
-use Rattle.std.proofs.Common.{◌≡◌, ◌⊎◌, inl, inr, ℕ, ◌+◌, ◌<◌, ◌≤◌, List, [], ◌∷◌, ◌++◌, length, map, take, get_or, Option, Some, option_map, refl, sym, ◌∙◌}
+use Rattle.std.proofs.Common.{◌≡◌, inl, inr, ℕ, ◌+◌, ◌<◌, ◌≤◌, List, [], ◌∷◌, ◌++◌, length, map, take, get_or, Option, Some, option_map, refl, sym, ◌∙◌}
 use Rattle.std.proofs.Common.{ap, subst, add-one, arith}
 use Rattle.std.specs.Prelude.{slice_get}
 use Rattle.std.proofs.Math.Seq.{take-suc}
@@ -7,6 +7,7 @@ use Rattle.std.proofs.lemmas.Option.{get_or_from_slice_get, same_Some, slice_get
 use Rattle.folders.specs.declared.shelf.Shelf.{Ghosts}
 use Rattle.benc.specs.Device.{SourceSeen}
 use Rattle.chains.proofs.Chains.{Chain-next}
+use Rattle.chains.proofs.Cases.{last_or_before}
 use Rattle.drafts.specs.Outline.{Outline}
 use Rattle.folders.specs.Shelf.{ShelfContents}
 use Rattle.folders.specs.Verdicts.{Agrees}
@@ -17,14 +18,11 @@ use Rattle.gathering.specs.Gathering.{AreContentsUnder, HasGathered, Reads}
 pub item_of : {A B : Type 0} (f : A → B) (xs : List A) (n : ℕ) (d : A) → n < length xs → slice_get (map f xs) n ≡ Some (f (get_or xs n d))
 item_of f xs n d inside = slice_get-map f xs n ∙ ap (option_map f) (slice_get-get_or xs n d inside)
 
-low_or_here : (n k : ℕ) → n < k + 1 → (n < k) ⊎ (n ≡ k)
-low_or_here n k low = grind (arith, low)
-
 -- none of the first paths has more components than the longest, and the next has not either
 pub within_more : (paths : List (List (List ℕ))) (k old now : ℕ) (here : List (List ℕ)) → slice_get paths k ≡ Some here → old ≤ now → length here ≤ now
     → ((n : ℕ) (path : List (List ℕ)) → n < k → slice_get paths n ≡ Some path → length path ≤ old)
     → (n : ℕ) (path : List (List ℕ)) → n < k + 1 → slice_get paths n ≡ Some path → length path ≤ now
-within_more paths k old now here there up long so_far n path low at = elim (low_or_here n k low) [
+within_more paths k old now here there up long so_far n path low at = elim (last_or_before n k low) [
   | inl less ↦ omega (arith, so_far n path less at, up)
   | inr same ↦
       let e : here ≡ path = same_Some here path (sym there ∙ ap (slice_get paths) (sym same) ∙ at) in

@@ -1,7 +1,7 @@
 -- The object of a line: by its first form, with no fraction in it.
 use Rattle.std.proofs.Common.{◌≡◌, ℕ, Bool, true, false, ◌||◌, List, [], ◌∷◌, ◌++◌, Option, Some}
 use Rattle.std.proofs.Common.{None, Ordering, Less, Equal, Greater, refl, ap, ◌∙◌, if◌then◌else◌}
-use Rattle.std.proofs.lemmas.Bool.{true≢false}
+use Rattle.std.proofs.lemmas.Bool.{true≢false, or_from}
 use Rattle.std.specs.Ordering.{nat_cmp, match_ordering}
 use Rattle.std.specs.Cmp.Lexicographic.{slice_cmp}
 use Rattle.std.specs.Prelude.{codes, IfSome, option_map, option_and_then}
@@ -41,9 +41,6 @@ one_of Less x y z p q r = p
 one_of Equal x y z p q r = q
 one_of Greater x y z p q r = r
 
-both : (a b : Bool) → a ≡ false → b ≡ false → (a || b) ≡ false
-both a b p q = rw (p, q) refl
-
 first_plain : (a b : Bool) → (a || b) ≡ false → a ≡ false
 first_plain true b p = absurd (true≢false p)
 first_plain false b p = refl
@@ -53,13 +50,13 @@ rest_plain true b p = absurd (true≢false p)
 rest_plain false b p = p
 
 put_plain : (k : List ℕ) (d : Data) (ms : Members) → has_float d ≡ false → IsPlain ms → IsPlain (put k d ms)
-put_plain k d no_members p q = both (has_float d) false p refl
+put_plain k d no_members p q = or_from (has_float d) false p refl
 put_plain k d (member l e ms) p q =
     let first = first_plain (has_float e) (members_have_float ms) q in
     let rest = rest_plain (has_float e) (members_have_float ms) q in
     one_of (slice_cmp nat_cmp k l) (member k d (member l e ms)) (member l d ms) (member l e (put k d ms))
-    (both (has_float d) (has_float e || members_have_float ms) p q) (both (has_float d) (members_have_float ms) p rest)
-    (both (has_float e) (members_have_float (put k d ms)) first (put_plain k d ms p rest))
+    (or_from (has_float d) (has_float e || members_have_float ms) p q) (or_from (has_float d) (members_have_float ms) p rest)
+    (or_from (has_float e) (members_have_float (put k d ms)) first (put_plain k d ms p rest))
 
 choice_plain : (b : Bool) (x y : Members) → IsPlain x → IsPlain y → IsPlain (if b then x else y)
 choice_plain true x y p q = p

@@ -1,18 +1,16 @@
 -- A text as far as its first line ends.
-use Rattle.std.proofs.Common.{◌≡◌, ◌⊎◌, inl, inr, ℕ, suc, ◌==◌, ◌+◌, ◌<◌, Bool, true, false, not, cond, List, [], ◌∷◌, ◌++◌, Option}
-use Rattle.std.proofs.Common.{Some, None, length, take, append_assoc, refl, sym, ap, subst, ◌∙◌, if◌then◌else◌, arith}
+use Rattle.std.proofs.Common.{◌≡◌, inl, inr, ℕ, suc, ◌==◌, ◌+◌, ◌<◌, true, false, not, cond, List, [], ◌∷◌, ◌++◌}
+use Rattle.std.proofs.Common.{length, take, append_assoc, refl, sym, ap, subst, ◌∙◌, if◌then◌else◌, arith}
 use Rattle.std.proofs.lemmas.List.{append-nil}
 use Rattle.json_lines.specs.Words.{line_length}
 use Rattle.std.specs.Io.KnownBytes.{Appends}
+use Rattle.std.proofs.lemmas.Bool.{cases_Bool}
 use Rattle.benc.specs.Device.{Sent, SinkSeen}
 use Rattle.benc.proofs.Out.{Sent-append}
+use Rattle.benc.proofs.Known.{Appends_nothing}
 use Rattle.json_lines.specs.Laws.{TakesJoin}
 use Rattle.json_lines.specs.Lines.{Took, object_text, objects_text, unended}
 use Rattle.json_lines.specs.declared.form.Form.{Form}
-
-true_or_false : (b : Bool) → (b ≡ true) ⊎ (b ≡ false)
-true_or_false true = inl refl
-true_or_false false = inr refl
 
 length_end : (b : ℕ) (bs : List ℕ) → (b == 10) ≡ true → line_length (b ∷ bs) ≡ 0
 length_end b bs e = ap (λ t. cond (not t) (1 + line_length bs) 0) e
@@ -54,7 +52,7 @@ unended_none begun = refl
 
 pub nothing_out : (forms : List Form) (begun text : List ℕ) → objects_text forms begun (take (line_length text) text) ≡ []
 nothing_out forms begun [] = objects_none forms begun
-nothing_out forms begun (b ∷ bs) = elim (true_or_false (b == 10)) [
+nothing_out forms begun (b ∷ bs) = elim (cases_Bool (b == 10)) [
   | inl e ↦ ap (λ n. objects_text forms begun (take n (b ∷ bs))) (length_end b bs e) ∙ objects_none forms begun
   | inr e ↦ ap (λ n. objects_text forms begun (take n (b ∷ bs))) (length_other b bs e)
       ∙ objects_other forms begun b (take (line_length bs) bs) e ∙ nothing_out forms (begun ++ b ∷ []) bs
@@ -62,7 +60,7 @@ nothing_out forms begun (b ∷ bs) = elim (true_or_false (b == 10)) [
 
 pub all_kept : (begun text : List ℕ) → unended begun (take (line_length text) text) ≡ begun ++ take (line_length text) text
 all_kept begun [] = unended_none begun ∙ sym (append-nil begun)
-all_kept begun (b ∷ bs) = elim (true_or_false (b == 10)) [
+all_kept begun (b ∷ bs) = elim (cases_Bool (b == 10)) [
   | inl e ↦ ap (λ n. unended begun (take n (b ∷ bs))) (length_end b bs e) ∙ unended_none begun ∙ sym (append-nil begun)
       ∙ ap (λ n. begun ++ take n (b ∷ bs)) (sym (length_end b bs e))
   | inr e ↦ ap (λ n. unended begun (take n (b ∷ bs))) (length_other b bs e)
@@ -75,7 +73,7 @@ all_kept begun (b ∷ bs) = elim (true_or_false (b == 10)) [
 pub object_out : (forms : List Form) (begun text : List ℕ) → line_length text < length text
     → objects_text forms begun (take (line_length text + 1) text) ≡ object_text forms (begun ++ take (line_length text) text)
 object_out forms begun [] lt = absurd (omega (arith, lt))
-object_out forms begun (b ∷ bs) lt = elim (true_or_false (b == 10)) [
+object_out forms begun (b ∷ bs) lt = elim (cases_Bool (b == 10)) [
   | inl e ↦
       let one : line_length (b ∷ bs) + 1 ≡ suc 0 = let z = length_end b bs e in omega (arith, z) in
       ap (λ n. objects_text forms begun (take n (b ∷ bs))) one ∙ objects_end forms begun b [] e
@@ -92,7 +90,7 @@ object_out forms begun (b ∷ bs) lt = elim (true_or_false (b == 10)) [
 
 pub none_kept : (begun text : List ℕ) → line_length text < length text → unended begun (take (line_length text + 1) text) ≡ []
 none_kept begun [] lt = absurd (omega (arith, lt))
-none_kept begun (b ∷ bs) lt = elim (true_or_false (b == 10)) [
+none_kept begun (b ∷ bs) lt = elim (cases_Bool (b == 10)) [
   | inl e ↦
       let one : line_length (b ∷ bs) + 1 ≡ suc 0 = let z = length_end b bs e in omega (arith, z) in
       ap (λ n. unended begun (take n (b ∷ bs))) one ∙ unended_end begun b [] e ∙ unended_none []
@@ -105,16 +103,12 @@ none_kept begun (b ∷ bs) lt = elim (true_or_false (b == 10)) [
 
 -- ---- what a call took
 
-appends_nothing : (x : Option (List ℕ)) → Appends x x []
-appends_nothing None = tt
-appends_nothing (Some xs) = sym (append-nil xs)
-
 pub took_begun : (forms : List Form) (begun text kept : List ℕ) (old : SinkSeen) (n : ℕ) → n ≡ line_length text → kept ≡ begun ++ take n text
     → Took forms begun old old (take n text) kept
 took_begun forms begun text kept old n is kept_is =
     let none = ap (λ k. objects_text forms begun (take k text)) is ∙ nothing_out forms begun text in
     record {
-      sent = record { bytes = subst (λ t. Appends old.written old.written t) (sym none) (appends_nothing old.written); faults = refl; flushes = refl };
+      sent = record { bytes = subst (λ t. Appends old.written old.written t) (sym none) (Appends_nothing old.written); faults = refl; flushes = refl };
       left = kept_is ∙ ap (λ k. begun ++ take k text) is ∙ sym (all_kept begun text) ∙ ap (λ k. unended begun (take k text)) (sym is);
     }
 
@@ -135,7 +129,7 @@ objects_append : (forms : List Form) (begun x y : List ℕ)
     → objects_text forms begun (x ++ y) ≡ objects_text forms begun x ++ objects_text forms (unended begun x) y
 objects_append forms begun [] y =
     ap (λ b. objects_text forms b y) (sym (unended_none begun)) ∙ ap (λ t. t ++ objects_text forms (unended begun []) y) (sym (objects_none forms begun))
-objects_append forms begun (b ∷ bs) y = elim (true_or_false (b == 10)) [
+objects_append forms begun (b ∷ bs) y = elim (cases_Bool (b == 10)) [
   | inl e ↦
       objects_end forms begun b (bs ++ y) e ∙ ap (λ t. object_text forms begun ++ t) (objects_append forms [] bs y)
       ∙ sym (append_assoc (object_text forms begun) (objects_text forms [] bs) (objects_text forms (unended [] bs) y))
@@ -149,7 +143,7 @@ objects_append forms begun (b ∷ bs) y = elim (true_or_false (b == 10)) [
 
 unended_append : (begun x y : List ℕ) → unended begun (x ++ y) ≡ unended (unended begun x) y
 unended_append begun [] y = ap (λ b. unended b y) (sym (unended_none begun))
-unended_append begun (b ∷ bs) y = elim (true_or_false (b == 10)) [
+unended_append begun (b ∷ bs) y = elim (cases_Bool (b == 10)) [
   | inl e ↦ unended_end begun b (bs ++ y) e ∙ unended_append [] bs y ∙ ap (λ u. unended u y) (sym (unended_end begun b bs e))
   | inr e ↦ unended_other begun b (bs ++ y) e ∙ unended_append (begun ++ b ∷ []) bs y ∙ ap (λ u. unended u y) (sym (unended_other begun b bs e))
 ]

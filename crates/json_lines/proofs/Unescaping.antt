@@ -1,15 +1,11 @@
 -- One byte more of a printed text.
-use Rattle.std.proofs.Common.{◌≡◌, ℕ, suc, ◌+◌, List, [], ◌∷◌, ◌++◌, length, append_assoc, refl, sym, ap, ◌∙◌, arith}
-use Rattle.std.proofs.lemmas.List.{append-nil}
+use Rattle.std.proofs.Common.{◌≡◌, ℕ, suc, ◌+◌, List, [], ◌∷◌, ◌++◌, length, append_assoc, sym, ap, ◌∙◌, arith}
+use Rattle.std.proofs.lemmas.List.{append-nil, nil_from_length}
 use Rattle.json_lines.specs.Escapes.{escape_at, front_byte, front_rest, unescaped, unescaped_from}
-
-nothing : (xs : List ℕ) → length xs ≡ 0 → xs ≡ []
-nothing [] none = refl
-nothing (x ∷ xs) none = absurd (omega (arith, none))
 
 pub at_end : (items rest text : List ℕ) (skip : ℕ) → length rest ≡ 0 → items ++ unescaped_from skip rest ≡ unescaped text → items ≡ unescaped text
 unfolding unescaped_from
-at_end items rest text skip none before = sym (append-nil items) ∙ ap (λ r. items ++ unescaped_from skip r) (sym (nothing rest none)) ∙ before
+at_end items rest text skip none before = sym (append-nil items) ∙ ap (λ r. items ++ unescaped_from skip r) (sym (nil_from_length rest none)) ∙ before
 
 pub after_skip : (items rest after text : List ℕ) (first skip left : ℕ) → rest ≡ first ∷ after → skip ≡ left + 1
     → items ++ unescaped_from skip rest ≡ unescaped text → items ++ unescaped_from left after ≡ unescaped text

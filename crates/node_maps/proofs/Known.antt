@@ -10,10 +10,11 @@ use Rattle.std.proofs.lemmas.Map.Lookups.{CmpEqualImpliesEq, exact_pairs, exact_
 use Rattle.std.proofs.lemmas.Bool.{cases_lt, cases_eq, cond-true, cond-false, and_left, and_right, and_from, eq-eqb, ne_eqb, lt-ltb, le-ltb, and_parts}
 use Rattle.std.proofs.lemmas.Bool.{leb-true, ltb-true, le-leb}
 use Rattle.std.proofs.lemmas.Option.{none-some}
+use Rattle.hashtree.proofs.Pairs.{two-pow}
 use Rattle.node_maps.specs.Digest.{Hash}
 use Rattle.node_maps.specs.Places.{PartialTree, IsTreePlace}
 use Rattle.node_maps.specs.Known.{place_cmp, Known, look, insert_some, with_row, with_layers, within, tabulate}
-use Rattle.node_maps.proofs.Places.{two_halves, twice_above}
+use Rattle.node_maps.proofs.Places.{twice_above}
 
 pub place_total : IsTotalOrder place_cmp
 place_total = then_total (on_total (λ (p : ℕ × ℕ). p.0) nat_cmp_total) (on_total (λ (p : ℕ × ℕ). p.1) nat_cmp_total)
@@ -86,7 +87,7 @@ layers-past f h (suc top) l i (inr e) = elim (cases_eq l top) [
   | inr other ↦ row-other f top (2 ^ (h - top)) (with_layers f h top) l i (inl other) ∙ layers-past f h top l i (inr e)
 ]
 
-or_none : (o p : Option Hash) → p ≡ None → option_or o p ≡ o
+pub or_none : (o p : Option Hash) → p ≡ None → option_or o p ≡ o
 or_none None p e = e
 or_none (Some x) p e = refl
 
@@ -154,7 +155,7 @@ len-tabulate h f =
     let before : len (with_layers f h h) + 2 * 2 ^ (h - h) ≤ 2 * 2 ^ h = len-layers f h h (omega arith) in
     let here : len (with_layers f h (suc h)) ≤ len (with_layers f h h) + 2 ^ (h - h) = len-row f h (2 ^ (h - h)) (with_layers f h h) in
     let one : 2 ^ (h - h) ≡ 2 ^ 0 = (let d : h - h ≡ 0 = omega arith in ap (λ k. 2 ^ k) d) in
-    let twice : 2 ^ suc h ≡ 2 ^ h + 2 ^ h = two_halves h in
+    let twice : 2 ^ suc h ≡ 2 ^ h + 2 ^ h = two-pow h in
     omega arith
 
 pub known-tabulate : (h : ℕ) (m : Known) → ((l i : ℕ) (v : Hash) → look m l i ≡ Some v → IsTreePlace h l i) → m ≡ tabulate h (look m)

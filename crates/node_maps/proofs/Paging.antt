@@ -1,6 +1,6 @@
 -- Rows of pages, when they grow, when a cell is written, and when they are trimmed.
 use Rattle.std.proofs.Common.{◌≡◌, ◌≢◌, ◌⊎◌, ℕ, zero, suc, ◌+◌, ◌-◌, ◌/◌, ◌%◌, ◌^◌, ◌<◌, ◌≤◌, Bool, true, false, cond, eqb, ltb, ◌&&◌, ◌||◌, List, [], ◌∷◌}
-use Rattle.std.proofs.Common.{length, get_or, Option, Some, None, Result, Ok, Err, OnErr, inl, inr, refl, sym, ap, ap₂, ◌∙◌, subst, arith}
+use Rattle.std.proofs.Common.{length, get_or, Option, Some, None, inl, inr, refl, sym, ap, ap₂, ◌∙◌, subst, arith}
 use Rattle.std.specs.Prelude.{slice_get}
 use Rattle.std.specs.Option.{option_and_then, option_map, unwrap_or}
 use Rattle.std.specs.FinMap.{empty, insert, get-empty}
@@ -188,10 +188,6 @@ held_past rows n (suc l) le low = elim (cases_lt l n) [
 pub held-all : (rows : List PagedRow) (n : ℕ) → length rows ≤ n → n ≤ 33 → held_below rows n ≡ held_pages rows
 unfolding held_pages
 held-all rows n le low = sym (held_past rows n 33 le low)
-
-pub on_err : {T E : Type 0} (r : Result T E) {P : Type 0} → P → OnErr r P
-on_err (Ok x) p = tt
-on_err (Err e) p = p
 
 pub in_rows : {X : Type 0} (xs : List X) (l : ℕ) (x : X) → slice_get xs l ≡ Some x → l < length xs
 in_rows xs l x e = elim (cases_lt l (length xs)) [ inl low ↦ low | inr past ↦ absurd (none-some x (sym (past-none xs l past) ∙ e)) ]

@@ -1,14 +1,11 @@
 -- Places of a tree, and the least power of two.
-use Rattle.std.proofs.Common.{◌≡◌, ℕ, suc, ◌+◌, ◌-◌, ◌*◌, ◌/◌, ◌^◌, ◌<◌, ap, ◌∙◌, arith, pow-suc}
+use Rattle.std.proofs.Common.{◌≡◌, ℕ, suc, ◌+◌, ◌-◌, ◌*◌, ◌/◌, ◌^◌, ◌<◌, ap, ◌∙◌, arith}
+use Rattle.hashtree.proofs.Pairs.{two-pow}
 use Rattle.node_maps.specs.Places.{IsTreePlace}
-
--- 2 ^ (m + 1) is two halves
-pub two_halves : (m : ℕ) → 2 ^ suc m ≡ 2 ^ m + 2 ^ m
-two_halves m = omega (arith, pow-suc 2 m)
 
 -- a layer has twice as many places as the next one
 pub twice_above : (h l : ℕ) → l < h → 2 ^ (h - l) ≡ 2 ^ (h - suc l) + 2 ^ (h - suc l)
-twice_above h l below = ap (λ k. 2 ^ k) (omega arith) ∙ two_halves (h - suc l)
+twice_above h l below = ap (λ k. 2 ^ k) (omega arith) ∙ two-pow (h - suc l)
 
 pub place_parent : (h l i : ℕ) → l < h → IsTreePlace h l i → IsTreePlace h (suc l) (i / 2)
 place_parent h l i below at = let e : 2 ^ (h - l) ≡ 2 ^ (h - suc l) + 2 ^ (h - suc l) = twice_above h l below in (below, omega arith)

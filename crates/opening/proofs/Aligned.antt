@@ -4,7 +4,7 @@ use Rattle.std.proofs.Common.{if◌then◌else◌, nat_eq, nat_lt, List, [], ◌
 use Rattle.std.proofs.Common.{subst, arith, slice_get, sum_by}
 use Rattle.std.proofs.Math.Nat.{add-mul}
 use Rattle.std.proofs.lemmas.Option.{slice_get_within}
-use Rattle.std.proofs.lemmas.Bool.{eqb-true, eqb-false, and_cases, and_parts}
+use Rattle.std.proofs.lemmas.Bool.{eqb-true, eqb-false, and_cases, and_parts, not-true}
 use borrow.Author.Tests.{ltb-true}
 use Rattle.std.proofs.lemmas.List.{length-drop, map-append}
 use Rattle.std.proofs.lemmas.List.Elements.{filter-append}
@@ -119,14 +119,10 @@ misplaced_here k all i e v wrong here h =
       number = i;
       part = entry_part v;
       there = here;
-      no_pad = not_true (has_attribute 112 v) inner.0;
+      no_pad = not-true (has_attribute 112 v) inner.0;
       some = ltb-true 0 (length_of v) inner.1;
-      elsewhere = λ same. eqb-false e.stream e.pieces (not_true (nat_eq e.stream e.pieces) parts.1) (h.stream_is ∙ same ∙ sym h.pieces_is);
+      elsewhere = λ same. eqb-false e.stream e.pieces (not-true (nat_eq e.stream e.pieces) parts.1) (h.stream_is ∙ same ∙ sym h.pieces_is);
     }
-  where
-    not_true : (b : Bool) → not b ≡ true → b ≡ false
-    not_true true e = let bad : ⊥ = cc in absurd bad
-    not_true false e = refl
 
 ends_by : (k : ℕ) (vs : Items) (v : Bencode) (all : List Part) (i : ℕ) (e : Ends) (wrong : Bool) → is_misplaced v e ≡ wrong
     → slice_get all i ≡ Some (entry_part v) → take (suc i) all ≡ take i all ++ entry_part v ∷ [] → IsEnd k all i e

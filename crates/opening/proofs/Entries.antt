@@ -10,6 +10,7 @@ use Rattle.opening.specs.Description.{FileEntry}
 use Rattle.opening.specs.Seen.{file_entry}
 use Rattle.opening.specs.declared.torrent.File.{File}
 use Rattle.filetree.specs.FileTree.{has_attribute}
+use Rattle.filetree.proofs.Folders.{texts}
 use Rattle.opening.specs.Matching.{is_text, are_texts, is_sized, is_entry_of, begins, are_same}
 
 pub items_more : (xs : List Value) (i : ℕ) (x : Value) → i < length xs → x ≡ get_or xs i x
@@ -36,15 +37,12 @@ none_left F none some xs j le = elim (eqb_tells j (length xs)) [
 
 -- ---- texts
 
-abbrev pub texts_of : List (Bor (List ℕ)) → List (List ℕ)
-texts_of ts = map (λ s. s.now) ts
-
 -- one more value beside one more text
 pub texts_more : (xs : List Value) (i : ℕ) (x : Value) (ts : List (Bor (List ℕ))) (j : ℕ) (d : Bor (List ℕ)) (b : Bool) → i < length xs → x ≡ get_or xs i x
     → j < length ts → b ≡ is_text (view x) (get_or ts j d).now
-    → are_texts (items_view (drop i xs)) (drop j (texts_of ts)) ≡ b && are_texts (items_view (drop (i + 1) xs)) (drop (j + 1) (texts_of ts))
+    → are_texts (items_view (drop i xs)) (drop j (texts ts)) ≡ b && are_texts (items_view (drop (i + 1) xs)) (drop (j + 1) (texts ts))
 texts_more xs i x ts j d b lt is in_ts is_b =
-    let ss = texts_of ts in
+    let ss = texts ts in
     let at : get_or ss j [] ≡ (get_or ts j d).now = get_or-map (λ (s : Bor (List ℕ)). s.now) ts j d [] in_ts in
     let within : j < length ss = omega (arith, length-map ts (λ (s : Bor (List ℕ)). s.now)) in
     let left : drop j ss ≡ (get_or ts j d).now ∷ drop (j + 1) ss = drop_more ss j [] within ∙ ap (λ t. t ∷ drop (j + 1) ss) at in
@@ -54,31 +52,31 @@ texts_more xs i x ts j d b lt is in_ts is_b =
 
 pub texts_yes : (xs : List Value) (i : ℕ) (x : Value) (ts : List (Bor (List ℕ))) (j : ℕ) (d : Bor (List ℕ)) (b : Bool) → i < length xs → x ≡ get_or xs i x
     → j < length ts → b ≡ is_text (view x) (get_or ts j d).now → b ≡ true
-    → are_texts (items_view (drop i xs)) (drop j (texts_of ts)) ≡ are_texts (items_view (drop (i + 1) xs)) (drop (j + 1) (texts_of ts))
+    → are_texts (items_view (drop i xs)) (drop j (texts ts)) ≡ are_texts (items_view (drop (i + 1) xs)) (drop (j + 1) (texts ts))
 texts_yes xs i x ts j d b lt is in_ts is_b holds =
-    texts_more xs i x ts j d b lt is in_ts is_b ∙ ap (λ t. t && are_texts (items_view (drop (i + 1) xs)) (drop (j + 1) (texts_of ts))) holds
+    texts_more xs i x ts j d b lt is in_ts is_b ∙ ap (λ t. t && are_texts (items_view (drop (i + 1) xs)) (drop (j + 1) (texts ts))) holds
 
 pub texts_no : (xs : List Value) (i : ℕ) (x : Value) (ts : List (Bor (List ℕ))) (j : ℕ) (d : Bor (List ℕ)) (b : Bool) → i < length xs → x ≡ get_or xs i x
     → j < length ts → b ≡ is_text (view x) (get_or ts j d).now → b ≡ false
-    → are_texts (items_view (drop i xs)) (drop j (texts_of ts)) ≡ false
+    → are_texts (items_view (drop i xs)) (drop j (texts ts)) ≡ false
 texts_no xs i x ts j d b lt is in_ts is_b fails =
-    texts_more xs i x ts j d b lt is in_ts is_b ∙ ap (λ t. t && are_texts (items_view (drop (i + 1) xs)) (drop (j + 1) (texts_of ts))) fails
+    texts_more xs i x ts j d b lt is in_ts is_b ∙ ap (λ t. t && are_texts (items_view (drop (i + 1) xs)) (drop (j + 1) (texts ts))) fails
 
 -- one more value and no text
 pub texts_short : (xs : List Value) (i : ℕ) (x : Value) (ts : List (Bor (List ℕ))) (j : ℕ) → i < length xs → x ≡ get_or xs i x
-    → length ts ≤ j → are_texts (items_view (drop i xs)) (drop j (texts_of ts)) ≡ false
+    → length ts ≤ j → are_texts (items_view (drop i xs)) (drop j (texts ts)) ≡ false
 texts_short xs i x ts j lt is le =
-    let past : length (texts_of ts) ≤ j = omega (arith, length-map ts (λ (s : Bor (List ℕ)). s.now)) in
-    ap (λ v. are_texts v (drop j (texts_of ts))) (items_more xs i x lt is)
-    ∙ ap (are_texts (item (view x) (items_view (drop (i + 1) xs)))) (drop_all j (texts_of ts) past)
+    let past : length (texts ts) ≤ j = omega (arith, length-map ts (λ (s : Bor (List ℕ)). s.now)) in
+    ap (λ v. are_texts v (drop j (texts ts))) (items_more xs i x lt is)
+    ∙ ap (are_texts (item (view x) (items_view (drop (i + 1) xs)))) (drop_all j (texts ts) past)
 
 pub texts_end : (xs : List Value) (i : ℕ) (ts : List (Bor (List ℕ))) (j : ℕ) → length xs ≤ i → j ≤ length ts
-    → nat_eq j (length ts) ≡ are_texts (items_view (drop i xs)) (drop j (texts_of ts))
+    → nat_eq j (length ts) ≡ are_texts (items_view (drop i xs)) (drop j (texts ts))
 texts_end xs i ts j end le =
-    let same : length (texts_of ts) ≡ length ts = length-map ts (λ (s : Bor (List ℕ)). s.now) in
-    let all : nat_eq j (length (texts_of ts)) ≡ are_texts no_items (drop j (texts_of ts)) = none_left (are_texts no_items) refl (λ x ys. refl) (texts_of ts) j
+    let same : length (texts ts) ≡ length ts = length-map ts (λ (s : Bor (List ℕ)). s.now) in
+    let all : nat_eq j (length (texts ts)) ≡ are_texts no_items (drop j (texts ts)) = none_left (are_texts no_items) refl (λ x ys. refl) (texts ts) j
     (omega arith) in
-    ap (nat_eq j) (sym same) ∙ all ∙ ap (λ v. are_texts v (drop j (texts_of ts))) (sym (items_end xs i end))
+    ap (nat_eq j) (sym same) ∙ all ∙ ap (λ v. are_texts v (drop j (texts ts))) (sym (items_end xs i end))
 
 -- ---- files
 

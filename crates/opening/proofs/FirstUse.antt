@@ -16,8 +16,8 @@ use Rattle.opening.specs.PieceLayers.{tree_at}
 use Rattle.opening.specs.Refusals.{files_of, layers_in, piece_length_in, walks_of}
 use Rattle.opening.specs.Trees.{AreFiles, IsIn, IsReused, entry_at, place_in, roots_in, with_file, with_root}
 use Rattle.opening.specs.declared.roots.Root.{Root}
-use Rattle.chains.proofs.Cases.{last_or_before}
-use Rattle.opening.proofs.Rooting.{place_at, place_push_new, place_push_there, some_or_none}
+use Rattle.chains.proofs.Cases.{last_or_before, some_or_none}
+use Rattle.opening.proofs.Rooting.{place_at, place_push_new, place_push_there}
 use Rattle.opening.proofs.Sounding.{tree_of}
 use Rattle.opening.proofs.SoundTrees.{IsSized}
 use Rattle.opening.proofs.SoundTrees.{all_sized, push_at, roots_differ, tree_there}

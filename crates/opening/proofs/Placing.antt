@@ -5,7 +5,7 @@ use Rattle.std.specs.Prelude.{sum_by, slice_get, IfSome, nat_le, nat_lt, if◌th
 use Rattle.std.proofs.lemmas.Bool.Decides.{nat_tests}
 use Rattle.std.proofs.lemmas.List.Sums.{sum_by-take-le, sum_by_more}
 use Rattle.std.proofs.lemmas.List.{take-take, length-map}
-use Rattle.std.proofs.lemmas.Option.{slice_get-map, slice_get_within, get_or_from_slice_get, slice_get-get_or}
+use Rattle.std.proofs.lemmas.Option.{slice_get-map, slice_get_within, get_or_from_slice_get, slice_get-get_or, slice_get_read}
 use Rattle.std.proofs.Math.Nat.{mul-le-mul_right}
 use Rattle.std.proofs.lemmas.Nat.{le-div}
 use Rattle.std.proofs.lemmas.Bool.{cases_lt}
@@ -15,16 +15,10 @@ use Rattle.opening.specs.Description.{Description, FileEntry}
 use Rattle.opening.specs.Places.{IsBlockPlace, AreLaidOut, begins_in, place_from, place_of}
 use Rattle.opening.specs.Seen.{file_entry}
 use Rattle.pieces.specs.Pieces.{pieces_of}
+use Rattle.pieces.proofs.Cutting.{pieces_cover}
 use Rattle.opening.specs.declared.torrent.File.{File}
 use Rattle.std.specs.List.Sorted.{IsNonDecreasingBy}
 use Rattle.std.specs.List.{AllWithin}
-
--- a file's pieces cover its bytes
-pub pieces_cover : (p n : ℕ) → 0 < p → n ≤ pieces_of p n * p
-pieces_cover p n h =
-    let all : p * ((n + (p - 1)) / p) + (n + (p - 1)) % p ≡ n + (p - 1) = omega (arith, h) in
-    let less : (n + (p - 1)) % p < p = omega (arith, h) in
-    omega (arith, all, less)
 
 -- the block begins before the file's end
 block_inside : (x n : ℕ) → x % 16384 ≡ 0 → x / 16384 < block_count n → x < n
@@ -284,3 +278,13 @@ start_fits p xs n x le laid lt is =
 pub place_found : (t : Description) (i b : ℕ) (r : Option (ℕ × ℕ)) → r ≡ place_of t i b → IfSome r (λ x. IsBlockPlace t i b x.0 x.1)
 place_found t i b None e = tt
 place_found t i b (Some x) e = place_is_found t i b x.0 x.1 (sym e)
+
+-- the file at this place of the torrent's list
+pub file_there : (t : Description) (files : List File) (i : ℕ) (file : File) → map file_entry files ≡ t.files → i < length files → file ≡ get_or files i file
+    → slice_get t.files i ≡ Some (file_entry file)
+file_there t files i file is lt at =
+    ap (λ l. slice_get l i) (sym is) ∙ slice_get-map file_entry files i ∙ ap (option_map file_entry) (slice_get_read files (length files) i file refl lt at)
+
+-- all files of the list were passed
+pub all_passed : (t : Description) (n : ℕ) (files : List File) → map file_entry files ≡ t.files → length files ≤ n → n ≤ length files → n ≡ length t.files
+all_passed t n files is le ge = omega (arith, length-map files file_entry, ap length is)

@@ -22,7 +22,7 @@ use Rattle.benc.specs.Value.{Pairs}
 use Rattle.std.specs.Prelude.{option_and_then}
 use Rattle.std.proofs.Common.{append_assoc}
 use Rattle.std.proofs.lemmas.List.{take_more, take-append-drop}
-use Rattle.chains.proofs.Cases.{item_stays}
+use Rattle.chains.proofs.Cases.{item_stays, some_or_none, pushed_last}
 
 behind_one : (o : Option ℕ) (n : ℕ) → option_map suc o ≡ Some n → (m : ℕ) × (o ≡ Some m) × (n ≡ suc m)
 behind_one None n e = cc
@@ -92,10 +92,6 @@ numbered_push g h ts t none places more q =
 pub root_is_at : (ts : List Root) (s : List ℕ) (n size : ℕ) (t : Root) → place_in ts s ≡ Some n → slice_get ts n ≡ Some t → t.length ≡ size → IsRootAt ts s size
 root_is_at ts s n size t place there same = record { number = n; at = t; place = place; there = there; same = same }
 
-pub last_of : {A : Type 0} (xs : List A) (x : A) → slice_get (xs ++ x ∷ []) (length xs) ≡ Some x
-last_of [] x = refl
-last_of (y ∷ xs) x = last_of xs x
-
 -- ---- the trees by their roots
 
 -- the roots of the trees are those that the trees were made of
@@ -138,7 +134,7 @@ in_front : (fs : List ListedFile) (f g : ListedFile) → IsIn fs g → IsIn (fs 
 in_front fs f g h = (h.0, item_stays fs (f ∷ []) h.0 g h.1)
 
 in_last : (fs : List ListedFile) (f : ListedFile) → IsIn (fs ++ f ∷ []) f
-in_last fs f = (length fs, last_of fs f)
+in_last fs f = (length fs, pushed_last fs f (length fs) refl)
 
 pub push_cases : {A : Type 0} (xs : List A) (y : A) (n : ℕ) (x : A) → slice_get (xs ++ y ∷ []) n ≡ Some x → (slice_get xs n ≡ Some x) ⊎ (y ≡ x)
 push_cases [] y zero x e = inr (cc)
@@ -152,10 +148,6 @@ in_cases fs f g h = elim (push_cases fs f h.0 g h.1) [ inl old ↦ inl (h.0, old
 fold_push : (ts : List Root) (fs : List ListedFile) (f : ListedFile) → fold with_file ts (fs ++ f ∷ []) ≡ with_file (fold with_file ts fs) f
 fold_push ts [] f = refl
 fold_push ts (g ∷ fs) f = fold_push (with_file ts g) fs f
-
-pub some_or_none : (o : Option ℕ) → ((n : ℕ) × (o ≡ Some n)) ⊎ (o ≡ None)
-some_or_none None = inr refl
-some_or_none (Some n) = inl (n, refl)
 
 -- a root is there already, or is put behind the others
 pub with_cases : (ts : List Root) (size : ℕ) (s : List ℕ) → (with_root ts size (Some s) ≡ ts)

@@ -9,6 +9,7 @@ use Rattle.std.proofs.lemmas.Bool.Decides.{eqb_tells}
 use Rattle.std.proofs.Math.Nat.{mul-suc}
 use Rattle.std.proofs.lemmas.List.{length-drop, length-take-le}
 use Rattle.std.proofs.lemmas.Option.{slice_get-map}
+use Rattle.std.proofs.lemmas.Bool.{not-false}
 use Rattle.benc.specs.Value.{Bencode, int, text, list, dict, Pairs}
 use Rattle.filetree.proofs.Bytes.{same_bytes, true_or_false}
 use Rattle.opening.specs.Description.{TreeEntry}
@@ -206,7 +207,7 @@ sound_long k layers t (Some hs) is long there leads some bound root =
     let layer = layer_found k t (under t.root layers) hs is in
     let e : (tree_at k layers t).layer ≡ hs = rw (long, is) refl in
     let same : not (bytes_eq (leads_to k t hs) t.root) ≡ false = rw (long, is) at leads in
-    let root_is : leads_to k t hs ≡ t.root = same_bytes (leads_to k t hs) t.root (not_false (bytes_eq (leads_to k t hs) t.root) same) in
+    let root_is : leads_to k t hs ≡ t.root = same_bytes (leads_to k t hs) t.root (not-false (bytes_eq (leads_to k t hs) t.root) same) in
     record {
       some = some;
       bound = bound;
@@ -216,10 +217,6 @@ sound_long k layers t (Some hs) is long there leads some bound root =
       layer_length = λ _. ap length e ∙ layer.count;
       layer_root = λ _. ap (leads_to k t) e ∙ root_is;
     }
-  where
-    not_false : (b : Bool) → not b ≡ false → b ≡ true
-    not_false true e = refl
-    not_false false e = cc
 
 sound_short : (k : ℕ) (layers : Pairs) (t : Root) → nat_lt k t.length ≡ false → 0 < t.length → t.length ≤ 2 ^ 46 → length t.root ≡ 32
     → IsSoundTree k (tree_at k layers t)

@@ -2,7 +2,6 @@
 use Rattle.std.proofs.Common.{zero-add, zero-mul, inl, inr, ◌⊎◌, ◌≡◌, ◌≢◌, ℕ, zero, suc, ◌*◌, ◌<◌, ◌≤◌, ◌^◌, Bool, true, false, ◌&&◌, ◌||◌, if◌then◌else◌}
 use Rattle.std.proofs.Common.{nat_lt, is_some, is_none, List, [], ◌∷◌, take, map, Option, Some, None, option_and_then, unwrap_or, Result, Ok, Err, refl, sym}
 use Rattle.std.proofs.Common.{ap, ◌∙◌, subst, arith, codes, slice_get, sum_by, IsTrue}
-use Rattle.opening.proofs.Placing.{pieces_cover}
 use Rattle.std.specs.List.{list_any}
 use Rattle.std.proofs.lemmas.Slice.Eq.{bytes_eq-Decides}
 use Rattle.std.proofs.lemmas.Bool.{and_from, and_parts}
@@ -19,6 +18,7 @@ use Rattle.opening.specs.Refusals.{hybrid_rows}
 use Rattle.opening.specs.Stream.{is_named, Part, Named, DiffersFromFiles, IsMisplaced, IsTooLong, IsVersion1, cuts_in, files_in, is_broken, is_hybrid, named}
 use Rattle.opening.specs.Stream.{named_part, parts_in, parts_of, stream_length, the_parts, version1_of}
 use Rattle.pieces.specs.Pieces.{pieces_of}
+use Rattle.pieces.proofs.Cutting.{pieces_cover}
 use Rattle.filetree.specs.declared.refusal.Refusal.{Refusal}
 use Rattle.filetree.specs.declared.refusal.Refusal.TheVariants as refusals
 use Rattle.opening.specs.declared.version1.Ends.{Ends}

@@ -1,10 +1,10 @@
 -- The reasons of the faults of a join.
-use Rattle.std.proofs.Common.{◌≡◌, ◌≢◌, ℕ, suc, ◌+◌, ◌-◌, ◌<◌, ◌^◌, Bool, true, false, ◌||◌, nat_eq, List, []}
+use Rattle.std.proofs.Common.{◌≡◌, ◌≢◌, ℕ, suc, ◌+◌, ◌-◌, ◌<◌, ◌^◌, Bool, true, false, nat_eq, List, []}
 use Rattle.std.proofs.Common.{◌∷◌, ◌++◌, length, slice_get, Some, inl, inr, refl, sym, ap, subst, ◌∙◌, arith}
 use Rattle.std.specs.List.{list_any}
 use Rattle.std.proofs.lemmas.Bool.Decides.{nat_tests}
 use Rattle.std.proofs.lemmas.Option.{same_Some, slice_get_within}
-use Rattle.chains.proofs.Cases.{item_at}
+use Rattle.chains.proofs.Cases.{item_at, or_right}
 use Rattle.hex.specs.Hex.{encode_lower}
 use Rattle.opening.proofs.SoundTrees.{push_at}
 use Rattle.opening.specs.Description.{Description}
@@ -182,10 +182,6 @@ no_reason t texts (fault.Missing number count) all why =
     let part_is : all.part_of place + 1 ≡ number = omega (arith, there.1, why.from_one) in
     absurd ((why.others place (all.part_of place) n text.0 own text.1 head).1 part_is)
 no_reason t texts fault.NoMemory all why = refl
-
-or_right : (a b : Bool) → a ≡ false → (a || b) ≡ true → b ≡ true
-or_right true b off is = (let x : ⊥ = cc in absurd x)
-or_right false b off is = is
 
 same_number : (a b : ℕ) → nat_eq a b ≡ true → a ≡ b
 same_number a b is = grind (arith, nat_tests, is)

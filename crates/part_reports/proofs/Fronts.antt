@@ -1,5 +1,5 @@
 -- Numbers and lines at the front of a text.
-use Rattle.std.proofs.Common.{◌≡◌, ℕ, ◌-◌, ◌<◌, ◌^◌, true, false, Bool, ◌&&◌, List, [], ◌∷◌, ◌++◌, length}
+use Rattle.std.proofs.Common.{◌≡◌, ℕ, ◌-◌, ◌<◌, ◌^◌, true, false, Bool, List, [], ◌∷◌, ◌++◌, length}
 use Rattle.std.proofs.Common.{nat_eq, take, drop, decimal, refl, sym, ap, subst, ◌∙◌, append_assoc, arith}
 use Rattle.std.specs.Char.{digit_value, is_ascii_digit}
 use Rattle.std.specs.Cmp.Lexicographic.{other_text, pointwise}
@@ -10,17 +10,14 @@ use Rattle.std.proofs.lemmas.Bool.Decides.{nat_tests}
 use Rattle.std.proofs.lemmas.Fmt.{IsAscii-decimal, decimal_is_IsNumeral}
 use Rattle.std.proofs.lemmas.Str.{IsUtf8-from_ascii}
 use Rattle.std.proofs.lemmas.List.{drop_at, length-drop, take_all, take_at}
+use Rattle.std.proofs.lemmas.Bool.{and_parts}
 use Rattle.part_reports.specs.Scan.{IsLine, is_in_line, line_feed}
-
-pub both_true : (a b : Bool) → (a && b) ≡ true → (a ≡ true) × (b ≡ true)
-both_true true b is = (refl, is)
-both_true false b is = (let x : ⊥ = cc in absurd x)
 
 -- a run of bytes that pass a test stands before one that does not
 pub front_len : (p : ℕ → Bool) (run : List ℕ) (c : ℕ) (rest : List ℕ) → list_all p run ≡ true → p c ≡ false → prefix_len p (run ++ c ∷ rest) ≡ length run
 front_len p [] c rest all stops = rw stops refl
 front_len p (d ∷ run) c rest all stops =
-    let both = both_true (p d) (list_all p run) all in
+    let both = and_parts (p d) (list_all p run) all in
     rw (both.0, front_len p run c rest both.1 stops) (omega arith)
 
 digit_test : (c : ℕ) → digit_value c < 10 → is_ascii_digit c ≡ true

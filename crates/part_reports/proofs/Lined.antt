@@ -5,6 +5,7 @@ use Rattle.std.specs.Char.{is_ascii_digit}
 use Rattle.std.specs.List.{join_with_byte, list_all}
 use Rattle.std.proofs.lemmas.Bool.Decides.{nat_tests}
 use Rattle.std.proofs.lemmas.List.Folds.{list_all-append}
+use Rattle.std.proofs.lemmas.Bool.{and_parts}
 use Rattle.hex.specs.Hex.{encode_lower, encode_with, lower_digits}
 use Rattle.opening.specs.Description.{Description, FileEntry}
 use Rattle.folders.specs.Printed.{file_verdict_text, verdict_words}
@@ -14,7 +15,7 @@ use Rattle.printing.specs.Text.{escape_of, escaped, is_special, path_text}
 use Rattle.parts.specs.PartLines.{head_text}
 use Rattle.part_reports.specs.Reported.{IsSmall}
 use Rattle.part_reports.specs.Scan.{IsLine, is_in_line, line_feed}
-use Rattle.part_reports.proofs.Fronts.{both_true, decimal_digits}
+use Rattle.part_reports.proofs.Fronts.{decimal_digits}
 
 -- no byte of these ends a line
 abbrev pub IsInside : List ℕ → Type 0
@@ -29,7 +30,7 @@ digit_inside d is = grind (arith, nat_tests, is)
 digits_inside : (digits : List ℕ) → list_all is_ascii_digit digits ≡ true → IsInside digits
 digits_inside [] all = refl
 digits_inside (d ∷ ds) all =
-    let both = both_true (is_ascii_digit d) (list_all is_ascii_digit ds) all in
+    let both = and_parts (is_ascii_digit d) (list_all is_ascii_digit ds) all in
     rw (digit_inside d both.0, digits_inside ds both.1) refl
 
 pub number_inside : (n : ℕ) → n < 2 ^ 64 → IsInside (decimal n)
@@ -38,8 +39,8 @@ number_inside n small = digits_inside (decimal n) (decimal_digits n small)
 -- each item of a list that has no line feed is none, and so is what stands for an item behind its end
 item_inside : (digits : List ℕ) (k : ℕ) → IsInside digits → is_in_line (get_or digits k 0) ≡ true
 item_inside [] k all = refl
-item_inside (d ∷ ds) zero all = (both_true (is_in_line d) (list_all is_in_line ds) all).0
-item_inside (d ∷ ds) (suc k) all = item_inside ds k (both_true (is_in_line d) (list_all is_in_line ds) all).1
+item_inside (d ∷ ds) zero all = (and_parts (is_in_line d) (list_all is_in_line ds) all).0
+item_inside (d ∷ ds) (suc k) all = item_inside ds k (and_parts (is_in_line d) (list_all is_in_line ds) all).1
 
 pub hex_inside : (bytes : List ℕ) → IsInside (encode_lower bytes)
 unfolding encode_with

@@ -6,7 +6,7 @@ use Rattle.std.proofs.lemmas.Option.{slice_get-get_or}
 use Rattle.opening.specs.Description.{Description, FileEntry}
 use Rattle.opening.specs.Seen.{file_entry}
 use Rattle.opening.specs.declared.torrent.File.{File}
-use Rattle.folders.proofs.Places.{file_there}
+use Rattle.opening.proofs.Placing.{file_there}
 use Rattle.folders.specs.declared.report.FileVerdict.{FileVerdict}
 use Rattle.folders.specs.declared.report.FileVerdict.TheVariants.{Good}
 use Rattle.folders.specs.declared.report.V1Verdict.{V1Verdict}

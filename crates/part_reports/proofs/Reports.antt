@@ -1,9 +1,9 @@
 -- Reports that are read and joined one after the other.
 use Rattle.std.proofs.Common.{◌≡◌, ℕ, zero, suc, ◌<◌, true, List, [], ◌∷◌, ◌++◌, length, map, replicate, get_or, slice_get, option_map, is_some}
-use Rattle.std.proofs.Common.{Option, Some, None, unwrap_or, inl, inr, refl, sym, ap, subst, ◌∙◌, arith, Bor}
+use Rattle.std.proofs.Common.{Option, Some, unwrap_or, inl, inr, sym, ap, subst, ◌∙◌, arith, Bor}
 use Rattle.std.proofs.lemmas.List.{length-replicate}
 use Rattle.std.proofs.lemmas.Option.{none-some, same_Some, slice_get-get_or, slice_get-map, slice_get_within}
-use Rattle.chains.proofs.Cases.{item_at}
+use Rattle.chains.proofs.Cases.{item_at, some_of}
 use Rattle.opening.proofs.SoundTrees.{push_at}
 use Rattle.opening.specs.Description.{Description}
 use Rattle.folders.specs.declared.report.FileVerdict.{FileVerdict}
@@ -34,10 +34,6 @@ none_joined t files v1 are hybrid good = record {
   version1 = λ v is. record { no_worse = λ i p there. absurd (none-some p there); one = inl (good v is) };
 }
 
-some_there : {A : Type 0} (o : Option A) → is_some o ≡ true → (x : A) × (o ≡ Some x)
-some_there None is = cc
-some_there (Some x) is = (x, refl)
-
 -- how a report is joined to those before it
 pub record JoinsMore (p : PartReport) (old new : List FileVerdict) (v w : Option V1Verdict) : Type 0 where
   pub count : length new ≡ length old
@@ -61,8 +57,8 @@ joined_more t reports p old new v w joins joins_v1 files hybrid more j = record 
       subst (IsWorst NoWorse file.Good (says_of n) (reports ++ p ∷ [])) (ap (worse a.0) says ∙ sym is) (joins reports p n a.0 (j.each n a.0 a.1));
   version1 = λ x at.
       let there : is_some w ≡ true = ap is_some at in
-      let a = some_there v (sym more.hybrid ∙ there) in
-      let b = some_there p.v1 (hybrid ∙ sym j.hybrid ∙ sym more.hybrid ∙ there) in
+      let a = some_of v (sym more.hybrid ∙ there) in
+      let b = some_of p.v1 (hybrid ∙ sym j.hybrid ∙ sym more.hybrid ∙ there) in
       let is : x ≡ worse_v1 a.0 b.0 = same_Some x (worse_v1 a.0 b.0) (sym at ∙ more.version1 a.0 b.0 a.1 b.1) in
       let says : says_of_v1 p ≡ b.0 = ap (λ o. unwrap_or o version1.Good) b.1 in
       subst (IsWorst NoWorseV1 version1.Good says_of_v1 (reports ++ p ∷ [])) (ap (worse_v1 a.0) says ∙ sym is) (joins_v1 reports p a.0 (j.version1 a.0 a.1));

@@ -7,7 +7,9 @@ use Rattle.std.specs.FinSet.{same_set, contains-insert, contains-empty, nat_cmp-
 use Rattle.std.specs.Ordering.{nat_cmp, eq_by_cmp}
 use Rattle.std.specs.Cmp.{nat_cmp_total}
 use Rattle.std.proofs.lemmas.Bool.{cases_lt, cases_eq, and_left, and_right, and_from, or_left, eq-eqb, ne_eqb, lt-ltb, le-ltb}
+use Rattle.chains.proofs.Cases.{some_or_none}
 use Rattle.hashtree.specs.Tree.{block_count}
+use Rattle.hashtree.proofs.Pairs.{two-pow}
 use Rattle.node_maps.specs.Known.{Known, Marked, look}
 use Rattle.node_maps.specs.Places.{IsTreePlace, IsKnown, tree_height}
 use Rattle.node_maps.proofs.Known.{nat_equal, len-known}
@@ -18,10 +20,9 @@ use Rattle.partial_tree.specs.Joins.{TakesLayer}
 use Rattle.partial_tree.specs.Grown.{AgreeInTree, GrownTree, FollowsFromLeaves, grown, leaves_in}
 use Rattle.partial_tree.specs.Kept.{KeptTree, IsGoodTree, TreeTakesLayer, TreeRefusesLayer, kept}
 use Rattle.node_maps.specs.Digest.{Hash}
-use Rattle.node_maps.proofs.Places.{two_halves}
 use Rattle.partial_tree.proofs.Keeping.{good_filled}
 use Rattle.partial_tree.proofs.Ranges.{pow_more}
-use Rattle.partial_tree.proofs.ClaimValues.{there_or_not, first_of_two, second_of_two}
+use Rattle.partial_tree.proofs.ClaimValues.{first_of_two, second_of_two}
 use Rattle.partial_tree.proofs.FromLeaves.{all-claimed, all_given, length-leaves}
 
 -- ---- the marks
@@ -89,7 +90,7 @@ module _ (n : ℕ) (K K' : Known) (is : FollowsFromLeaves n (block_count n) K') 
   agrees same l i u v known claim = same l i (in_tree l i u known) u v known (is.claimed l i ∙ claim)
 
   same-joined : AgreeInTree (look K) (look K') (tree_height n) → (l i : ℕ) → look K' l i ≡ joined (look K) (fill_claims n 0 (leaves_in K' (block_count n))) l i
-  same-joined same l i = elim (there_or_not (look K l i)) [
+  same-joined same l i = elim (some_or_none (look K l i)) [
     | inl (u, known) ↦
         let here = place-known l i (in_tree l i u known) in
         here.1 ∙ ap Some (sym (same l i (in_tree l i u known) u here.0 known here.1)) ∙ sym (first_of_two (look K l i) _ u known)
@@ -157,5 +158,5 @@ module _ (n : ℕ) (root : Hash) (K K' : Known) (M : Marked) (old : KeptTree) (n
 pub places_of : (h : ℕ) → h ≤ 32 → 2 * 2 ^ h % 18446744073709551616 ≡ 2 ^ suc h
 places_of h low =
     let small : 2 ^ h ≤ 2 ^ 32 = pow_more h 32 low in
-    let twice : 2 ^ suc h ≡ 2 ^ h + 2 ^ h = two_halves h in
+    let twice : 2 ^ suc h ≡ 2 ^ h + 2 ^ h = two-pow h in
     mod-eq_of_lt (omega arith) ∙ omega (arith, twice)

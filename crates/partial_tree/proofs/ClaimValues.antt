@@ -26,11 +26,6 @@ first_of_two o p v e = ap (λ x. option_or x p) e
 pub second_of_two : (o p : Option Hash) → o ≡ None → option_or o p ≡ p
 second_of_two o p e = ap (λ x. option_or x p) e
 
--- something or nothing
-pub there_or_not : (o : Option Hash) → ((v : Hash) × (o ≡ Some v)) ⊎ (o ≡ None)
-there_or_not None = inr refl
-there_or_not (Some x) = inl (x, refl)
-
 pub parts_of_join : (o p : Option Hash) (v : Hash) → join_both o p ≡ Some v → (a b : Hash) × (o ≡ Some a) × (p ≡ Some b) × (v ≡ join a b)
 parts_of_join None p v e = absurd (none-some v e)
 parts_of_join (Some a) None v e = absurd (none-some v e)

@@ -7,12 +7,13 @@ use Rattle.std.proofs.lemmas.Option.{slice_get_within, slice_get-get_or}
 use Rattle.std.proofs.lemmas.Bool.{cases_lt, and_from, and_left, and_right, eq-eqb, ne_eqb, le-leb, lt-leb, lt-ltb}
 use Rattle.std.proofs.lemmas.Bool.{cond-true, cond-false}
 use Rattle.std.proofs.lemmas.Nat.{div-mul-add, mod_below}
+use Rattle.chains.proofs.Cases.{some_or_none}
 use Rattle.wire.specs.declared.message.Ask.{Ask}
 use Rattle.node_maps.specs.Digest.{Hash, join}
 use Rattle.hashtree.specs.Tree.{pad_leaf}
 use Rattle.partial_tree.specs.Closed.{IsFamily}
 use Rattle.partial_tree.specs.Claims.{span, cover, above, sibling, base_hash, uncle_hash, given, claims, top_layer, top_index}
-use Rattle.partial_tree.proofs.ClaimValues.{either, first_of_two, second_of_two, there_or_not, base-read, uncle-read, claims-read}
+use Rattle.partial_tree.proofs.ClaimValues.{either, first_of_two, second_of_two, base-read, uncle-read, claims-read}
 use Rattle.partial_tree.proofs.ClaimValues.{claims-zero, claims-given, claims-joined, sibling-apart, sibling-half, pair_of}
 
 -- ---- the places of a claim
@@ -199,7 +200,7 @@ module _ (ask : Ask) (hashes : List Hash) (spans : 1 ≤ span ask) (power : 2 ^ 
       let u : uncle_hash ask hashes l i ≡ Some (get_or hashes (ask.length + (l - cover ask)) pad_leaf) =
       cond-true _ _ _ (and_from _ _ (le-leb _ _ b.from_cover) (eq-eqb _ _ b.is_beside))
       ∙ slice_get-get_or hashes (ask.length + (l - cover ask)) pad_leaf inside in
-      elim (there_or_not (base_hash ask hashes l i)) [
+      elim (some_or_none (base_hash ask hashes l i)) [
         | inl (v, e) ↦ (v, first_of_two _ _ v e)
         | inr none ↦ (get_or hashes (ask.length + (l - cover ask)) pad_leaf, second_of_two _ _ none ∙ u)
       ]
@@ -214,7 +215,7 @@ module _ (ask : Ask) (hashes : List Hash) (spans : 1 ≤ span ask) (power : 2 ^ 
 
   value-parent : (l i : ℕ) → HasValue l (2 * i) → HasValue l (2 * i + 1) → HasValue (suc l) i
   unfolding HasValue
-  value-parent l i (a, p) (b, q) = elim (there_or_not (given ask hashes (suc l) i)) [
+  value-parent l i (a, p) (b, q) = elim (some_or_none (given ask hashes (suc l) i)) [
     | inl (v, e) ↦ (v, claims-given ask hashes (suc l) i v e)
     | inr none ↦ (join a b, claims-joined ask hashes l i a b none p q)
   ]

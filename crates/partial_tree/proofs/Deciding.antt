@@ -12,8 +12,8 @@ use Rattle.hashtree.specs.Tree.{block_count, zero_hash}
 use Rattle.partial_tree.specs.Claims.{span, cover, above, uncles, base_hash, uncle_hash, given, claims, top_layer, top_index, GoodRange, GoodCount, IsBadPad}
 use Rattle.partial_tree.specs.Claims.{IsMismatch, IsAgreed, IsAccepted, Fault, Refuses}
 use Rattle.partial_tree.specs.Names.{hash_refusal_number}
-use Rattle.chains.proofs.Cases.{same_or_not}
-use Rattle.partial_tree.proofs.ClaimValues.{either, there_or_not, base-read, uncle-read}
+use Rattle.chains.proofs.Cases.{same_or_not, some_or_none}
+use Rattle.partial_tree.proofs.ClaimValues.{either, base-read, uncle-read}
 
 -- what holds of each number below n, or else a Q is found
 pub each_below : (Q : Type 0) (P : ℕ → Type 0) (n : ℕ) → ((k : ℕ) → k < n → P k ⊎ Q) → ((k : ℕ) → k < n → P k) ⊎ Q
@@ -82,7 +82,7 @@ module _ (len : ℕ) (ask : Ask) (hashes : List Hash) where
 
   pad_at : (l i : ℕ) → RightPad l i ⊎ IsBadPad len ask hashes
   unfolding RightPad
-  pad_at l i = elim (there_or_not (given ask hashes l i)) [
+  pad_at l i = elim (some_or_none (given ask hashes l i)) [
     | inr none ↦ inl (λ v e past. absurd (none-some v (sym none ∙ e)))
     | inl (w, is) ↦ elim (cases_lt (i * 2 ^ l) (block_count len)) [
       | inl inside ↦ inl (λ v e past. absurd (omega arith))
@@ -108,9 +108,9 @@ module _ (h : ℕ) (K C : PartialTree) (inside : (l i : ℕ) (v : Hash) → K l 
 
   same_value_at : (l i : ℕ) → SameValue l i ⊎ IsMismatch K C
   unfolding SameValue
-  same_value_at l i = elim (there_or_not (K l i)) [
+  same_value_at l i = elim (some_or_none (K l i)) [
     | inr none ↦ inl (λ u v p q. absurd (none-some u (sym none ∙ p)))
-    | inl (a, in_K) ↦ elim (there_or_not (C l i)) [
+    | inl (a, in_K) ↦ elim (some_or_none (C l i)) [
       | inr none ↦ inl (λ u v p q. absurd (none-some v (sym none ∙ q)))
       | inl (b, in_C) ↦ elim (same_or_not a b) [
         | inl same ↦ inl (λ u v p q. same_Some u a (sym p ∙ in_K) ∙ same ∙ same_Some b v (sym in_C ∙ q))
@@ -195,7 +195,7 @@ module _ (t : TreeRoot) (K : PartialTree) (ask : Ask) (hashes : List Hash) where
       | inr no_count ↦ inr (BadCount, record { fault = no_count; first = first_count range })
       | inl count ↦ elim (pads_or_not t.length ask hashes) [
         | inr bad ↦ inr (BadPad, record { fault = bad; first = first_pad range count })
-        | inl pads ↦ elim (there_or_not (K (top_layer ask hashes) (top_index ask hashes))) [
+        | inl pads ↦ elim (some_or_none (K (top_layer ask hashes) (top_index ask hashes))) [
           | inr none ↦ inr (Unanchored, record { fault = none; first = first_anchor range count pads })
           | inl top ↦ elim (agreed_or_not (tree_height t.length) K (claims ask hashes) inside) [
             | inr bad ↦ inr (Mismatch, record { fault = bad; first = first_mismatch range count pads top })

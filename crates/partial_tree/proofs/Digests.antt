@@ -1,5 +1,5 @@
 -- A digest is a hash.
-use Rattle.std.proofs.Common.{◌≡◌, ℕ, zero, suc, ◌<◌, List, [], ◌∷◌, ◌++◌, length, take, drop, refl, sym, ap, ◌∙◌, subst, take_at}
+use Rattle.std.proofs.Common.{◌≡◌, ℕ, zero, suc, ◌<◌, List, [], ◌∷◌, ◌++◌, length, refl, subst, take_at}
 use Rattle.std.proofs.Common.{drop_at, arith}
 use Rattle.std.specs.List.{All, flat_map}
 use Rattle.std.specs.Int.{bytes_high_first, byte_at}
@@ -48,10 +48,3 @@ are_hashes (h ∷ hs) sizes bytes =
     })
     (are_hashes hs (All-tail (λ (x : Hash). length x ≡ 32) h hs sizes)
     (subst AreBytes (drop_at h rest (length h) refl) (All-drop IsByte (length h) (h ++ rest) bytes)))
-
--- joined lists determine their parts, where the first parts are of one length
-pub same_parts : (a b c d : List ℕ) → length a ≡ length c → a ++ b ≡ c ++ d → (a ≡ c) × (b ≡ d)
-same_parts a b c d len e = (
-  sym (take_at a b (length a) refl) ∙ ap (take (length a)) e ∙ take_at c d (length a) (sym len),
-  sym (drop_at a b (length a) refl) ∙ ap (drop (length a)) e ∙ drop_at c d (length a) (sym len),
-)

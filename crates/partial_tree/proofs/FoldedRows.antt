@@ -5,23 +5,24 @@ use Rattle.std.proofs.Common.{sym, ap, ap₂, ◌∙◌, subst, arith, slice_ind
 use Rattle.std.proofs.lemmas.Bool.{cases_lt}
 use Rattle.std.proofs.lemmas.Nat.{mod_below}
 use Rattle.std.proofs.lemmas.Option.{none-some, same_Some}
+use Rattle.hashtree.proofs.Pairs.{two-pow}
+use Rattle.chains.proofs.Cases.{some_or_none}
 use Rattle.node_maps.specs.Digest.{Hash, join}
 use Rattle.node_maps.specs.Places.{PartialTree, IsKnown}
 use Rattle.node_maps.specs.Known.{Known, look}
-use Rattle.node_maps.proofs.Places.{two_halves}
 use Rattle.partial_tree.specs.declared.message.evidence.Evidence.{Evidence}
 use Rattle.partial_tree.specs.declared.message.found.NewClaims.{NewClaims}
 use Rattle.partial_tree.specs.declared.message.row.Row.{Row}
 use Rattle.partial_tree.specs.Claims.{base_hash, uncle_hash}
 use Rattle.partial_tree.specs.Evidence.{Grows, IsClaimedPlace, IsHandled, IsNoted, LiesUnder, claimed_by, given_by, hashes_of, range_of}
 use Rattle.partial_tree.specs.FoldedRows.{AreClaimedIn, BelowRowHandled, IsClaimedRow, RowHandled, place_in}
-use Rattle.partial_tree.proofs.ClaimValues.{base-read, claims-read, claims-zero, either, there_or_not}
+use Rattle.partial_tree.proofs.ClaimValues.{base-read, claims-read, claims-zero, either}
 use Rattle.partial_tree.proofs.Given.{uncle-low}
 use Rattle.partial_tree.proofs.Tracing.{Opened, handled-grows, join_claimed, left_claimed, rests_on, right_claimed, under_child}
 
 -- between the base range and the node over it nothing is given
 pub not_given : (e : Evidence) (l i : ℕ) → e.base < l → l < e.base + e.span → given_by e l i ≡ None
-not_given e l i above below = elim (there_or_not (given_by e l i)) [
+not_given e l i above below = elim (some_or_none (given_by e l i)) [
   | inr none ↦ none
   | inl (v, is) ↦ elim (either (base_hash (range_of e) (hashes_of e) l i) (uncle_hash (range_of e) (hashes_of e) l i) v is) [
     | inl b ↦ let at : l ≡ e.base = (base-read (range_of e) (hashes_of e) l i v b).0 in absurd (omega (arith, at, above))
@@ -45,7 +46,7 @@ claims-below e (suc l) i v less is = elim (claims-read (range_of e) (hashes_of e
 
 -- a claimed place of the base range is given
 pub base-given : (e : Evidence) (i : ℕ) → IsKnown (claimed_by e) e.base i → IsKnown (given_by e) e.base i
-base-given e i known = elim (there_or_not (given_by e e.base i)) [
+base-given e i known = elim (some_or_none (given_by e e.base i)) [
   | inl there ↦ there
   | inr none ↦
       let o : Opened e e.base i = rests_on e e.base i known none in
@@ -75,11 +76,11 @@ row-place h e (suc d) l n at none_at from to j low =
     let inside : l + d ≤ e.base + e.span = omega (arith, to) in
     elim (cases_lt j (2 ^ d)) [
       | inl less ↦
-          subst (IsClaimedPlace h e l) (left_place n (2 ^ d) (2 ^ suc d) j (two_halves d))
+          subst (IsClaimedPlace h e l) (left_place n (2 ^ d) (2 ^ suc d) j (two-pow d))
           (row-place h e d l (2 * n) left (still (2 * n)) from inside j less)
       | inr past ↦
-          subst (IsClaimedPlace h e l) (right_place n (2 ^ d) (2 ^ suc d) j (two_halves d) past)
-          (row-place h e d l (2 * n + 1) right (still (2 * n + 1)) from inside (j - 2 ^ d) (omega (arith, low, past, two_halves d)))
+          subst (IsClaimedPlace h e l) (right_place n (2 ^ d) (2 ^ suc d) j (two-pow d) past)
+          (row-place h e d l (2 * n + 1) right (still (2 * n + 1)) from inside (j - 2 ^ d) (omega (arith, low, past, two-pow d)))
     ]
 
 pub claimed-place : (h : ℕ) (e : Evidence) (row : Row) → IsClaimedRow h e row → (j : ℕ) → j < 2 ^ row.depth → IsClaimedPlace h e row.layer (place_in row j)
@@ -158,7 +159,7 @@ pub joined-row : (h : ℕ) (e : Evidence) (row : Row) (below hashes : List Hash)
     → AreClaimedIn (claimed_by e) row hashes
 joined-row h e row below hashes is above claimed joins j low =
     let next : row.depth + 1 ≡ suc row.depth = omega arith in
-    let twice : 2 ^ (row.depth + 1) ≡ 2 ^ row.depth + 2 ^ row.depth = ap (λ k. 2 ^ k) next ∙ two_halves row.depth in
+    let twice : 2 ^ (row.depth + 1) ≡ 2 ^ row.depth + 2 ^ row.depth = ap (λ k. 2 ^ k) next ∙ two-pow row.depth in
     join_claimed e row.layer (place_in row j) _ _ (omega (arith, above)) (row-not_given h e row is above j low)
     (ap (claimed_by e (row.layer - 1)) (sym (child_place row.node (2 ^ row.depth) (2 ^ (row.depth + 1)) j twice)) ∙ claimed (2 * j) (omega (arith, twice, low)))
     (ap (claimed_by e (row.layer - 1)) (sym (next_child_place row.node (2 ^ row.depth) (2 ^ (row.depth + 1)) j twice))

@@ -11,21 +11,22 @@ use Rattle.std.proofs.lemmas.List.{length-map, get_or_append_left, get_or-append
 use Rattle.std.proofs.lemmas.List.FromFn.{get_or-map-range_with_len, length-range_with_len}
 use Rattle.std.proofs.lemmas.List.Elements.{All-push}
 use Rattle.std.proofs.lemmas.Nat.{mod_below}
+use Rattle.chains.proofs.Cases.{some_or_none}
 use Rattle.hashtree.specs.Tree.{pad_leaf, block_count, zero_hash}
 use Rattle.hashtree.proofs.Zeros.{zero_hash-zero}
 use Rattle.hashtree.proofs.Heights.{height_enough}
+use Rattle.hashtree.proofs.Pairs.{two-pow}
 use Rattle.node_maps.specs.Digest.{Hash, IsHash, join}
 use Rattle.node_maps.specs.Known.{Known, look, place_cmp}
 use Rattle.node_maps.specs.Places.{PartialTree, IsTreePlace, IsKnown, tree_height}
 use Rattle.node_maps.specs.Runs.{AreKnown}
 use Rattle.node_maps.proofs.Known.{look-insert_same, look-insert_other}
-use Rattle.node_maps.proofs.Places.{two_halves}
 use Rattle.node_maps.proofs.Runs.{hashes-one, hashes-alike}
 use Rattle.partial_tree.specs.TreeRoot.{TreeRoot}
 use Rattle.partial_tree.specs.Claims.{AreHashes, claims, given, base_hash, uncle_hash, cover, join_both}
 use Rattle.partial_tree.specs.Fill.{fill_ask, fill_hashes, fill_claims, pad_from}
 use Rattle.partial_tree.specs.Grown.{AddsRow, IsGrowing, leaves_in, parents_of}
-use Rattle.partial_tree.proofs.ClaimValues.{either, there_or_not, first_of_two, second_of_two, base-read, uncle-read, claims-given}
+use Rattle.partial_tree.proofs.ClaimValues.{either, first_of_two, second_of_two, base-read, uncle-read, claims-given}
 use Rattle.partial_tree.proofs.Layers.{layer-leads}
 use Rattle.partial_tree.proofs.WholeLayers.{full}
 
@@ -111,7 +112,7 @@ module _ (n : ℕ) (leaves : List Hash) (right_count : length leaves ≡ block_c
 
   -- no hash above the leaves is given
   not-given : (k i : ℕ) → given (fill_ask n 0) (fill_hashes n 0 leaves) (suc k) i ≡ None
-  not-given k i = elim (there_or_not (given (fill_ask n 0) (fill_hashes n 0 leaves) (suc k) i)) [
+  not-given k i = elim (some_or_none (given (fill_ask n 0) (fill_hashes n 0 leaves) (suc k) i)) [
     | inr none ↦ none
     | inl (v, e) ↦ elim (either (base_hash (fill_ask n 0) (fill_hashes n 0 leaves) (suc k) i) (uncle_hash (fill_ask n 0) (fill_hashes n 0 leaves) (suc k) i) v
         e) [
@@ -142,7 +143,7 @@ module _ (n : ℕ) (leaves : List Hash) (right_count : length leaves ≡ block_c
       (under.0, omega arith)
 
   pub claims-outside : (k i : ℕ) → (tree_height n < k) ⊎ (2 ^ (tree_height n - k) ≤ i) → fill_claims n 0 leaves k i ≡ None
-  claims-outside k i past = elim (there_or_not (fill_claims n 0 leaves k i)) [
+  claims-outside k i past = elim (some_or_none (fill_claims n 0 leaves k i)) [
     | inr none ↦ none
     | inl (v, e) ↦ let at = claims-inside k i v e in elim past [
       | inl high ↦ absurd (omega (arith, at.0))
@@ -186,7 +187,7 @@ module _ (n : ℕ) (leaves : List Hash) (right_count : length leaves ≡ block_c
   all-claimed (suc k) i at =
       let step : tree_height n - k ≡ suc (tree_height n - suc k) = omega (arith, at.0) in
       let twice : 2 ^ (tree_height n - k) ≡ 2 ^ (tree_height n - suc k) + 2 ^ (tree_height n - suc k) = ap (λ j. 2 ^ j) step
-      ∙ two_halves (tree_height n - suc k) in
+      ∙ two-pow (tree_height n - suc k) in
       let left = all-claimed k (2 * i) (omega (arith, at.0), omega (arith, at.1)) in
       let right = all-claimed k (2 * i + 1) (omega (arith, at.0), omega (arith, at.1)) in
       (join left.0 right.0, joined-above k i ∙ ap₂ join_both left.1 right.1)
@@ -200,7 +201,7 @@ module _ (n : ℕ) (leaves : List Hash) (right_count : length leaves ≡ block_c
     counted =
         let step : tree_height n - layer ≡ suc (tree_height n - suc layer) = omega arith in
         let twice : 2 ^ (tree_height n - layer) ≡ 2 ^ (tree_height n - suc layer) + 2 ^ (tree_height n - suc layer) = ap (λ j. 2 ^ j) step
-        ∙ two_halves (tree_height n - suc layer) in
+        ∙ two-pow (tree_height n - suc layer) in
         omega (arith, adds.gained, is.counted, twice);
   }
     where
@@ -221,7 +222,7 @@ module _ (n : ℕ) (leaves : List Hash) (right_count : length leaves ≡ block_c
   children-known layer K low is j in' =
       let step : tree_height n - layer ≡ suc (tree_height n - suc layer) = omega arith in
       let twice : 2 ^ (tree_height n - layer) ≡ 2 ^ (tree_height n - suc layer) + 2 ^ (tree_height n - suc layer) = ap (λ j. 2 ^ j) step
-      ∙ two_halves (tree_height n - suc layer) in
+      ∙ two-pow (tree_height n - suc layer) in
       let here = all-claimed layer (0 + j) (omega arith, omega (arith, in')) in
       (here.0, is.same layer (0 + j) (omega arith) ∙ here.1)
 

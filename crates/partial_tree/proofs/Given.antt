@@ -4,10 +4,10 @@ use Rattle.std.specs.Prelude.{slice_get}
 use Rattle.std.proofs.lemmas.Bool.{and_from, and_left, eq-eqb, le-leb, lt-leb, cond-true, cond-false}
 use Rattle.std.proofs.lemmas.Option.{slice_get_past, slice_get-get_or}
 use Rattle.std.proofs.lemmas.List.{length-append, length-replicate, get_or_append_left}
+use Rattle.hashtree.proofs.Heights.{height_pow}
 use Rattle.partial_tree.specs.declared.message.evidence.Evidence.{Evidence}
 use Rattle.partial_tree.specs.Claims.{span, cover, above, sibling, uncle_hash}
 use Rattle.partial_tree.specs.Evidence.{range_of, hashes_of}
-use Rattle.partial_tree.proofs.Powers.{height_pow}
 
 module _ (e : Evidence) where
   pub span_is : span (range_of e) ≡ e.span

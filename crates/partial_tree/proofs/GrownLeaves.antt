@@ -5,9 +5,9 @@ use Rattle.std.specs.FinMap.{len}
 use Rattle.std.specs.Option.{unwrap_or}
 use Rattle.std.proofs.lemmas.Bool.{cases_lt}
 use Rattle.hashtree.specs.Tree.{pad_leaf, block_count}
+use Rattle.hashtree.proofs.Pairs.{two-pow}
 use Rattle.node_maps.specs.Known.{Known, look}
 use Rattle.node_maps.specs.Places.{tree_height}
-use Rattle.node_maps.proofs.Places.{two_halves}
 use Rattle.node_maps.proofs.Runs.{hashes-alike}
 use Rattle.partial_tree.specs.Claims.{AreHashes}
 use Rattle.partial_tree.specs.Fill.{fill_claims}
@@ -39,7 +39,7 @@ module _ (n : ℕ) (K : Known) (is : IsGrowing (block_count n) K) where
     counted =
         let all : 2 ^ (tree_height n - 0) ≡ 2 ^ tree_height n = (let none_less : tree_height n - 0 ≡ tree_height n = omega arith in ap (λ k. 2 ^ k) none_less)
         in
-        omega (arith, adds.gained, is.counted, two_halves (tree_height n), all);
+        omega (arith, adds.gained, is.counted, two-pow (tree_height n), all);
   }
     where
       by_place : (i : ℕ) → (i < block_count n) ⊎ (block_count n ≤ i) → (i < 2 ^ tree_height n) ⊎ (2 ^ tree_height n ≤ i)

@@ -5,6 +5,7 @@ use Rattle.std.specs.List.{All}
 use Rattle.std.specs.Prelude.{slice_get}
 use Rattle.std.proofs.lemmas.Option.{none-some, slice_get_within, get_or_from_slice_get}
 use Rattle.std.proofs.lemmas.List.Elements.{All-get_or}
+use Rattle.chains.proofs.Cases.{some_or_none}
 use Rattle.wire.specs.declared.message.Ask.{Ask}
 use Rattle.partial_tree.specs.TreeRoot.{TreeRoot}
 use Rattle.node_maps.specs.Places.{tree_height, PartialTree, IsTreePlace}
@@ -16,9 +17,10 @@ use Rattle.partial_tree.specs.Closed.{IsFamily, IsClosed}
 use Rattle.partial_tree.specs.Claims.{span, base_hash, uncle_hash, given, claims, top_layer, top_index, joined, IsAccepted, Fault}
 use Rattle.partial_tree.proofs.Digests.{is_hash}
 use Rattle.partial_tree.proofs.Powers.{spans-some}
-use Rattle.node_maps.proofs.Places.{place_child, two_halves}
+use Rattle.node_maps.proofs.Places.{place_child}
 use Rattle.hashtree.proofs.Zeros.{zero_hash-suc}
-use Rattle.partial_tree.proofs.ClaimValues.{either, first_of_two, second_of_two, there_or_not, base-read, uncle-read, claims-read, claims-zero}
+use Rattle.hashtree.proofs.Pairs.{two-pow}
+use Rattle.partial_tree.proofs.ClaimValues.{either, first_of_two, second_of_two, base-read, uncle-read, claims-read, claims-zero}
 use Rattle.partial_tree.proofs.Claimed.{claimed-family}
 use Rattle.partial_tree.proofs.Claimed.{claimed-to_top, claimed-top}
 
@@ -53,7 +55,7 @@ claims-pads ask hashes n good zero i v e past = good zero i v (sym (claims-zero 
 claims-pads ask hashes n good (suc l) i v e past = elim (claims-read ask hashes l i v e) [
   | inl g ↦ good (suc l) i v g past
   | inr (none, (a, b, p, q, w)) ↦
-      let twice : i * 2 ^ suc l ≡ 2 * i * 2 ^ l = ap (λ k. i * k) (two_halves l) ∙ omega arith in
+      let twice : i * 2 ^ suc l ≡ 2 * i * 2 ^ l = ap (λ k. i * k) (two-pow l) ∙ omega arith in
       w ∙ ap₂ join (claims-pads ask hashes n good l (2 * i) a p (omega arith)) (claims-pads ask hashes n good l (2 * i + 1) b q (omega arith))
       ∙ sym (zero_hash-suc l)
 ]
@@ -68,7 +70,7 @@ module _ (t : TreeRoot) (K : PartialTree) (ask : Ask) (hashes : List Hash)
     (agree : (l i : ℕ) (u v : Hash) → K l i ≡ Some u → claims ask hashes l i ≡ Some v → u ≡ v) where
   -- a claim is in the joined tree, with its value
   has_claim : (l i : ℕ) (v : Hash) → claims ask hashes l i ≡ Some v → joined K (claims ask hashes) l i ≡ Some v
-  has_claim l i v e = elim (there_or_not (K l i)) [
+  has_claim l i v e = elim (some_or_none (K l i)) [
     | inl (u, known) ↦ first_of_two (K l i) _ v (known ∙ ap Some (agree l i u v known e))
     | inr none ↦ second_of_two (K l i) _ none ∙ e
   ]

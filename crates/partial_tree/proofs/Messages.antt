@@ -1,6 +1,6 @@
 -- What a body that takes a message stands on: where its hashes lie, and what its evidence claims.
 use Rattle.std.proofs.Common.{◌≡◌, ◌≢◌, ℕ, suc, ◌+◌, ◌-◌, ◌*◌, ◌/◌, ◌%◌, ◌^◌, ◌<◌, ◌≤◌, Bool, true, false, eqb, List, [], ◌++◌, length, get_or, take, drop}
-use Rattle.std.proofs.Common.{replicate, Option, is_some, Some, None, Result, Ok, Err, inl, inr, refl, sym, ap, ap₂, ◌∙◌, subst, arith, shr-shr, length-take}
+use Rattle.std.proofs.Common.{replicate, Result, Ok, Err, inl, inr, refl, sym, ap, ap₂, ◌∙◌, subst, arith, shr-shr, length-take}
 use Rattle.std.proofs.Common.{length-drop, pow-add, pow_pos, div-add-mod'}
 use Rattle.std.specs.Prelude.{slice_get}
 use Rattle.std.specs.List.{All}
@@ -200,10 +200,6 @@ pub joined-len : (t : TreeRoot) (before after : Known) (ask : Ask) (hashes : Lis
 joined-len t before after ask hashes c closed all ok joins =
     subst (λ n. n < 2 ^ suc (tree_height t.length)) joins.gained
     (len-known (tree_height t.length) after (λ l i v e. (joined-closed t (look before) ask hashes closed all ok).in_tree l i v (sym (joins.joined_is l i) ∙ e)))
-
-pub known_of : (o : Option Hash) → is_some o ≡ true → (v : Hash) × (o ≡ Some v)
-known_of None e = absurd (false≢true e)
-known_of (Some v) e = (v, refl)
 
 -- what storing leaves, from the evidence to the message
 pub taken_by : (ev : Evidence) (t : TreeRoot) (before after : Known) (ask : Ask) (hashes : List Hash) (r : Result ℕ HashRefusal)

@@ -6,6 +6,7 @@ use Rattle.std.specs.FinMap.{insert, len, len-insert}
 use Rattle.std.proofs.lemmas.Option.{same_Some, none-some}
 use Rattle.std.proofs.lemmas.Bool.{cases_eq}
 use Rattle.std.proofs.lemmas.List.Elements.{All-head, All-tail}
+use Rattle.chains.proofs.Cases.{some_or_none}
 use Rattle.partial_tree.specs.declared.message.found.Claim.{Claim}
 use Rattle.partial_tree.specs.declared.message.found.NewClaims.{NewClaims}
 use Rattle.node_maps.specs.Digest.{Hash}
@@ -15,7 +16,7 @@ use Rattle.node_maps.specs.Known.{Known, look}
 use Rattle.partial_tree.specs.Joins.{insert_absent, with_new, insert_new}
 use Rattle.partial_tree.specs.Evidence.{HasClaim, IsNoted, Grows}
 use Rattle.node_maps.proofs.Known.{look-insert_same, look-insert_other, place_total}
-use Rattle.partial_tree.proofs.ClaimValues.{there_or_not, first_of_two, second_of_two}
+use Rattle.partial_tree.proofs.ClaimValues.{first_of_two, second_of_two}
 
 pub has_claim-push : (cs : List Claim) (c : Claim) (l i : ℕ) (v : Hash) → HasClaim cs l i v → HasClaim (cs ++ c ∷ []) l i v
 has_claim-push [] c l i v h = absurd h
@@ -119,9 +120,9 @@ module _ (C : PartialTree) where
       → ((l i : ℕ) (v : Hash) → C l i ≡ Some v → (look m l i ≡ Some v) ⊎ ((look m l i ≡ None) × HasClaim cs l i v))
       → (l i : ℕ) → look (insert_new m cs) l i ≡ joined (look m) C l i
   unfolding Sound
-  insert_new-joined cs m sound complete l i = elim (there_or_not (look m l i)) [
+  insert_new-joined cs m sound complete l i = elim (some_or_none (look m l i)) [
     | inl (v, known) ↦ all_new-keeps cs m l i v known ∙ sym (first_of_two (look m l i) (C l i) v known)
-    | inr none ↦ elim (there_or_not (C l i)) [
+    | inr none ↦ elim (some_or_none (C l i)) [
       | inr nothing ↦ all_new-other cs m l i sound nothing ∙ none ∙ sym nothing ∙ sym (second_of_two (look m l i) (C l i) none)
       | inl (v, claim) ↦ elim (complete l i v claim) [
         | inl known ↦ absurd (none-some v (sym none ∙ known))

@@ -5,17 +5,18 @@ use Rattle.std.proofs.lemmas.Nat.{mod_below}
 use Rattle.std.specs.Borrow.{Bor}
 use Rattle.std.proofs.lemmas.Option.{none-some, slice_get-get_or}
 use Rattle.std.proofs.lemmas.Bool.{and_from, cond-true, eq-eqb, le-leb, lt-ltb, cases_lt}
+use Rattle.hashtree.proofs.Pairs.{two-pow}
+use Rattle.chains.proofs.Cases.{some_or_none}
 use Rattle.node_maps.specs.Digest.{Hash, join}
 use Rattle.node_maps.specs.Known.{Known, look}
 use Rattle.node_maps.specs.Places.{tree_height, PartialTree, IsKnown}
 use Rattle.node_maps.specs.Runs.{AreKnown}
-use Rattle.node_maps.proofs.Places.{two_halves}
 use Rattle.partial_tree.specs.TreeRoot.{TreeRoot}
 use Rattle.partial_tree.specs.Closed.{IsClosed}
 use Rattle.partial_tree.specs.Claims.{HasNew, IsAgreed, joined}
 use Rattle.partial_tree.specs.Fill.{fill_ask, fill_hashes, fill_claims, pad_from}
 use Rattle.partial_tree.specs.Joins.{Joins}
-use Rattle.partial_tree.proofs.ClaimValues.{there_or_not, first_of_two, second_of_two, claims-given}
+use Rattle.partial_tree.proofs.ClaimValues.{first_of_two, second_of_two, claims-given}
 use Rattle.partial_tree.proofs.WholeLayers.{full}
 use Rattle.partial_tree.proofs.Layers.{layer_evidence, layer-leads}
 use Rattle.partial_tree.proofs.Rows.{claim-in_row}
@@ -25,7 +26,7 @@ missing : (f : ℕ → Option Hash) (n : ℕ) → AreKnown f 0 n ⊎ ((j : ℕ) 
 missing f zero = inl (λ j low. absurd (omega arith))
 missing f (suc n) = elim (missing f n) [
   | inr (j, low, none) ↦ inr (j, omega (arith, low), none)
-  | inl known ↦ elim (there_or_not (f n)) [
+  | inl known ↦ elim (some_or_none (f n)) [
     | inr none ↦ inr (n, omega arith, none)
     | inl (v, there) ↦ inl (λ j low. elim (cases_lt j n) [
       | inl less ↦ known j less
@@ -68,7 +69,7 @@ module _ (t : TreeRoot) (K : PartialTree) (l : ℕ) (hashes : Bor (List Hash)) (
           let height : suc (tree_height t.length - suc (l + d)) ≡ tree_height t.length - (l + d) = omega (arith, low) in
           let half : i < 2 ^ (tree_height t.length - suc (l + d)) = subst (λ k. i < 2 ^ (tree_height t.length - k)) next within in
           let wide : 2 * i < 2 ^ (tree_height t.length - (l + d)) =
-          subst (λ k. 2 * i < 2 ^ k) height (omega (arith, half, two_halves (tree_height t.length - suc (l + d)))) in
+          subst (λ k. 2 * i < 2 ^ k) height (omega (arith, half, two-pow (tree_height t.length - suc (l + d)))) in
           subst (λ k. IsKnown K k i) (sym next) (up (l + d) i (omega (arith, low)) (above-known d (2 * i) (omega (arith, low)) wide))
 
       claimed-known : (k i : ℕ) (v : Hash) → fill_claims t.length l hashes.now k i ≡ Some v → IsKnown K k i
@@ -83,9 +84,9 @@ module _ (t : TreeRoot) (K : PartialTree) (l : ℕ) (hashes : Bor (List Hash)) (
           subst (λ n. IsKnown K n i) at (above-known (k - l) i (omega (arith, at, under.0)) (subst (λ n. i < 2 ^ (tree_height t.length - n)) (sym at) low))
 
       pub nothing-new : IsAgreed K (fill_claims t.length l hashes.now) → (k i : ℕ) → K k i ≡ joined K (fill_claims t.length l hashes.now) k i
-      nothing-new agreed k i = elim (there_or_not (K k i)) [
+      nothing-new agreed k i = elim (some_or_none (K k i)) [
         | inl (v, there) ↦ there ∙ sym (first_of_two (K k i) (fill_claims t.length l hashes.now k i) v there)
-        | inr none ↦ elim (there_or_not (fill_claims t.length l hashes.now k i)) [
+        | inr none ↦ elim (some_or_none (fill_claims t.length l hashes.now k i)) [
           | inl (v, claim) ↦ (let w = claimed-known k i v claim in absurd (none-some w.0 (sym none ∙ w.1)))
           | inr nothing ↦ none ∙ sym nothing ∙ sym (second_of_two (K k i) (fill_claims t.length l hashes.now k i) none)
         ]

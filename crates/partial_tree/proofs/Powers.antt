@@ -1,11 +1,9 @@
 -- Powers of two, and their logarithm.
-use Rattle.std.proofs.Common.{◌≡◌, ℕ, ◌+◌, ◌*◌, ◌/◌, ◌^◌, ◌<◌, ◌≤◌, inl, inr, sym, ap, ◌∙◌, arith, le_antisymm}
+use Rattle.std.proofs.Common.{◌≡◌, ℕ, ◌+◌, ◌*◌, ◌/◌, ◌^◌, ◌<◌, ◌≤◌, inl, inr, sym, ap, ◌∙◌, arith}
 use Rattle.std.proofs.lemmas.Bool.{cases_lt}
 use Rattle.std.proofs.lemmas.Nat.{pow_below, div-mul-add}
 use Rattle.wire.specs.declared.message.Ask.{Ask}
-use Rattle.hashtree.specs.Tree.{height}
 use Rattle.partial_tree.specs.Claims.{span, GoodRange}
-use Rattle.hashtree.proofs.Heights.{height_enough, height_least}
 
 -- the larger power has the larger exponent
 pub exponent_le : (j k : ℕ) → 2 ^ j ≤ 2 ^ k → j ≤ k
@@ -13,13 +11,6 @@ exponent_le j k h = elim (cases_lt k j) [
   | inl less ↦ let low : 2 ^ k < 2 ^ j = pow_below k j less in absurd (omega arith)
   | inr le ↦ le
 ]
-
--- the logarithm of a power
-pub height_pow : (k : ℕ) → height (2 ^ k) ≡ k
-height_pow k = le_antisymm (height_least (2 ^ k) k (le_here (2 ^ k))) (exponent_le k (height (2 ^ k)) (height_enough (2 ^ k)))
-  where
-    le_here : (n : ℕ) → n ≤ n
-    le_here n = omega arith
 
 -- a quotient by a power that is not passed is 0
 pub div_small : (n w : ℕ) → n < w → n / w ≡ 0

@@ -5,9 +5,10 @@ use Rattle.std.proofs.lemmas.Nat.{mul-le}
 use Rattle.std.proofs.Math.Nat.{pow-le-pow_right}
 use Rattle.wire.specs.declared.message.Ask.{Ask}
 use Rattle.hashtree.specs.Tree.{height}
+use Rattle.hashtree.proofs.Heights.{height_pow}
 use Rattle.node_maps.specs.Digest.{Hash}
 use Rattle.partial_tree.specs.Claims.{span, sibling, top_layer, GoodRange}
-use Rattle.partial_tree.proofs.Powers.{exponent_le, height_pow, spans-some}
+use Rattle.partial_tree.proofs.Powers.{exponent_le, spans-some}
 
 pub pow_more : (j k : ℕ) → j ≤ k → 2 ^ j ≤ 2 ^ k
 pow_more j k le = pow-le-pow_right (omega arith) le

@@ -8,6 +8,7 @@ use Rattle.std.proofs.lemmas.Bool.{and_from, eq-eqb, le-leb, lt-ltb, cond-true}
 use Rattle.std.proofs.lemmas.List.{length-replicate, get_or-append_right, get_or-replicate}
 use Rattle.std.proofs.lemmas.List.Elements.{All-append, All-replicate}
 use Rattle.std.proofs.lemmas.Nat.{div_below}
+use Rattle.chains.proofs.Cases.{some_or_none}
 use Rattle.partial_tree.specs.TreeRoot.{TreeRoot}
 use Rattle.node_maps.specs.Places.{tree_height, PartialTree}
 use Rattle.node_maps.specs.Digest.{Hash, IsHash}
@@ -15,11 +16,11 @@ use Rattle.hashtree.specs.Tree.{pad_leaf, block_count, zero_hash}
 use Rattle.partial_tree.specs.Closed.{IsClosed}
 use Rattle.partial_tree.specs.Claims.{span, cover, given, base_hash, uncle_hash, joined, top_layer, IsAgreed}
 use Rattle.partial_tree.specs.Fill.{fill_ask, fill_hashes, fill_claims, pad_from}
-use Rattle.hashtree.proofs.Heights.{height_enough, pow_split}
-use Rattle.partial_tree.proofs.Powers.{height_pow, div_small}
+use Rattle.hashtree.proofs.Heights.{height_enough, pow_split, height_pow}
+use Rattle.partial_tree.proofs.Powers.{div_small}
 use Rattle.hashtree.proofs.Zeros.{zero_hash-zero, zero_hash-suc}
 use Rattle.partial_tree.proofs.Digests.{is_hash}
-use Rattle.partial_tree.proofs.ClaimValues.{either, there_or_not, first_of_two, second_of_two, base-read, uncle-read, claims-read, claims-zero, claims-given}
+use Rattle.partial_tree.proofs.ClaimValues.{either, first_of_two, second_of_two, base-read, uncle-read, claims-read, claims-zero, claims-given}
 use Rattle.partial_tree.proofs.Joining.{joined-closed_by_parts}
 
 pub pad-is_hash : IsHash pad_leaf
@@ -151,9 +152,9 @@ module _ (t : TreeRoot) (K : PartialTree) (l : ℕ) (hashes : List Hash) (layer_
   ]
     where
       same : l ≡ tree_height t.length → (k i : ℕ) → K k i ≡ joined K (fill_claims t.length l hashes) k i
-      same root k i = elim (there_or_not (K k i)) [
+      same root k i = elim (some_or_none (K k i)) [
         | inl (v, known) ↦ known ∙ sym (first_of_two (K k i) (fill_claims t.length l hashes k i) v known)
-        | inr none ↦ elim (there_or_not (fill_claims t.length l hashes k i)) [
+        | inr none ↦ elim (some_or_none (fill_claims t.length l hashes k i)) [
           | inl (v, claim) ↦ let at = claims-root root k i v claim in absurd (none-some t.root (sym none ∙ ap₂ K at.0 at.1 ∙ closed.root_known))
           | inr nothing ↦ none ∙ sym nothing ∙ sym (second_of_two (K k i) (fill_claims t.length l hashes k i) none)
         ]

@@ -1,24 +1,22 @@
 -- What the second pass leaves of what is known.
-use Rattle.std.proofs.Common.{◌≡◌, ◌≢◌, ◌⊎◌, ℕ, ◌+◌, ◌-◌, ◌*◌, ◌/◌, ◌^◌, ◌<◌, ◌≤◌, Option, Some, None, inl, inr, refl, sym, ap, ap₂, ◌∙◌, arith, shr-shr}
+use Rattle.std.proofs.Common.{◌≡◌, ◌≢◌, ◌⊎◌, ℕ, ◌+◌, ◌-◌, ◌*◌, ◌/◌, ◌^◌, ◌<◌, ◌≤◌, Some, inl, inr, sym, ap, ap₂, ◌∙◌, arith, shr-shr}
 use Rattle.std.proofs.Common.{div-one, eq-or-lt_of_le}
 use Rattle.std.specs.FinMap.{len}
 use Rattle.std.specs.Option.{option_or}
 use Rattle.std.proofs.lemmas.Bool.{cases_eq, cases_lt}
+use Rattle.chains.proofs.Cases.{some_or_none}
 use Rattle.node_maps.specs.Digest.{Hash}
 use Rattle.node_maps.specs.Places.{PartialTree}
 use Rattle.node_maps.specs.Known.{Known, look}
+use Rattle.node_maps.proofs.Known.{or_none}
 use Rattle.partial_tree.specs.declared.message.evidence.Evidence.{Evidence}
 use Rattle.partial_tree.specs.declared.message.found.Claim.{Claim}
 use Rattle.partial_tree.specs.Claims.{joined, IsAgreed}
 use Rattle.partial_tree.specs.Joins.{with_new, Joins}
 use Rattle.partial_tree.specs.Evidence.{claimed_by, LiesUnder, LiesBelow, IsWritten, IsWrittenBelow, LeadsTo}
-use Rattle.partial_tree.proofs.ClaimValues.{there_or_not, first_of_two, second_of_two}
+use Rattle.partial_tree.proofs.ClaimValues.{first_of_two, second_of_two}
 use Rattle.partial_tree.proofs.Noting.{here_or_not, new-here, new-keeps, absent-other}
 use Rattle.partial_tree.proofs.Tracing.{under_child}
-
-pub none_beside : (o p : Option Hash) → p ≡ None → option_or o p ≡ o
-none_beside None p e = e
-none_beside (Some x) p e = refl
 
 -- ---- below a place
 
@@ -56,7 +54,7 @@ children-written C K first second layer index some left right = record {
 -- ---- at a place
 
 pub new-at : (m : Known) (c : Claim) → look (with_new m c) c.layer c.index ≡ option_or (look m c.layer c.index) (Some c.hash)
-new-at m c = elim (there_or_not (look m c.layer c.index)) [
+new-at m c = elim (some_or_none (look m c.layer c.index)) [
   | inl (v, known) ↦ new-keeps m c c.layer c.index v known ∙ sym (first_of_two (look m c.layer c.index) (Some c.hash) v known)
   | inr none ↦ new-here m c none ∙ sym (second_of_two (look m c.layer c.index) (Some c.hash) none)
 ]
@@ -113,11 +111,11 @@ pub written-joins : (e : Evidence) (m : Known) (layer index c : ℕ) (after : Kn
     → len after ≡ len m + c → Joins (claimed_by e) m after c
 written-joins e m layer index c after leads agreed written gained = record {
   agreed = agreed;
-  joined_is = λ l i. elim (there_or_not (claimed_by e l i)) [
+  joined_is = λ l i. elim (some_or_none (claimed_by e l i)) [
     | inl (v, claim) ↦ written.under l i (leads.under_top l i v claim)
     | inr none ↦ elim (under_or_not layer index l i) [
       | inl u ↦ written.under l i u
-      | inr beside ↦ written.elsewhere l i beside ∙ sym (none_beside (look m l i) (claimed_by e l i) none)
+      | inr beside ↦ written.elsewhere l i beside ∙ sym (or_none (look m l i) (claimed_by e l i) none)
     ]
   ];
   gained = gained;

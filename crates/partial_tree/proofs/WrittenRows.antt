@@ -5,10 +5,12 @@ use Rattle.std.proofs.Common.{div-add-mod', pow_pos, pow_mono}
 use Rattle.std.specs.Option.{option_or}
 use Rattle.std.proofs.lemmas.Bool.{cases_lt}
 use Rattle.std.proofs.lemmas.Nat.{div-mul-add, mod_below}
+use Rattle.hashtree.proofs.Pairs.{two-pow}
+use Rattle.chains.proofs.Cases.{some_or_none}
 use Rattle.node_maps.specs.Digest.{Hash}
 use Rattle.node_maps.specs.Places.{PartialTree}
 use Rattle.node_maps.specs.Known.{Known, look}
-use Rattle.node_maps.proofs.Places.{two_halves}
+use Rattle.node_maps.proofs.Known.{or_none}
 use Rattle.partial_tree.specs.declared.message.evidence.Evidence.{Evidence}
 use Rattle.partial_tree.specs.declared.message.found.Claim.{Claim}
 use Rattle.partial_tree.specs.declared.message.row.Row.{Row}
@@ -17,18 +19,17 @@ use Rattle.partial_tree.specs.Joins.{with_new}
 use Rattle.partial_tree.specs.Evidence.{claimed_by, LiesUnder}
 use Rattle.partial_tree.specs.FoldedRows.{place_in}
 use Rattle.partial_tree.specs.WrittenRows.{IsBelowRowWritten, IsRowWritten, LiesBelowRow}
-use Rattle.partial_tree.proofs.ClaimValues.{there_or_not}
 use Rattle.partial_tree.proofs.FoldedRows.{claims-below}
 use Rattle.partial_tree.proofs.Noting.{here_or_not}
 use Rattle.partial_tree.proofs.Tracing.{under_child}
-use Rattle.partial_tree.proofs.Written.{apart, below-left, below-right, new-at, new-other, none_beside}
+use Rattle.partial_tree.proofs.Written.{apart, below-left, below-right, new-at, new-other}
 
 -- nothing is claimed below the base range
 pub base-written : (e : Evidence) (K : PartialTree) (row : Row) → row.layer ≡ e.base → IsBelowRowWritten (claimed_by e) row K K
 base-written e K row at = record {
-  below = λ l i under. elim (there_or_not (claimed_by e l i)) [
+  below = λ l i under. elim (some_or_none (claimed_by e l i)) [
     | inl (v, is) ↦ let low : l < row.layer = under.1 in absurd (claims-below e l i v (omega (arith, low, at)) is)
-    | inr none ↦ sym (none_beside (K l i) (claimed_by e l i) none)
+    | inr none ↦ sym (or_none (K l i) (claimed_by e l i) none)
   ];
   elsewhere = λ l i out. refl;
 }
@@ -161,7 +162,7 @@ children-few l d n some few =
 pub rows-few : (l d a b : ℕ) → 1 ≤ l → a + 2 ^ d ≤ 2 ^ suc (l - 1 + d) → b + 2 ^ d ≤ 2 ^ suc (l - 1 + d) → a + b + 2 ^ suc d ≤ 2 ^ suc (l + d)
 rows-few l d a b some left right =
     let half : 2 ^ suc (l - 1 + d) ≡ 2 ^ (l + d) = (let e : suc (l - 1 + d) ≡ l + d = omega (arith, some) in ap (λ k. 2 ^ k) e) in
-    omega (arith, left, right, half, two_halves d, two_halves (l + d))
+    omega (arith, left, right, half, two-pow d, two-pow (l + d))
 
 -- a tree has few enough places to count
 pub places-few : (l d n : ℕ) → l + d ≤ 32 → n + 2 ^ suc d ≤ 2 ^ suc (l + d) → n + 2 ^ suc d ≤ 2 ^ 33

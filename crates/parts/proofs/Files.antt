@@ -1,16 +1,16 @@
 -- The verdict on one file, from the verdicts of the parts.
 use Rattle.std.proofs.Common.{◌≡◌, ◌⊎◌, inl, inr, ℕ, zero, suc, ◌+◌, ◌-◌, ◌*◌, ◌^◌, ◌<◌, ◌≤◌, List, [], length, replicate, get_or}
 use Rattle.std.proofs.Common.{slice_get, Option, Some, None, option_and_then, refl, ap, sym, ◌∙◌, subst, arith}
-use Rattle.std.proofs.Math.Nat.{lt-div-mul-add, div-mul-le_self}
+use Rattle.std.proofs.Math.Nat.{div-mul-le_self}
 use Rattle.std.proofs.lemmas.Bool.{cases_lt}
 use Rattle.std.proofs.lemmas.List.{length-append, length-replicate, get_or_append_left, get_or-append_right, get_or-replicate}
-use Rattle.std.proofs.lemmas.List.FromFn.{fill_by_all, length-map-range_with_len}
+use Rattle.std.proofs.lemmas.List.FromFn.{fill_by_all}
 use Rattle.sha2.proofs.Facts256.{length-sha256}
 use Rattle.std.proofs.lemmas.Option.{slice_get-get_or, get_or_from_slice_get}
 use Rattle.hashtree.specs.Tree.{block_count, filled, first_pad, height, layer_count, layer_of, node, root_of, root_over, tree, zero_hash}
 use Rattle.hashtree.proofs.Comparing.{length-layer_of}
 use Rattle.hashtree.proofs.Heights.{first_pad-fits, height_enough}
-use Rattle.hashtree.proofs.Leading.{layers_lead_to_root}
+use Rattle.hashtree.proofs.Leading.{layers_lead_to_root, length-layer_count}
 use Rattle.opening.specs.Description.{Description, FileEntry, TreeEntry}
 use Rattle.pieces.specs.Pieces.{IsPieceLength, pieces_of}
 use Rattle.opening.specs.Sound.{IsSound, IsSoundTree, piece_layer}
@@ -77,12 +77,9 @@ all_listed pl e bytes legal sound len long each =
     let l = layered pl e bytes legal sound len long in
     let m : ℕ = piece_layer pl in
     let same : layer_of bytes m ≡ e.layer =
-    sym (fill_by_all (node bytes m) e.layer (layer_count (block_count (length bytes)) m) [] (sym l.own_count ∙ count bytes m)
-    (λ k lt. get_or_from_slice_get e.layer k (node bytes m k) [] (each k (omega (arith, lt, l.own_count, count bytes m))))) in
+    sym (fill_by_all (node bytes m) e.layer (layer_count (block_count (length bytes)) m) [] (sym l.own_count ∙ length-layer_count bytes m)
+    (λ k lt. get_or_from_slice_get e.layer k (node bytes m k) [] (each k (omega (arith, lt, l.own_count, length-layer_count bytes m))))) in
     same_root pl e m e.layer bytes (record { at_root = λ short. absurd (omega (arith, short, long)); at_pieces = λ _. (refl, refl) }) sound len same
-  where
-    count : (bytes : List ℕ) (m : ℕ) → length (layer_of bytes m) ≡ layer_count (block_count (length bytes)) m
-    count bytes m = length-map-range_with_len (node bytes m) 0 (layer_count (block_count (length bytes)) m)
 
 zero-is_hash : (m : ℕ) → length (zero_hash m) ≡ 32
 unfolding tree
@@ -134,23 +131,14 @@ other_collides pl e bytes k legal sound fits long lt differs =
   where
     own_hashes : (e : TreeEntry) (bytes : List ℕ) (m : ℕ) → length bytes ≡ e.length → m ≤ height (block_count e.length)
         → length (layer_of bytes m) ≡ length e.layer → length e.layer ≡ first_pad (block_count e.length) m → AreHashes (layer_of bytes m)
-    own_hashes e bytes m len low count pads j inside =
+    own_hashes e bytes m len low length-layer_count pads j inside =
         let h : ℕ = height (block_count e.length) in
         let room : first_pad (block_count e.length) m ≤ 2 ^ (h - m) = first_pad-fits (block_count e.length) h m low (height_enough (block_count e.length)) in
         let same_h : h ≡ height (block_count (length bytes)) = ap (λ n. height (block_count n)) (sym len) in
         ap length (layer_of_at bytes m j inside)
-        ∙ length-node bytes m j (subst (λ g. m ≤ g) same_h low) (subst (λ g. j < 2 ^ (g - m)) same_h (omega (arith, inside, count, pads, room)))
+        ∙ length-node bytes m j (subst (λ g. m ≤ g) same_h low) (subst (λ g. j < 2 ^ (g - m)) same_h (omega (arith, inside, length-layer_count, pads, room)))
 
 -- ---- pieces
-
-pub some_piece : (pl len : ℕ) → 0 < pl → 0 < len → 0 < pieces_of pl len
-some_piece pl len some given =
-    let lt : len + (pl - 1) < pieces_of pl len * pl + pl = lt-div-mul-add {a = len + (pl - 1)} {b = pl} some in
-    positive (pieces_of pl len) (omega (arith, lt, given))
-  where
-    positive : (c : ℕ) → 0 < c * pl → 0 < c
-    positive zero h = absurd (omega (arith, h))
-    positive (suc c) h = omega arith
 
 pub one_piece : (pl len : ℕ) → 0 < pl → len ≤ pl → pieces_of pl len ≤ 1
 one_piece pl len some le =

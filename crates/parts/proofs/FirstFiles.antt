@@ -1,11 +1,11 @@
 -- What the check of a part found of the first files of a torrent.
-use Rattle.std.proofs.Common.{◌≡◌, ◌⊎◌, inl, inr, ℕ, ◌+◌, ◌-◌, ◌<◌, ◌≤◌, min, List, [], ◌∷◌, ◌++◌}
+use Rattle.std.proofs.Common.{◌≡◌, inl, inr, ℕ, ◌+◌, ◌-◌, ◌<◌, ◌≤◌, min, List, [], ◌∷◌, ◌++◌}
 use Rattle.std.proofs.Common.{length, slice_get, Option, Some, refl, ap, sym, ◌∙◌, subst, arith}
 use Rattle.std.proofs.lemmas.Bool.{cases_lt}
-use Rattle.std.proofs.lemmas.List.{length_push, get_or_push, get_or_append_left}
+use Rattle.std.proofs.lemmas.List.{length_push}
 use Rattle.std.proofs.lemmas.List.Sums.{sum_by-take-le}
-use Rattle.std.proofs.lemmas.Option.{same_Some, slice_get_within, slice_get-get_or, get_or_from_slice_get}
-use Rattle.chains.proofs.Cases.{last_or_before}
+use Rattle.std.proofs.lemmas.Option.{same_Some, slice_get_within}
+use Rattle.chains.proofs.Cases.{last_or_before, pushed_at, pushed_last, item_stays}
 use Rattle.opening.specs.Description.{Description, FileEntry, Version1}
 use Rattle.opening.specs.Sound.{IsSound}
 use Rattle.pieces.specs.Pieces.{pieces_of}
@@ -199,27 +199,6 @@ pub record HasFoundFirst (t : Description) (r : Places) (under : List (List ℕ)
   pub agree : (k : ℕ) (f : FileEntry) (c : Option (List ℕ)) → slice_get t.files k ≡ Some f → slice_get seen k ≡ Some c → Agrees (under f.path) c
   pub stated : (contents : Contents) → Extends seen contents → IsFoundOfFirst t r contents n files v1
 
--- an item of a list that one more was pushed to
-pub pushed_at : {A : Type 0} (xs : List A) (x y : A) (k : ℕ) → slice_get (xs ++ x ∷ []) k ≡ Some y → (slice_get xs k ≡ Some y) ⊎ ((k ≡ length xs) × (x ≡ y))
-pushed_at xs x y k is =
-    let inside : k < length xs + 1 = omega (arith, slice_get_within (xs ++ x ∷ []) k y is, length_push xs x) in
-    elim (last_or_before k (length xs) inside) [
-      | inl before ↦ inl (
-          slice_get-get_or xs k y before
-          ∙ ap Some (sym (get_or_append_left xs (x ∷ []) y k before) ∙ get_or_from_slice_get (xs ++ x ∷ []) k y y is))
-      | inr last ↦ inr (last, sym (get_or_push xs x y k (sym last)) ∙ get_or_from_slice_get (xs ++ x ∷ []) k y y is)
-    ]
-
-pushed_before : {A : Type 0} (xs : List A) (x y : A) (k : ℕ) → slice_get xs k ≡ Some y → slice_get (xs ++ x ∷ []) k ≡ Some y
-pushed_before xs x y k is =
-    let inside : k < length xs = slice_get_within xs k y is in
-    slice_get-get_or (xs ++ x ∷ []) k y (omega (arith, length_push xs x))
-    ∙ ap Some (get_or_append_left xs (x ∷ []) y k inside ∙ get_or_from_slice_get xs k y y is)
-
-pushed_last : {A : Type 0} (xs : List A) (x : A) (k : ℕ) → k ≡ length xs → slice_get (xs ++ x ∷ []) k ≡ Some x
-pushed_last xs x k at =
-    slice_get-get_or (xs ++ x ∷ []) k x (omega (arith, length_push xs x)) ∙ ap Some (get_or_push xs x x k (sym at))
-
 one_found : (t : Description) (r : Places) (contents : Contents) (n : ℕ) (files : List FileVerdict) (a : V1Verdict) (f : FileEntry)
     (stated : Option (Option (List ℕ))) (v : Verdicts) → slice_get t.files n ≡ Some f → length files ≡ n → (found : FindsFile t r f stated v)
     → contents n ≡ found.content → IsFoundOfFirst t r contents n files a → IsFoundOfFirst t r contents (n + 1) (files ++ v.file ∷ []) (worse_v1 a v.v1)
@@ -253,7 +232,7 @@ found_one t r under n files a f v there count found so_far = record {
   stated = λ contents extends.
       one_found t r contents n files a f (under f.path) v there count found
       (extends n found.content (pushed_last so_far.seen found.content n (sym so_far.count)))
-      (so_far.stated contents (λ k c at. extends k c (pushed_before so_far.seen found.content c k at)));
+      (so_far.stated contents (λ k c at. extends k c (item_stays so_far.seen (found.content ∷ []) k c at)));
 }
 
 -- none yet

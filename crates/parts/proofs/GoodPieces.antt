@@ -1,5 +1,5 @@
 -- Whether a piece that was read is good.
-use Rattle.std.proofs.Common.{◌≡◌, ◌⊎◌, inl, inr, ℕ, ◌+◌, ◌-◌, ◌*◌, ◌^◌, ◌<◌, ◌≤◌, min, Bool, true, false, IsTrue, List, ◌++◌}
+use Rattle.std.proofs.Common.{◌≡◌, inl, inr, ℕ, ◌+◌, ◌-◌, ◌*◌, ◌^◌, ◌<◌, ◌≤◌, min, Bool, true, false, IsTrue, List, ◌++◌}
 use Rattle.std.proofs.Common.{length, drop, replicate, slice_get, Option, Some, None, refl, ap, sym, ◌∙◌, subst, arith}
 use Rattle.std.proofs.Math.Nat.{mul-le-mul, pow-le-pow_right}
 use Rattle.std.proofs.lemmas.List.{length-take, length-drop}
@@ -7,6 +7,7 @@ use Rattle.std.proofs.lemmas.List.Sums.{sum_by-take-le}
 use Rattle.std.proofs.lemmas.Option.{same_Some}
 use Rattle.std.specs.Str.{bytes_eq}
 use Rattle.std.proofs.lemmas.Slice.Eq.{bytes_eq-Decides}
+use Rattle.chains.proofs.Cases.{last_or_before}
 use Rattle.sha1.specs.Sha1.{sha1}
 use Rattle.hashtree.specs.Tree.{block_count, height, root_of, node}
 use Rattle.hashtree.proofs.Blocks.{length-block_hashes}
@@ -121,11 +122,8 @@ in_layer t n f e k sound there is long lt =
 pub first_next : (from n : ℕ) (IsGood : ℕ → Type 0) (o : Option ℕ) (good : Bool) → from ≤ n → (IsTrue good → IsGood n) → (IsGood n → IsTrue good)
     → IsFirstBad from n IsGood o → IsFirstBad from (n + 1) IsGood (first_of o n good)
 first_next from n IsGood (Some p) good le onto back so_far = (so_far.0, omega (arith, so_far.1), so_far.2, so_far.3)
-first_next from n IsGood None true le onto back so_far = λ k low lt. elim (before k n lt) [
+first_next from n IsGood None true le onto back so_far = λ k low lt. elim (last_or_before k n lt) [
   | inl less ↦ so_far k low less
   | inr same ↦ subst IsGood (sym same) (onto refl)
 ]
-  where
-    before : (k n : ℕ) → k < n + 1 → (k < n) ⊎ (k ≡ n)
-    before k n lt = grind arith
 first_next from n IsGood None false le onto back so_far = (le, omega arith, λ good. let e : false ≡ true = back good in (let x : ⊥ = cc in x), so_far)

@@ -1,12 +1,14 @@
 -- The verdict on one file, from what the parts say of it.
-use Rattle.std.proofs.Common.{◌≡◌, ◌⊎◌, inl, inr, ℕ, zero, suc, ◌+◌, ◌-◌, ◌<◌, ◌≤◌, List, [], ◌∷◌, length, slice_get, Option, Some}
+use Rattle.std.proofs.Common.{◌≡◌, ◌⊎◌, inl, inr, ℕ, zero, suc, ◌+◌, ◌<◌, ◌≤◌, List, length, slice_get, Option, Some}
 use Rattle.std.proofs.Common.{refl, ap, sym, ◌∙◌, subst, arith}
-use Rattle.std.proofs.Math.Nat.{div-eq_of_lt-le}
 use Rattle.std.proofs.lemmas.Option.{same_Some}
+use Rattle.std.proofs.lemmas.List.{nil_from_length}
+use Rattle.std.proofs.lemmas.Bool.{cases_lt}
+use Rattle.chains.proofs.Cases.{same_or_not}
 use Rattle.hashtree.specs.Tree.{block_count, filled, height, layer_of, root_of}
-use Rattle.parts.proofs.Lists.{same_or_not}
 use Rattle.opening.specs.Description.{Description, FileEntry, TreeEntry}
 use Rattle.pieces.specs.Pieces.{pieces_of}
+use Rattle.pieces.proofs.Cutting.{some_pieces, cut_count_none}
 use Rattle.opening.specs.Sound.{IsSound, piece_layer}
 use Rattle.folders.specs.Folder.{FitsTree, IsGoodFile, tree_entry_of}
 use Rattle.folders.specs.Verdicts.{IsBad, IsFirstBadPiece, IsListedNode, IsVerdict}
@@ -18,7 +20,7 @@ use Rattle.parts.specs.Collisions.{RowsCollide}
 use Rattle.parts.specs.Joins.{IsWorst, NoWorse}
 use Rattle.parts.specs.declared.places.Places.{Places}
 use Rattle.parts.specs.Parts.{Holds, IsBadIn, IsGoodIn, IsPartVerdict, IsPieceGood, last_place, piece_count}
-use Rattle.parts.proofs.Files.{all_listed, at_most_bad, none_better, one_piece, other_collides, some_piece, tree_of_file}
+use Rattle.parts.proofs.Files.{all_listed, at_most_bad, none_better, one_piece, other_collides, tree_of_file}
 
 -- this content fits the file's tree, and collides with the piece layer
 pub record ContentCollides (t : Description) (f : FileEntry) (content : Option (List ℕ)) : Type 0 where
@@ -50,9 +52,6 @@ good_node t f e bytes k is good long =
     let same = piece_tree t f e bytes k is good in
     subst (λ (d : TreeEntry). IsListedNode t.piece_length d bytes k) same (good.listed (subst (λ (d : TreeEntry). t.piece_length < d.length) (sym same) long))
 
-short_or_long : (a b : ℕ) → (a ≤ b) ⊎ (b < a)
-short_or_long a b = grind arith
-
 -- all pieces are good: the root is the tree's
 root_from_pieces : (t : Description) (n : ℕ) (f : FileEntry) (e : TreeEntry) (bytes : List ℕ) → IsSound t → slice_get t.files n ≡ Some f
     → tree_entry_of t f ≡ Some e
@@ -60,9 +59,9 @@ root_from_pieces : (t : Description) (n : ℕ) (f : FileEntry) (e : TreeEntry) (
 root_from_pieces t n f e bytes sound there is len each =
     let tree = has_tree t n f e sound there is in
     let sound_e = sound_tree t f e sound is in
-    elim (short_or_long e.length t.piece_length) [
-      | inl short ↦ good_root t f e bytes 0 is (each 0 (some_piece t.piece_length f.length (pieces_are_positive t sound) tree.1)) short
-      | inr long ↦ all_listed t.piece_length e bytes sound.legal sound_e (len ∙ sym tree.0) long
+    elim (cases_lt t.piece_length e.length) [
+      | inr short ↦ good_root t f e bytes 0 is (each 0 (some_pieces t.piece_length f.length (pieces_are_positive t sound) tree.1)) short
+      | inl long ↦ all_listed t.piece_length e bytes sound.legal sound_e (len ∙ sym tree.0) long
           (λ k lt. good_node t f e bytes k is (each k (subst (λ c. k < c) (sound_e.layer_length long ∙ ap (pieces_of t.piece_length) tree.0) lt)) long)
     ]
 
@@ -75,9 +74,9 @@ bad_collides : (t : Description) (n : ℕ) (f : FileEntry) (e : TreeEntry) (byte
 bad_collides t n f e bytes k sound there is len root inside differs =
     let tree = has_tree t n f e sound there is in
     let sound_e = sound_tree t f e sound is in
-    elim (short_or_long e.length t.piece_length) [
-      | inl short ↦ absurd (differs (record { tree = e; tree_is = is; only = λ _. root; listed = λ long. absurd (omega (arith, short, long)) }))
-      | inr long ↦ other_collides t.piece_length e bytes k sound.legal sound_e (record { length_is = len ∙ sym tree.0; root_is = root }) long
+    elim (cases_lt t.piece_length e.length) [
+      | inr short ↦ absurd (differs (record { tree = e; tree_is = is; only = λ _. root; listed = λ long. absurd (omega (arith, short, long)) }))
+      | inl long ↦ other_collides t.piece_length e bytes k sound.legal sound_e (record { length_is = len ∙ sym tree.0; root_is = root }) long
           (subst (λ c. k < c) (sym (sound_e.layer_length long ∙ ap (pieces_of t.piece_length) tree.0)) inside)
           (λ listed. differs (record { tree = e; tree_is = is; only = λ short. absurd (omega (arith, short, long)); listed = λ _. listed }))
     ]
@@ -160,7 +159,7 @@ module _ {A : Type 0} (places : A → Places) (says : A → FileVerdict) (parts 
         found.0,
         found.1,
         record {
-          empty = λ none. nothing found.0 (found.2 ∙ none);
+          empty = λ none. nil_from_length found.0 (found.2 ∙ none);
           fits = λ some.
               let e = tree_of_file t n f sound there some in (
                 e.0,
@@ -172,10 +171,6 @@ module _ {A : Type 0} (places : A → Places) (says : A → FileVerdict) (parts 
               );
         },
       )
-    where
-      nothing : (bytes : List ℕ) → length bytes ≡ 0 → bytes ≡ []
-      nothing [] len = refl
-      nothing (b ∷ bytes) len = absurd (omega (arith, len))
 
   bad_joined : (q : ℕ) → Said (file.Bad q) → (r : Places) → (bytes : List ℕ) → content ≡ Some bytes → IsBadIn t r f bytes q
       → ((bytes : List ℕ) × (content ≡ Some bytes) × IsBad t f bytes q) ⊎ ContentCollides t f content
@@ -208,11 +203,8 @@ module _ {A : Type 0} (places : A → Places) (says : A → FileVerdict) (parts 
         )
       ]
     where
-      few : (pl : ℕ) → 0 < pl → pieces_of pl 0 ≡ 0
-      few pl some = div-eq_of_lt-le {k = 0} pl {m = 0 + (pl - 1)} (omega arith) (omega (arith, some))
-
       no_piece : (pl k : ℕ) → 0 < pl → k < pieces_of pl 0 → ⊥
-      no_piece pl k some lt = omega (arith, lt, few pl some)
+      no_piece pl k some lt = omega (arith, lt, cut_count_none pl some)
 
       some_length : (len : ℕ) → bad.place < pieces_of t.piece_length len → 0 < len
       some_length zero lt = absurd (no_piece t.piece_length bad.place (pieces_are_positive t sound) lt)

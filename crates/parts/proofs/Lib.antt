@@ -6,7 +6,6 @@ pub mod FoundFiles
 pub mod GoodPieces
 pub mod HeldPieces
 pub mod Joined
-pub mod Lists
 pub mod One
 pub mod PartReads
 pub mod PieceNodes

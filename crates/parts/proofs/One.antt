@@ -1,67 +1,32 @@
 -- Contents have one report, if no file was unreadable.
-use Rattle.std.proofs.Common.{◌≡◌, ◌⊎◌, inl, inr, ℕ, zero, suc, ◌<◌, ◌≤◌, true, false, cond, is_some, List, [], ◌∷◌, length}
+use Rattle.std.proofs.Common.{◌≡◌, inl, inr, ℕ, ◌<◌, true, false, List, length}
 use Rattle.std.proofs.Common.{slice_get, Option, Some, None, refl, ap, sym, ◌∙◌, subst, arith}
 use Rattle.std.specs.List.{list_all}
 use Rattle.std.proofs.lemmas.Bool.{cases_lt}
 use Rattle.std.proofs.lemmas.List.{same_lists}
-use Rattle.std.proofs.lemmas.List.Sums.{sum_by-cons}
 use Rattle.std.proofs.lemmas.Option.{same_Some, none-some, get_or_from_slice_get}
+use Rattle.chains.proofs.Cases.{some_of, item_at}
 use Rattle.pieces.specs.Cuts.{cut_digests, IsFirstDifference}
 use Rattle.opening.specs.Description.{Description, FileEntry, TreeEntry, Version1}
 use Rattle.opening.specs.Sound.{IsSound}
-use Rattle.folders.specs.Folder.{Contents, IsGoodFile, V1Good}
-use Rattle.folders.specs.Verdicts.{IsBad, IsFirstBadPiece, IsFirstBadV1Piece, IsV1Verdict, IsVerdict, fault_count, is_checked}
+use Rattle.folders.specs.Folder.{Contents, V1Good}
+use Rattle.folders.specs.Verdicts.{IsBad, IsFirstBadPiece, IsFirstBadV1Piece, IsV1Verdict, IsVerdict, is_checked}
 use Rattle.folders.specs.Verdicts.{is_unreadable, is_whole, unreadable_count}
 use Rattle.folders.specs.declared.report.FileVerdict.{FileVerdict}
 use Rattle.folders.specs.declared.report.FileVerdict.TheVariants as file
 use Rattle.folders.specs.declared.report.V1Verdict.{V1Verdict}
 use Rattle.folders.specs.declared.report.V1Verdict.TheVariants as version1
-use Rattle.folders.proofs.Reports.{has_tree}
+use Rattle.folders.proofs.Reports.{good_length, not_bad, none_unreadable}
 use Rattle.folders.proofs.Streaming.{one_stream}
 use Rattle.parts.specs.Laws.{IsReportOf}
-use Rattle.parts.proofs.Streams.{at_length}
-
-short_or_long : (a b : ℕ) → (a ≤ b) ⊎ (b < a)
-short_or_long a b = grind arith
 
 -- ---- a file
 
-no_fault : (v : FileVerdict) → fault_count v ≡ 0 → is_unreadable v ≡ false
-no_fault file.Good h = refl
-no_fault file.Missing h = refl
-no_fault file.Unreadable h = absurd (omega (arith, h))
-no_fault file.WrongLength h = refl
-no_fault (file.Bad p) h = refl
-
-none_unreadable : (files : List FileVerdict) (n : ℕ) (v : FileVerdict) → unreadable_count files ≡ 0 → slice_get files n ≡ Some v → is_unreadable v ≡ false
-none_unreadable [] n v none is = absurd (none-some v is)
-none_unreadable (w ∷ ws) zero v none is =
-    subst (λ x. is_unreadable x ≡ false) (same_Some w v is) (no_fault w (omega (arith, none, sum_by-cons (λ x. cond (is_unreadable x) 1 0) w ws)))
-none_unreadable (w ∷ ws) (suc n) v none is =
-    none_unreadable ws n v (omega (arith, none, sum_by-cons (λ x. cond (is_unreadable x) 1 0) w ws)) is
-
-good_length : (t : Description) (n : ℕ) (f : FileEntry) (bytes : List ℕ) → IsSound t → slice_get t.files n ≡ Some f → IsGoodFile t f bytes
-    → length bytes ≡ f.length
-good_length t n f bytes sound there good = by_length f.length refl
-  where
-    by_length : (len : ℕ) → f.length ≡ len → length bytes ≡ f.length
-    by_length zero is = ap length (good.empty is) ∙ sym is
-    by_length (suc len) is =
-        let fits = good.fits (omega (arith, is)) in
-        fits.2.length_is ∙ (has_tree t n f fits.0 sound there fits.1).0
-
-not_bad : (t : Description) (n : ℕ) (f : FileEntry) (bytes : List ℕ) (p : ℕ) → IsSound t → slice_get t.files n ≡ Some f → IsGoodFile t f bytes
-    → IsBad t f bytes p → ⊥
-not_bad t n f bytes p sound there good bad =
-    let fits = good.fits (has_tree t n f bad.tree sound there bad.tree_is).1 in
-    let same : fits.0 ≡ bad.tree = same_Some fits.0 bad.tree (sym fits.1 ∙ bad.tree_is) in
-    bad.root_differs (fits.2.root_is ∙ ap (λ (e : TreeEntry). e.root) same)
-
 -- of two first bad pieces none comes before the other
 not_before : (pl : ℕ) (e : TreeEntry) (bytes : List ℕ) (j k : ℕ) → IsFirstBadPiece pl e bytes j → IsFirstBadPiece pl e bytes k → j < k → ⊥
-not_before pl e bytes j k one other lt = elim (short_or_long e.length pl) [
-  | inl short ↦ omega (arith, other.only short, lt)
-  | inr long ↦ one.differs long (other.same_before long j lt)
+not_before pl e bytes j k one other lt = elim (cases_lt pl e.length) [
+  | inr short ↦ omega (arith, other.only short, lt)
+  | inl long ↦ one.differs long (other.same_before long j lt)
 ]
 
 one_bad : (t : Description) (f : FileEntry) (bytes : List ℕ) (p q : ℕ) → IsBad t f bytes p → IsBad t f bytes q → p ≡ q
@@ -135,18 +100,14 @@ one_v1 t v contents version1.NotChecked version1.Good checked a_is b_is = let no
 one_v1 t v contents version1.NotChecked (version1.Bad j) checked a_is b_is = let no : ⊥ = cc in absurd no
 one_v1 t v contents version1.NotChecked version1.NotChecked checked a_is b_is = refl
 
-pub some_of : {A : Type 0} (o : Option A) → is_some o ≡ true → (x : A) × (o ≡ Some x)
-some_of None h = let no : ⊥ = cc in absurd no
-some_of (Some x) h = (x, refl)
-
 -- ---- reports
 
 same_files : (t : Description) (contents : Contents) (files others : List FileVerdict) (v1 other_v1 : Option V1Verdict) → IsSound t
     → IsReportOf t contents files v1 → IsReportOf t contents others other_v1 → unreadable_count files ≡ 0 → unreadable_count others ≡ 0 → files ≡ others
 same_files t contents files others v1 other_v1 sound one other none none_of = same_lists files others (one.has.count ∙ sym other.has.count) (λ n d lt.
-    let f = at_length t.files n (omega (arith, lt, one.has.count)) in
-    let v = at_length files n lt in
-    let w = at_length others n (omega (arith, lt, one.has.count, other.has.count)) in
+    let f = item_at t.files n (omega (arith, lt, one.has.count)) in
+    let v = item_at files n lt in
+    let w = item_at others n (omega (arith, lt, one.has.count, other.has.count)) in
     get_or_from_slice_get files n v.0 d v.1
     ∙ one_verdict t n f.0 (contents n) v.0 w.0 sound f.1 (none_unreadable files n v.0 none v.1) (none_unreadable others n w.0 none_of w.1)
     (one.are_true.each n f.0 v.0 f.1 v.1) (other.are_true.each n f.0 w.0 f.1 w.1)

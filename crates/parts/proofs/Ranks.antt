@@ -3,6 +3,7 @@ use Rattle.std.proofs.Common.{◌≡◌, ◌⊎◌, inl, inr, ℕ, ◌+◌, ◌<
 use Rattle.std.proofs.Common.{ap, sym, ◌∙◌, subst, arith}
 use Rattle.std.proofs.lemmas.List.{get_or_append_left, get_or_push, length_push}
 use Rattle.std.proofs.lemmas.Option.{slice_get_within, slice_get-get_or, get_or_from_slice_get}
+use Rattle.chains.proofs.Cases.{last_or_before, item_stays, pushed_last}
 use Rattle.folders.specs.declared.report.FileVerdict.{FileVerdict}
 use Rattle.folders.specs.declared.report.FileVerdict.TheVariants as file
 use Rattle.folders.specs.declared.report.V1Verdict.{V1Verdict}
@@ -207,9 +208,6 @@ still_no_worse_v1 version1.NotChecked version1.NotChecked version1.NotChecked h 
 
 -- ---- one part more
 
-last_or_before : (k c : ℕ) → k < c + 1 → (k < c) ⊎ (k ≡ c)
-last_or_before k c lt = grind arith
-
 -- an item of a list that one more was pushed to
 pushed_at : {A : Type 0} (xs : List A) (x y : A) (k : ℕ) → slice_get (xs ++ x ∷ []) k ≡ Some y → (slice_get xs k ≡ Some y) ⊎ (x ≡ y)
 pushed_at xs x y k is =
@@ -220,15 +218,6 @@ pushed_at xs x y k is =
           ∙ ap Some (sym (get_or_append_left xs (x ∷ []) y k before) ∙ get_or_from_slice_get (xs ++ x ∷ []) k y y is))
       | inr last ↦ inr (sym (get_or_push xs x y k (sym last)) ∙ get_or_from_slice_get (xs ++ x ∷ []) k y y is)
     ]
-
-pushed_before : {A : Type 0} (xs : List A) (x y : A) (k : ℕ) → slice_get xs k ≡ Some y → slice_get (xs ++ x ∷ []) k ≡ Some y
-pushed_before xs x y k is =
-    let inside : k < length xs = slice_get_within xs k y is in
-    slice_get-get_or (xs ++ x ∷ []) k y (omega (arith, inside, length_push xs x))
-    ∙ ap Some (get_or_append_left xs (x ∷ []) y k inside ∙ get_or_from_slice_get xs k y y is)
-
-pushed_last : {A : Type 0} (xs : List A) (x : A) → slice_get (xs ++ x ∷ []) (length xs) ≡ Some x
-pushed_last xs x = slice_get-get_or (xs ++ x ∷ []) (length xs) x (omega (arith, length_push xs x)) ∙ ap Some (get_or_push xs x x (length xs) refl)
 
 -- the worst of one part more, for any order of verdicts
 pub one_more_part : {A V : Type 0} (NoWorse : V → V → Type 0) (best : V) (worse : V → V → V) → ((v w : V) → NoWorse v (worse v w))
@@ -241,10 +230,10 @@ one_more_part NoWorse best worse left right one still says parts p w so_far = re
     | inr same ↦ subst (λ x. NoWorse (says x) (worse w (says p))) same (right w (says p))
   ];
   one = elim (one w (says p)) [
-    | inr new ↦ inr (length parts, p, pushed_last parts p, sym new)
+    | inr new ↦ inr (length parts, p, pushed_last parts p (length parts) refl, sym new)
     | inl old ↦ elim so_far.one [
       | inl none ↦ inl (old ∙ none)
-      | inr some ↦ inr (some.0, some.1, pushed_before parts p some.1 some.0 some.2, some.3 ∙ sym old)
+      | inr some ↦ inr (some.0, some.1, item_stays parts (p ∷ []) some.0 some.1 some.2, some.3 ∙ sym old)
     ]
   ];
 }

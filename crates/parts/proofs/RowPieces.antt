@@ -1,12 +1,12 @@
 -- The pieces of a row are those of the file.
-use Rattle.std.proofs.Common.{◌≡◌, ◌⊎◌, inl, inr, ℕ, ◌+◌, ◌-◌, ◌*◌, ◌^◌, ◌<◌, ◌≤◌, min, List, [], ◌∷◌, ◌++◌, length, take, drop, replicate}
+use Rattle.std.proofs.Common.{◌≡◌, ◌⊎◌, inl, inr, ℕ, ◌+◌, ◌-◌, ◌*◌, ◌^◌, ◌<◌, ◌≤◌, min, List, [], ◌++◌, length, take, drop, replicate}
 use Rattle.std.proofs.Common.{get_or, slice_get, Option, Some, None, IfSome, refl, ap, sym, ◌∙◌, subst, append-nil, arith}
 use Rattle.std.specs.Prelude.{slice_range}
 use Rattle.std.specs.Option.{option_map}
 use Rattle.std.proofs.Math.Nat.{mul-le-mul, mul-le-mul_left}
 use Rattle.std.proofs.lemmas.Bool.{cases_lt}
 use Rattle.std.proofs.lemmas.List.{ext_get_or, get_or-take, get_or-drop, get_or_append_left, get_or-append_right, get_or-replicate, length-append}
-use Rattle.std.proofs.lemmas.List.{length-take, length-drop, length-replicate, drop-drop, drop-append-le, take-append-le}
+use Rattle.std.proofs.lemmas.List.{length-take, length-drop, length-replicate, drop-drop, drop-append-le, take-append-le, nil_from_length}
 use Rattle.std.proofs.lemmas.Option.{same_Some, slice_get-get_or}
 use Rattle.hashtree.specs.Difference.{IsComparison}
 use Rattle.hashtree.specs.Tree.{layer_of, node}
@@ -15,9 +15,10 @@ use Rattle.opening.specs.Description.{Description, FileEntry, TreeEntry}
 use Rattle.opening.specs.Sound.{IsSound, piece_layer}
 use Rattle.pieces.specs.Cuts.{cut}
 use Rattle.pieces.specs.Pieces.{pieces_of}
+use Rattle.pieces.proofs.Cutting.{pieces_cover}
 use Rattle.folders.specs.Folder.{tree_entry_of}
 use Rattle.folders.proofs.Layers.{layer_of_at}
-use Rattle.folders.proofs.Places.{pieces_are_positive, within_pieces}
+use Rattle.folders.proofs.Places.{pieces_are_positive}
 use Rattle.folders.proofs.Reports.{has_tree}
 use Rattle.parts.specs.FilePieces.{IsFirstBad}
 use Rattle.parts.specs.Padded.{node_of}
@@ -219,17 +220,13 @@ row_piece t f from to j bytes own rest some row lt at end =
             inl (omega (arith, row.count, next, whole, split))
         | inr all ↦
             let len : length bytes ≡ f.length = end (omega (arith, all, row.inside)) in
-            let most : f.length ≤ piece_count t f * pl = within_pieces pl f.length some in
+            let most : f.length ≤ piece_count t f * pl = pieces_cover pl f.length some in
             let same : piece_count t f * pl ≡ pl * to = ap (λ n. n * pl) (let e : piece_count t f ≡ to = omega (arith, all, row.inside) in e) ∙ omega arith in
             let low : pl * from ≤ pl * (to - 1) = mul-le-mul_left pl (let a : from ≤ to - 1 = omega (arith, row.several) in a) in
             let lens : length bytes - pl * from ≡ length own + length rest = sym (length-drop (pl * from) bytes) ∙ ap length at ∙ length-append own rest in
-            inr (none rest (omega (arith, lens, len, row.count, most, same, last, low)))
+            inr (nil_from_length rest (omega (arith, lens, len, row.count, most, same, last, low)))
       ]
     ])
-  where
-    none : (xs : List ℕ) → length xs ≡ 0 → xs ≡ []
-    none [] e = refl
-    none (x ∷ xs) e = absurd (omega (arith, e))
 
 -- ---- the piece layer
 

@@ -2,7 +2,8 @@
 use Rattle.std.proofs.Common.{◌≡◌, ℕ, ◌+◌, ◌-◌, ◌<◌, ◌≤◌, Bool, true, false, is_some, List, [], ◌++◌, length, replicate}
 use Rattle.std.proofs.Common.{slice_get, Option, Some, None, IfSome, refl, ap, sym, ◌∙◌, subst, arith}
 use Rattle.std.specs.Prelude.{slice_range}
-use Rattle.std.specs.Option.{option_and_then, option_map}
+use Rattle.std.specs.Option.{option_map}
+use Rattle.chains.proofs.Cases.{some_of}
 use Rattle.benc.specs.Device.{SourceSeen}
 use Rattle.hashtree.specs.Difference.{IsComparison}
 use Rattle.hashtree.specs.PieceCheck.{FeedsCheck, IsFirstBadNode, given_hashes}
@@ -26,9 +27,9 @@ use Rattle.parts.specs.FilePieces.{AreJudgedFrom, IsBelow}
 use Rattle.parts.specs.Parts.{piece_count}
 use Rattle.parts.specs.RowChecks.{BeginsRow, IsRowStream, bad_cut_of, row_bytes, stream_part}
 use Rattle.parts.specs.declared.span.Span.{Span}
-use Rattle.parts.proofs.One.{some_of}
 use Rattle.parts.proofs.RowCuts.{as_comparison, judged_row, part_fits, row_lengths}
 use Rattle.parts.proofs.RowPieces.{IsRow, long_file, range_length, row_listed, within_rows}
+use Rattle.parts.proofs.Files.{tree_of_file}
 
 -- all bytes were there
 pub took_exactly : {T : Type 0} (took : T → List ℕ → T → Type 0) (old new : SourceSeen) (size : ℕ) (before after : T) (b : Bool) → b ≡ true
@@ -116,23 +117,12 @@ cuts_within t n f from to own verdict sound there row cuts none = by_stream t.v1
 
 -- ---- the whole
 
--- a file that has a byte has a tree
-tree_of : (t : Description) (n : ℕ) (f : FileEntry) → IsSound t → slice_get t.files n ≡ Some f → 0 < f.length
-    → (e : TreeEntry) × (tree_entry_of t f ≡ Some e)
-tree_of t n f sound there some = by_tree f.tree refl
-  where
-    by_tree : (o : Option ℕ) → f.tree ≡ o → (e : TreeEntry) × (tree_entry_of t f ≡ Some e)
-    by_tree None is = absurd (omega (arith, some, (sound.files n f there).no_tree is))
-    by_tree (Some k) is =
-        let tree = (sound.files n f there).tree_there k is in
-        (tree.0, ap (option_and_then (slice_get t.trees)) is ∙ tree.1)
-
 -- the tree of a row's file
 row_tree : (t : Description) (n : ℕ) (f : FileEntry) (s : Span) → IsSound t → slice_get t.files n ≡ Some f → s.from + 1 < s.to → s.to ≤ piece_count t f
     → (e : TreeEntry) × (tree_entry_of t f ≡ Some e)
 row_tree t n f s sound there several inside =
     let long = long_file t f s.from s.to (pieces_are_positive t sound) several inside in
-    tree_of t n f sound there (omega (arith, long.0))
+    tree_of_file t n f sound there (omega (arith, long.0))
 
 -- the first bad piece is one of the row
 pub bad_within : (t : Description) (n : ℕ) (f : FileEntry) (s : Span) (before after : PieceCheck) (own : List ℕ) (other : Option ℕ) → IsSound t

@@ -4,13 +4,13 @@ use Rattle.std.proofs.Common.{ap, sym, ◌∙◌, subst, arith, append-nil}
 use Rattle.std.proofs.lemmas.Bool.{cases_lt}
 use Rattle.std.proofs.lemmas.List.{length-replicate, get_or_append_left, get_or-append_right, get_or-replicate, take_all}
 use Rattle.std.proofs.lemmas.List.FromFn.{get_or-map-range_with_len}
+use Rattle.chains.proofs.Cases.{same_or_not, same_parts}
 use Rattle.sha2.specs.Sha256.{sha256}
 use Rattle.sha2.proofs.Facts256.{length-sha256}
 use Rattle.hashtree.specs.Tree.{block, block_count, block_hashes, height, leaves, node, node_over, pad_leaf, tree}
 use Rattle.hashtree.proofs.Blocks.{length-block_hashes}
 use Rattle.hashtree.proofs.Nodes.{leaf_at, length-leaves, node_over-suc, part_within}
 use Rattle.hashtree.proofs.Pairs.{two-pow}
-use Rattle.parts.proofs.Lists.{same_or_not, same_parts}
 use Rattle.parts.specs.Collisions.{RowsCollide, children}
 
 -- each item of a row is a hash

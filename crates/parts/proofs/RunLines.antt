@@ -1,9 +1,10 @@
 -- The lines of runs of bad pieces, as they go out.
-use Rattle.std.proofs.Common.{◌≡◌, inr, ℕ, ◌<◌, ◌≤◌, List, ◌++◌, Option, Some, None, Result, Ok, Err, ap, sym, ◌∙◌, subst, arith}
+use Rattle.std.proofs.Common.{◌≡◌, inr, ℕ, ◌<◌, ◌≤◌, List, ◌++◌, Option, Some, Result, Ok, Err, ap, sym, ◌∙◌, subst, arith}
 use Rattle.benc.proofs.Out.{Broke-append, Sent-append}
 use Rattle.benc.specs.Device.{Broke, Sent, SinkSeen, one_more}
 use Rattle.folders.specs.Shelf.{IsFound, more}
 use Rattle.folders.specs.Verdicts.{Agrees}
+use Rattle.folders.proofs.Visiting.{agrees_opened}
 use Rattle.opening.specs.Description.{Description, FileEntry}
 use Rattle.parts.specs.BadPieces.{CountsBad, HasGoodPiece, PrintsBad, PrintsRuns, Run, run_between, runs_text}
 use Rattle.parts.specs.Parts.{piece_count}
@@ -56,28 +57,12 @@ all_written t f MayHave a b c bytes n m runs is may so_far sent more =
 
 -- ---- of a path
 
--- what the opened file may have is what the path may
-opened_may : (known : Option (Option (List ℕ))) (left : Option (List ℕ)) (bytes : List ℕ) → IsFound known (Some left) → Agrees left bytes
-    → Agrees known (Some bytes)
-opened_may None left bytes found may there is = let no : ⊥ = cc in absurd no
-opened_may (Some None) left bytes found may there is = let no : ⊥ = cc in absurd no
-opened_may (Some (Some own)) left bytes found may there is =
-    let at : left ≡ Some own = cc in
-    let same : own ≡ bytes = may own at in
-    cc
-
--- if nothing was there, that is what the path may have
-pub gone_agrees : (known : Option (Option (List ℕ))) → IsFound known None → Agrees known None
-gone_agrees None found there is = let no : ⊥ = cc in absurd no
-gone_agrees (Some None) found there is = cc
-gone_agrees (Some (Some own)) found there is = let no : ⊥ = cc in absurd no
-
 -- what was printed of an opened file was printed of its path
 pub prints_opened : (t : Description) (f : FileEntry) (known : Option (Option (List ℕ))) (left : Option (List ℕ)) (a b : SinkSeen)
     (r : Result (Unit {0}) BadFault) → IsFound known (Some left) → PrintsRuns t f (Agrees left) a b r → PrintsBad t f known a b r
-prints_opened t f known left a b (Ok u) found runs = (runs.0, opened_may known left runs.0 found runs.1, runs.2, runs.3, runs.4)
-prints_opened t f known left a b (Err fault.Read) found runs = inr (runs.0, opened_may known left runs.0 found runs.1, runs.2, runs.3, runs.4)
-prints_opened t f known left a b (Err fault.Write) found runs = (runs.0, opened_may known left runs.0 found runs.1, runs.2, runs.3, runs.4)
+prints_opened t f known left a b (Ok u) found runs = (runs.0, agrees_opened known left runs.0 found runs.1, runs.2, runs.3, runs.4)
+prints_opened t f known left a b (Err fault.Read) found runs = inr (runs.0, agrees_opened known left runs.0 found runs.1, runs.2, runs.3, runs.4)
+prints_opened t f known left a b (Err fault.Write) found runs = (runs.0, agrees_opened known left runs.0 found runs.1, runs.2, runs.3, runs.4)
 prints_opened t f known left a b (Err fault.Gone) found runs = absurd runs
 
 -- the failures that an opened file had are counted

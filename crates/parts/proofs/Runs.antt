@@ -7,7 +7,7 @@ use Rattle.std.proofs.Math.Seq.{take-append-add}
 use Rattle.std.proofs.lemmas.Bool.{cases_lt}
 use Rattle.std.proofs.lemmas.List.{length-append, length-take}
 use Rattle.std.proofs.lemmas.Option.{same_Some, none-some, slice_get_within}
-use Rattle.folders.proofs.Places.{within_pieces}
+use Rattle.pieces.proofs.Cutting.{pieces_cover}
 use Rattle.opening.specs.Description.{Description, FileEntry}
 use Rattle.parts.specs.BadPieces.{AreBadRuns, HasGoodPiece, IsBadRun, Run, run_between, run_text, runs_text}
 use Rattle.parts.specs.OnePiece.{IsJudged, piece_size}
@@ -194,7 +194,7 @@ judged_so t f number given own rest j positive lt count size is =
     let zero_is : pl * 0 ≡ 0 = omega arith in
     let split : drop (pl * 0) (take f.length bytes) ≡ given ++ (own ++ take past rest) = ap (λ n. drop n (take f.length bytes)) zero_is ∙ cut in
     let end : number + 1 ≡ piece_count t f → length (take f.length bytes) ≡ f.length = λ at.
-    let most : f.length ≤ piece_count t f * pl = within_pieces pl f.length positive in
+    let most : f.length ≤ piece_count t f * pl = pieces_cover pl f.length positive in
     let last : piece_count t f * pl ≡ pl * number + pl = ap (λ c. c * pl) (sym at) ∙ (let e : (number + 1) * pl ≡ pl * number + pl = omega arith in e) in
     omega (arith, length-take f.length bytes, length-append (given ++ own) rest, read, most, last, next) in
     let good = is.good (take f.length bytes) (read_next t f (take f.length bytes) given own (take past rest) 0 number positive lt

@@ -1,19 +1,20 @@
 -- The shares of all parts have all places, and what is counted for them fits.
-use Rattle.std.proofs.Common.{◌≡◌, inl, inr, ℕ, zero, suc, ◌+◌, ◌-◌, ◌*◌, ◌/◌, ◌^◌, ◌<◌, ◌≤◌, List, [], ◌∷◌, length, drop, take}
+use Rattle.std.proofs.Common.{◌≡◌, inl, inr, ℕ, zero, suc, ◌+◌, ◌-◌, ◌*◌, ◌/◌, ◌^◌, ◌<◌, ◌≤◌, List, [], ◌∷◌, length, drop, take, add-one}
 use Rattle.std.proofs.Common.{slice_get, sum_by, true, false, cond, nat_lt, nat_eq, Some, refl, ap, sym, ◌∙◌, subst, arith}
 use Rattle.std.proofs.Math.Nat.{div-mul-le_self, mul-le-mul, mul-le-mul_left, pow-le-pow_right}
 use Rattle.std.proofs.lemmas.Bool.{cases_lt}
 use Rattle.std.proofs.lemmas.List.{drop_more}
 use Rattle.std.proofs.lemmas.List.Sums.{sum_by-cons, sum_by_more, sum_by-take-le}
 use Rattle.std.proofs.lemmas.Option.{get_or_from_slice_get, slice_get_within}
+use Rattle.chains.proofs.Cases.{item_at}
 use Rattle.opening.specs.Description.{Description, FileEntry}
 use Rattle.opening.specs.Sound.{IsSound}
 use Rattle.pieces.specs.Pieces.{pieces_of}
-use Rattle.folders.proofs.Places.{pieces_are_positive, within_pieces}
+use Rattle.pieces.proofs.Cutting.{pieces_cover}
+use Rattle.folders.proofs.Places.{pieces_are_positive}
 use Rattle.parts.specs.Laws.{SharesHaveAllPlaces}
 use Rattle.parts.specs.Parts.{Holds, place_count}
 use Rattle.parts.specs.Shares.{all_bytes, place_in, start}
-use Rattle.parts.proofs.Streams.{at_length}
 
 -- ---- all places
 
@@ -32,17 +33,14 @@ in_earlier : (t : Description) (n x m : ℕ) → x < start t m n → (i : ℕ) �
 in_earlier t n x zero lt = absurd (omega (arith, lt, start_first t n))
 in_earlier t n x (suc m) lt = elim (cases_lt x (start t m n)) [
   | inl before ↦ (let e = in_earlier t n x m before in (e.0, omega (arith, e.1), e.2, e.3))
-  | inr after ↦ (m, omega arith, after, subst (λ k. x < start t k n) (suc_is m) lt)
+  | inr after ↦ (m, omega arith, after, subst (λ k. x < start t k n) (sym (add-one m)) lt)
 ]
-  where
-    suc_is : (k : ℕ) → suc k ≡ k + 1
-    suc_is k = omega arith
 
 pub shares_have_all : SharesHaveAllPlaces
 shares_have_all t parts some shared x lt =
     let n : ℕ = length parts in
     let e = in_earlier t n x n (subst (λ k. x < k) (sym (start_last t n some)) lt) in
-    let at = at_length parts e.0 e.1 in
+    let at = item_at parts e.0 e.1 in
     (e.0, at.0, at.1, subst (λ r. Holds r x) (sym (shared e.0 at.0 at.1)) (e.2, e.3))
 
 -- ---- counts
@@ -51,7 +49,7 @@ shares_have_all t parts some shared x lt =
 bytes_within : (pl : ℕ) (fs : List FileEntry) → 0 < pl → sum_by (λ (f : FileEntry). f.length) fs ≤ sum_by (λ (f : FileEntry). pieces_of pl f.length) fs * pl
 bytes_within pl [] some = omega arith
 bytes_within pl (f ∷ fs) some =
-    let one = within_pieces pl f.length some in
+    let one = pieces_cover pl f.length some in
     let rest = bytes_within pl fs some in
     let bytes : ℕ = sum_by (λ (g : FileEntry). g.length) fs in
     let pieces : ℕ = sum_by (λ (g : FileEntry). pieces_of pl g.length) fs in

@@ -1,13 +1,13 @@
 -- The pieces of a file that were read so far.
-use Rattle.std.proofs.Common.{◌≡◌, ◌≢◌, ◌⊎◌, inl, inr, ℕ, ◌+◌, ◌-◌, ◌*◌, ◌<◌, ◌≤◌, min, Bool, true, false, List, [], ◌∷◌, ◌++◌, length, take}
+use Rattle.std.proofs.Common.{◌≡◌, ◌≢◌, ◌⊎◌, inl, inr, ℕ, ◌+◌, ◌-◌, ◌*◌, ◌<◌, ◌≤◌, min, Bool, true, false, List, [], ◌++◌, length, take}
 use Rattle.std.proofs.Common.{drop, Option, Some, None, refl, ap, sym, ◌∙◌, subst, append_assoc, append-nil, take_at, drop_at, arith}
 use Rattle.std.proofs.Math.Nat.{mul-le-mul_left}
 use Rattle.std.proofs.lemmas.Bool.{cases_lt}
-use Rattle.std.proofs.lemmas.List.{length-append, length-drop, drop-drop, take_all}
+use Rattle.std.proofs.lemmas.List.{length-append, length-drop, drop-drop, take_all, nil_from_length}
 use Rattle.std.proofs.lemmas.Option.{same_Some}
 use Rattle.std.specs.Io.KnownBytes.{Consumes, IsAtEnd}
+use Rattle.pieces.proofs.Cutting.{pieces_cover}
 use Rattle.opening.specs.Description.{Description, FileEntry, Version1}
-use Rattle.folders.proofs.Places.{within_pieces}
 use Rattle.folders.specs.Verdicts.{Agrees}
 use Rattle.parts.specs.FilePieces.{AreJudgedFrom, IsBelow, first_of}
 use Rattle.parts.specs.OnePiece.{IsCutListed, IsJudged, IsRead, piece_size}
@@ -41,7 +41,7 @@ read_next t f bytes given own xs from number positive lt count size is end =
     let some : pl * number < length bytes = omega (arith, lens, size, below, positive) in
     let last : number + 1 ≡ piece_count t f → (length own ≡ f.length - pl * number) × (length xs ≡ 0) =
     λ at.
-    let most : f.length ≤ piece_count t f * pl = within_pieces pl f.length positive in
+    let most : f.length ≤ piece_count t f * pl = pieces_cover pl f.length positive in
     let next : piece_count t f * pl ≡ pl * number + pl = ap (λ c. c * pl) (sym at) ∙ (let e : (number + 1) * pl ≡ pl * number + pl = omega arith in e) in
     let own_len : length own ≡ f.length - pl * number = omega (arith, size, most, next) in
     (own_len, omega (arith, own_len, lens, end at, below)) in
@@ -53,7 +53,7 @@ read_next t f bytes given own xs from number positive lt count size is end =
       | inr past ↦
           let l = last (omega (arith, past, lt)) in
           let low : length own ≤ pl = omega (arith, size) in
-          sym (ap (take pl) (rest ∙ ap (λ ys. own ++ ys) (none xs l.1) ∙ append-nil own) ∙ take_all pl own low)
+          sym (ap (take pl) (rest ∙ ap (λ ys. own ++ ys) (nil_from_length xs l.1) ∙ append-nil own) ∙ take_all pl own low)
     ] in
     record {
       some = some;
@@ -73,10 +73,6 @@ read_next t f bytes given own xs from number positive lt count size is end =
             omega (arith, z, size, lens, long)
       ];
     }
-  where
-    none : (xs : List ℕ) → length xs ≡ 0 → xs ≡ []
-    none [] e = refl
-    none (x ∷ xs) e = absurd (omega (arith, e))
 
 -- one piece more
 pub more_so_far : (t : Description) (f : FileEntry) (from number : ℕ) (given own : List ℕ) (bad bad_cut : Option ℕ) (j : Judged) → 0 < t.piece_length
@@ -172,6 +168,6 @@ begins_within a b (inr lt) = omega (arith, lt)
 -- all pieces were read
 pub all_read : (t : Description) (f : FileEntry) (number : ℕ) → 0 < t.piece_length → number ≡ piece_count t f → f.length ≤ t.piece_length * number
 all_read t f number positive at =
-    let most : f.length ≤ piece_count t f * t.piece_length = within_pieces t.piece_length f.length positive in
+    let most : f.length ≤ piece_count t f * t.piece_length = pieces_cover t.piece_length f.length positive in
     let same : piece_count t f * t.piece_length ≡ number * t.piece_length = ap (λ c. c * t.piece_length) (sym at) in
     omega (arith, most, same)

@@ -1,6 +1,6 @@
 -- The version 1 stream of a folder whose files are all as long as stated: each of its cuts is the
 -- version 1 piece that begins with a piece of one file.
-use Rattle.std.proofs.Common.{◌≡◌, inl, inr, ℕ, zero, suc, ◌+◌, ◌-◌, ◌*◌, ◌<◌, ◌≤◌, min, List, [], ◌∷◌, ◌++◌, length, take, drop, replicate}
+use Rattle.std.proofs.Common.{◌≡◌, inl, inr, ℕ, zero, suc, ◌+◌, ◌-◌, ◌*◌, ◌<◌, ◌≤◌, min, List, [], ◌∷◌, ◌++◌, length, take, drop, replicate, add-one}
 use Rattle.std.proofs.Common.{get_or, slice_get, sum_by, Some, refl, ap, sym, ◌∙◌, subst, arith, take-take}
 use Rattle.std.proofs.Math.Nat.{lt-div-mul-add, div-mul-le_self, mul-le-mul_left}
 use Rattle.std.proofs.lemmas.Bool.{cases_lt}
@@ -8,6 +8,7 @@ use Rattle.std.proofs.lemmas.List.{ext_get_or, get_or-take, get_or-drop, get_or_
 use Rattle.std.proofs.lemmas.List.{length-take, length-drop, length-replicate, take_all}
 use Rattle.std.proofs.lemmas.List.Sums.{sum_by-take-le}
 use Rattle.std.proofs.lemmas.Option.{same_Some}
+use Rattle.chains.proofs.Cases.{item_at}
 use Rattle.sha1.specs.Sha1.{sha1}
 use Rattle.pieces.specs.Cuts.{cut, cut_digests}
 use Rattle.opening.specs.Description.{Description, FileEntry, Version1}
@@ -22,11 +23,6 @@ use Rattle.parts.specs.Parts.{IsPieceAt, last_place, piece_count, place_count, v
 -- each file has a content, which is as long as stated
 abbrev pub AreWhole : Description → Contents → Type 0
 AreWhole t contents = (n : ℕ) (f : FileEntry) → slice_get t.files n ≡ Some f → (bytes : List ℕ) × (contents n ≡ Some bytes) × (length bytes ≡ f.length)
-
-pub at_length : {A : Type 0} (xs : List A) (n : ℕ) → n < length xs → (x : A) × (slice_get xs n ≡ Some x)
-at_length [] n lt = absurd (omega (arith, lt))
-at_length (x ∷ xs) zero lt = (x, refl)
-at_length (x ∷ xs) (suc n) lt = at_length xs n (omega (arith, lt))
 
 -- ---- the stream is there
 
@@ -51,7 +47,7 @@ front : (t : Description) (contents : Contents) (v : Version1) → IsSound t →
     → Front t contents v.total n
 front t contents v sound hybrid whole zero le = record { bytes = []; prefix = prefix_none t contents; not_past = omega arith; within = omega arith }
 front t contents v sound hybrid whole (suc n) le =
-    let at = at_length t.files n (omega (arith, le)) in
+    let at = item_at t.files n (omega (arith, le)) in
     let f : FileEntry = at.0 in
     let so_far = front t contents v sound hybrid whole n (omega (arith, le)) in
     let found = whole n f at.1 in
@@ -64,13 +60,10 @@ front t contents v sound hybrid whole (suc n) le =
         → Front t contents v.total n → Front t contents v.total (suc n)
     more n f [] is content len so_far = record {
       bytes = so_far.bytes;
-      prefix = subst (λ k. IsStreamPrefix t contents k so_far.bytes) (next n) (prefix_empty t contents n so_far.bytes f so_far.prefix is content);
+      prefix = subst (λ k. IsStreamPrefix t contents k so_far.bytes) (add-one n) (prefix_empty t contents n so_far.bytes f so_far.prefix is content);
       not_past = omega (arith, so_far.not_past, place_mono t n (suc n) (omega arith));
       within = so_far.within;
     }
-      where
-        next : (k : ℕ) → k + 1 ≡ suc k
-        next k = omega arith
     more n f (b ∷ bytes) is content len so_far =
         let gap : ℕ = start_of t f - length so_far.bytes in
         let low : length so_far.bytes ≤ start_of t f = omega (arith, so_far.not_past, start_is t n f sound is) in
@@ -79,15 +72,12 @@ front t contents v sound hybrid whole (suc n) le =
         let all : length (filled ++ (b ∷ bytes)) ≡ start_of t f + f.length = omega (arith, at, len, length-append filled (b ∷ bytes)) in
         record {
           bytes = filled ++ (b ∷ bytes);
-          prefix = subst (λ k. IsStreamPrefix t contents k (filled ++ (b ∷ bytes))) (next n)
+          prefix = subst (λ k. IsStreamPrefix t contents k (filled ++ (b ∷ bytes))) (add-one n)
               (prefix_file t contents n filled f (b ∷ bytes) (prefix_zeros t contents n so_far.bytes gap so_far.prefix) is content at);
-          not_past = subst (λ k. length (filled ++ (b ∷ bytes)) ≤ place_before t k) (next n)
+          not_past = subst (λ k. length (filled ++ (b ∷ bytes)) ≤ place_before t k) (add-one n)
               (omega (arith, all, ends_before_next t n f sound (pieces_are_positive t sound) is));
           within = omega (arith, all, sound.in_stream v n f hybrid is (omega (arith, len)));
         }
-      where
-        next : (k : ℕ) → k + 1 ≡ suc k
-        next k = omega arith
 
 pub stream_there : (t : Description) (contents : Contents) (v : Version1) → IsSound t → t.v1 ≡ Some v → AreWhole t contents
     → (stream : List ℕ) × IsStream t contents v.total stream
@@ -109,8 +99,8 @@ pub record HasPiece (t : Description) (p : ℕ) : Type 0 where
 piece_before : (t : Description) (p : ℕ) → IsSound t → (n : ℕ) → n ≤ length t.files → p < pieces_before t n → HasPiece t p
 piece_before t p sound zero le lt = absurd (omega (arith, lt))
 piece_before t p sound (suc n) le lt =
-    let at = at_length t.files n (omega (arith, le)) in
-    let next : pieces_before t (suc n) ≡ pieces_before t n + piece_count t at.0 = ap (pieces_before t) (suc_is n) ∙ pieces_next t n at.0 at.1 in
+    let at = item_at t.files n (omega (arith, le)) in
+    let next : pieces_before t (suc n) ≡ pieces_before t n + piece_count t at.0 = ap (pieces_before t) (sym (add-one n)) ∙ pieces_next t n at.0 at.1 in
     elim (cases_lt p (pieces_before t n)) [
       | inl before ↦ piece_before t p sound n (omega (arith, le)) before
       | inr after ↦ record {
@@ -122,9 +112,6 @@ piece_before t p sound (suc n) le lt =
         piece_is = omega (arith, after, sound.laid_out.first_pieces n at.0 at.1);
       }
     ]
-  where
-    suc_is : (k : ℕ) → suc k ≡ k + 1
-    suc_is k = omega arith
 
 pub has_piece : (t : Description) (p : ℕ) → IsSound t → p < place_count t - 1 → HasPiece t p
 has_piece t p sound lt =

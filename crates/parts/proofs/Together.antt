@@ -3,8 +3,9 @@ use Rattle.std.proofs.Common.{◌≡◌, ◌⊎◌, inl, inr, ℕ, ◌-◌, ◌*
 use Rattle.std.proofs.Common.{slice_get, sum_by, Option, Some, refl, ap, sym, ◌∙◌, subst, arith}
 use Rattle.std.specs.List.{list_all}
 use Rattle.std.specs.Option.{unwrap_or}
-use Rattle.std.proofs.lemmas.Bool.{cases_lt}
+use Rattle.std.proofs.lemmas.Bool.{cases_lt, and_parts, false_from_ne_true}
 use Rattle.std.proofs.lemmas.Option.{same_Some, slice_get_within}
+use Rattle.chains.proofs.Cases.{some_of, item_at}
 use Rattle.pieces.specs.Cuts.{cut_digests}
 use Rattle.opening.specs.Description.{Description, FileEntry, Version1}
 use Rattle.pieces.specs.Pieces.{pieces_of}
@@ -17,15 +18,15 @@ use Rattle.folders.specs.declared.report.FileVerdict.TheVariants as file
 use Rattle.folders.specs.declared.report.V1Verdict.{V1Verdict}
 use Rattle.folders.specs.declared.report.V1Verdict.TheVariants as version1
 use Rattle.folders.proofs.Places.{pieces_are_positive}
-use Rattle.folders.proofs.Reports.{yes_is_sure}
+use Rattle.folders.proofs.Reports.{yes_is_sure, all_at, all_from}
 use Rattle.parts.specs.Collisions.{FileCollides}
 use Rattle.parts.specs.Joins.{IsJoin, NoWorse, NoWorseV1, says_of, says_of_v1}
 use Rattle.parts.specs.Laws.{IsReportOf}
 use Rattle.parts.specs.Parts.{AreAllPlaces, Holds, IsPartV1, IsPieceAt, IsVersion1Good, PartReport, IsTruePart}
 use Rattle.parts.specs.Parts.{place_count}
 use Rattle.parts.proofs.Joined.{ContentCollides, good_joined, joined}
-use Rattle.parts.proofs.Streams.{AreWhole, at_length, digest_is, has_piece, place_of_piece, stream_there}
-use Rattle.parts.proofs.Worst.{below_or, both, all_at, all_from, one_not, whole_up, checked_up, good_v1, bad_v1, not_true, some_of, whole_length, by_places}
+use Rattle.parts.proofs.Streams.{AreWhole, digest_is, has_piece, place_of_piece, stream_there}
+use Rattle.parts.proofs.Worst.{below_or, one_not, whole_up, checked_up, good_v1, bad_v1, whole_length, by_places}
 use Rattle.parts.proofs.Worst.{few_pieces}
 
 module _ (t : Description) (contents : Contents) (parts : List PartReport) (files : List FileVerdict) (v1 : Option V1Verdict) (sound : IsSound t)
@@ -35,7 +36,7 @@ module _ (t : Description) (contents : Contents) (parts : List PartReport) (file
 
   says_file : (i : ℕ) (p : PartReport) → slice_get parts i ≡ Some p → (n : ℕ) → n < length t.files → slice_get p.files n ≡ Some (says_of n p)
   says_file i p at n lt =
-      let found = at_length p.files n (omega (arith, lt, (are_true i p at).count)) in
+      let found = item_at p.files n (omega (arith, lt, (are_true i p at).count)) in
       found.1 ∙ ap Some (sym (ap (λ o. unwrap_or o file.Good) found.1))
 
   says_v1 : (i : ℕ) (p : PartReport) → slice_get parts i ≡ Some p → is_some t.v1 ≡ true → p.v1 ≡ Some (says_of_v1 p)
@@ -50,8 +51,8 @@ module _ (t : Description) (contents : Contents) (parts : List PartReport) (file
   file_or n = elim (cases_lt n (length t.files)) [
     | inr past ↦ inl (λ f v there is. absurd (omega (arith, slice_get_within t.files n f there, past)))
     | inl lt ↦
-        let f = at_length t.files n lt in
-        let v = at_length files n (omega (arith, lt, join.count)) in
+        let f = item_at t.files n lt in
+        let v = item_at files n (omega (arith, lt, join.count)) in
         elim (one f.0 v.0 f.1 v.1) [
           | inl is ↦ inl (λ g w there said. subst (λ (h : FileEntry). IsVerdict t h (contents n) w) (same_Some f.0 g (sym f.1 ∙ there))
               (subst (IsVerdict t f.0 (contents n)) (same_Some v.0 w (sym v.1 ∙ said)) is))
@@ -106,7 +107,7 @@ module _ (t : Description) (contents : Contents) (parts : List PartReport) (file
           (are_true one.0 one.1 one.2).count,
           join.count,
         ) in
-        let w = at_length files broken.0 inside in
+        let w = item_at files broken.0 inside in
         let same : says_of broken.0 one.1 ≡ broken.1 = ap (λ o. unwrap_or o file.Good) broken.2 in
         let up : is_whole (says_of broken.0 one.1) ≡ true =
         whole_up (says_of broken.0 one.1) w.0 ((join.each broken.0 w.0 w.1).no_worse one.0 one.1 one.2) (all_at is_whole files broken.0 w.0 each w.1) in
@@ -117,13 +118,13 @@ module _ (t : Description) (contents : Contents) (parts : List PartReport) (file
   checked_is : (v : V1Verdict) → v1 ≡ Some v → is_checked v ≡ list_all is_whole files
   checked_is version1.Good is = sym (whole_files version1.Good is refl)
   checked_is (version1.Bad q) is = sym (whole_files (version1.Bad q) is refl)
-  checked_is version1.NotChecked is = sym (not_true (list_all is_whole files) (broken_files version1.NotChecked is refl))
+  checked_is version1.NotChecked is = sym (false_from_ne_true (list_all is_whole files) (broken_files version1.NotChecked is refl))
 
   module _ (each : (n : ℕ) (f : FileEntry) (v : FileVerdict) → slice_get t.files n ≡ Some f → slice_get files n ≡ Some v → IsVerdict t f (contents n) v)
       (v : Version1) (hybrid : t.v1 ≡ Some v) where
     are_whole : list_all is_whole files ≡ true → AreWhole t contents
     are_whole whole n f there =
-        let w = at_length files n (omega (arith, slice_get_within t.files n f there, join.count)) in
+        let w = item_at files n (omega (arith, slice_get_within t.files n f there, join.count)) in
         whole_length t n f (contents n) w.0 sound there (all_at is_whole files n w.0 whole w.1) (each n f w.0 there w.1)
 
     -- a piece that all parts call good, or that comes before the first that one of them calls bad
@@ -225,7 +226,7 @@ module _ (t : Description) (contents : Contents) (parts : List PartReport) (file
 
   pub yes : is_yes files v1 ≡ true → GoodFolder t contents
   yes said =
-      let goods = both (list_all is_good files) (stream_is_good v1) said in
+      let goods = and_parts (list_all is_good files) (stream_is_good v1) said in
       let each : (n : ℕ) (f : FileEntry) (v : FileVerdict) → slice_get t.files n ≡ Some f → slice_get files n ≡ Some v → IsVerdict t f (contents n) v =
       λ n f v there stated. good_file n f v there stated (all_at is_good files n v goods.0 stated) in
       yes_is_sure t contents files v1 (record { count = join.count; hybrid = join.hybrid; checked = checked_is })

@@ -1,10 +1,11 @@
 -- Verdicts that parts join, and lists of them.
-use Rattle.std.proofs.Common.{◌≡◌, ◌⊎◌, inl, inr, ℕ, zero, suc, ◌*◌, ◌<◌, ◌≤◌, ◌&&◌, Bool, true, false, is_some, List, [], ◌∷◌, length}
-use Rattle.std.proofs.Common.{slice_get, Option, Some, None, refl, ap, sym, ◌∙◌, subst, arith}
+use Rattle.std.proofs.Common.{◌≡◌, ◌⊎◌, inl, inr, ℕ, zero, suc, ◌*◌, ◌<◌, ◌≤◌, ◌&&◌, Bool, true, false, List, [], ◌∷◌, length}
+use Rattle.std.proofs.Common.{slice_get, Option, Some, refl, ap, sym, ◌∙◌, subst, arith}
 use Rattle.std.specs.List.{list_all}
 use Rattle.std.proofs.lemmas.Bool.{cases_lt}
 use Rattle.std.proofs.lemmas.List.{same_lists}
-use Rattle.std.proofs.lemmas.Option.{same_Some, none-some, get_or_from_slice_get}
+use Rattle.std.proofs.lemmas.Option.{get_or_from_slice_get}
+use Rattle.chains.proofs.Cases.{item_at}
 use Rattle.opening.specs.Description.{Description, FileEntry}
 use Rattle.pieces.specs.Pieces.{pieces_of}
 use Rattle.opening.specs.Sound.{IsSound}
@@ -15,7 +16,7 @@ use Rattle.folders.specs.declared.report.V1Verdict.{V1Verdict}
 use Rattle.folders.specs.declared.report.V1Verdict.TheVariants as version1
 use Rattle.folders.proofs.Reports.{has_tree}
 use Rattle.parts.specs.Joins.{NoWorse, NoWorseV1}
-use Rattle.parts.proofs.Streams.{at_length, in_pieces}
+use Rattle.parts.proofs.Streams.{in_pieces}
 
 -- ---- of all files, or of one
 
@@ -36,19 +37,6 @@ below_or P C each (suc n) = elim (below_or P C each n) [
     same k n lt ge = omega (arith, lt, ge)
 
 -- ---- lists of verdicts
-
-pub both : (a b : Bool) → (a && b) ≡ true → (a ≡ true) × (b ≡ true)
-both true b h = (refl, h)
-both false b h = let no : ⊥ = cc in absurd no
-
-pub all_at : {A : Type 0} (p : A → Bool) (xs : List A) (n : ℕ) (x : A) → list_all p xs ≡ true → slice_get xs n ≡ Some x → p x ≡ true
-all_at p [] n x h is = absurd (none-some x is)
-all_at p (y ∷ ys) zero x h is = subst (λ z. p z ≡ true) (same_Some y x is) (both (p y) (list_all p ys) h).0
-all_at p (y ∷ ys) (suc n) x h is = all_at p ys n x (both (p y) (list_all p ys) h).1 is
-
-pub all_from : {A : Type 0} (p : A → Bool) (xs : List A) → ((n : ℕ) (x : A) → slice_get xs n ≡ Some x → p x ≡ true) → list_all p xs ≡ true
-all_from p [] each = refl
-all_from p (x ∷ xs) each = ap (λ b. b && list_all p xs) (each 0 x refl) ∙ all_from p xs (λ n y is. each (suc n) y is)
 
 pub one_not : {A : Type 0} (p : A → Bool) (xs : List A) → list_all p xs ≡ false → (n : ℕ) × (x : A) × (slice_get xs n ≡ Some x) × (p x ≡ false)
 one_not p [] h = let no : ⊥ = cc in absurd no
@@ -97,14 +85,6 @@ bad_v1 version1.Good p h = inl refl
 bad_v1 (version1.Bad q) p h = inr (q, refl, h)
 bad_v1 version1.NotChecked p h = absurd h
 
-pub not_true : (b : Bool) → (b ≡ true → ⊥) → b ≡ false
-not_true false h = refl
-not_true true h = absurd (h refl)
-
-pub some_of : {A : Type 0} (o : Option A) → is_some o ≡ true → (x : A) × (o ≡ Some x)
-some_of None h = let no : ⊥ = cc in absurd no
-some_of (Some x) h = (x, refl)
-
 -- a whole file is as long as stated
 pub whole_length : (t : Description) (n : ℕ) (f : FileEntry) (content : Option (List ℕ)) (v : FileVerdict) → IsSound t → slice_get t.files n ≡ Some f
     → is_whole v ≡ true → IsVerdict t f content v
@@ -123,7 +103,7 @@ whole_length t n f content file.WrongLength sound there whole is = let no : ⊥ 
 
 pub by_places : (xs ys : List (List ℕ)) → length xs ≡ length ys → ((p : ℕ) → p < length xs → slice_get xs p ≡ slice_get ys p) → xs ≡ ys
 by_places xs ys len each = same_lists xs ys len (λ p d lt.
-    let y = at_length ys p (omega (arith, lt, len)) in
+    let y = item_at ys p (omega (arith, lt, len)) in
     get_or_from_slice_get xs p y.0 d (each p lt ∙ y.1) ∙ sym (get_or_from_slice_get ys p y.0 d y.1))
 
 pub few_pieces : (pl len count : ℕ) → 0 < pl → len ≤ count * pl → pieces_of pl len ≤ count

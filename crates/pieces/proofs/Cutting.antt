@@ -1,6 +1,7 @@
 -- The cuts of a stream as it grows.
-use Rattle.std.proofs.Common.{◌≡◌, ℕ, ◌+◌, ◌-◌, ◌*◌, ◌<◌, ◌≤◌, List, [], ◌++◌, length, take, drop, slice_get, Some, ap, ◌∙◌, arith}
-use Rattle.std.proofs.Math.Nat.{mul-le-mul_left, div-eq_of_lt-le, le-div_iff_mul-le}
+use Rattle.std.proofs.Common.{◌≡◌, ℕ, zero, suc, ◌+◌, ◌-◌, ◌*◌, ◌/◌, ◌%◌, ◌<◌, ◌≤◌, List, [], ◌++◌, length, take, drop, slice_get, Some, ap, ◌∙◌}
+use Rattle.std.proofs.Common.{add_assoc, arith}
+use Rattle.std.proofs.Math.Nat.{mul-le-mul_left, div-eq_of_lt-le, le-div_iff_mul-le, mul-add-div_right}
 use Rattle.std.proofs.lemmas.List.{length-drop, length-map, take-append-le, drop-append-le, take_all, get_or-map}
 use Rattle.std.proofs.lemmas.List.FromFn.{length-map-range_with_len, get_or-map-range_with_len}
 use Rattle.std.proofs.lemmas.Option.{slice_get-get_or}
@@ -50,3 +51,24 @@ digest_of_cut n content k lt =
     slice_get-get_or (cut_digests n content) k [] (omega (arith, length-cut_digests n content))
     ∙ ap Some (get_or-map sha1 (cuts n content) k [] [] within
     ∙ ap sha1 (get_or-map-range_with_len (cut n content) 0 count k k [] lt (omega arith)))
+
+-- ---- how many pieces
+
+-- the pieces have room for all bytes
+pub pieces_cover : (p n : ℕ) → 0 < p → n ≤ pieces_of p n * p
+pieces_cover p n h =
+    let all : p * ((n + (p - 1)) / p) + (n + (p - 1)) % p ≡ n + (p - 1) = omega (arith, h) in
+    let less : (n + (p - 1)) % p < p = omega (arith, h) in
+    omega (arith, all, less)
+
+-- what is not empty has a piece
+pub some_pieces : (p n : ℕ) → 0 < p → 0 < n → 0 < pieces_of p n
+some_pieces p n legal some = positive (pieces_of p n) (omega (arith, pieces_cover p n legal, some))
+  where
+    positive : (c : ℕ) → 0 < c * p → 0 < c
+    positive zero h = absurd (omega (arith, h))
+    positive (suc c) h = omega arith
+
+-- whole pieces before some bytes come on top of theirs
+pub more_pieces : (p k n : ℕ) → 0 < p → pieces_of p (k * p + n) ≡ k + pieces_of p n
+more_pieces p k n legal = ap (λ m. m / p) (add_assoc (k * p) n (p - 1)) ∙ mul-add-div_right legal k (n + (p - 1))

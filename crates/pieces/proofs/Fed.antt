@@ -4,6 +4,7 @@ use Rattle.std.proofs.Common.{inr, refl, ap, sym, ◌∙◌, subst, arith}
 use Rattle.std.proofs.lemmas.Option.{none-some}
 use Rattle.std.proofs.lemmas.List.{append_assoc, append-nil, length-append, length-replicate, drop-append-le, length-drop, drop_all, take-replicate}
 use Rattle.std.proofs.lemmas.List.{replicate-append-replicate}
+use Rattle.chains.proofs.Cases.{some_or_none}
 use Rattle.sha1.specs.Sha1.{sha1}
 use Rattle.pieces.specs.Cuts.{cut}
 use Rattle.pieces.specs.Pieces.{pieces_of}
@@ -12,7 +13,7 @@ use Rattle.pieces.specs.declared.v1_feed.V1Feed.{V1Feed}
 use Rattle.pieces.specs.Cutting.{IsCutting}
 use Rattle.pieces.specs.Feeding.{FeedsStream, IsFeedAt, IsFeedGiven, IsFirstBad}
 use Rattle.pieces.proofs.Cutting.{last_cut, cut_count_is, cut_count_least, cut_count_none}
-use Rattle.pieces.proofs.Comparing.{first_bad_append, some_from, there_or_not}
+use Rattle.pieces.proofs.Comparing.{first_bad_append, some_from}
 
 -- a cut that is not empty holds something
 pub some_held : (r : Bool) (k : ℕ) → (r ≡ true → k ≡ 0) × (k ≡ 0 → r ≡ true) → r ≡ false → 0 < k
@@ -21,9 +22,9 @@ some_held r (suc k) fits holds = omega arith
 
 -- nothing runs after a bad cut, so a running cut comes before one
 pub no_bad : (f : V1Feed) (pieces : List (List ℕ)) (n : ℕ) (content : List ℕ) → IsFeedAt f pieces n content → 0 < f.cutter.filled → f.bad ≡ None
-no_bad f pieces n content at some = elim (there_or_not f.bad) [
-  | inl none ↦ none
-  | inr bad ↦ absurd (omega (arith, at.stopped (λ none. none-some bad.0 (sym none ∙ bad.1))))
+no_bad f pieces n content at some = elim (some_or_none f.bad) [
+  | inr none ↦ none
+  | inl bad ↦ absurd (omega (arith, at.stopped (λ none. none-some bad.0 (sym none ∙ bad.1))))
 ]
 
 -- the content ends where the running cut does

@@ -11,6 +11,9 @@ use benc::{DeviceFault, Sink, WriteFault, write_all};
 use std::alloc::AllocError;
 use thiserror::Error;
 
+/// The path that stands for standard output.
+pub const OUTPUT: &str = "-";
+
 /// Why a command could not do what it was asked for.
 #[derive(Debug, Drop, Error)]
 pub enum Fault<'a> {
@@ -21,7 +24,7 @@ pub enum Fault<'a> {
     /// end, or it changed meanwhile.
     #[error("cannot read a file of the folder")]
     ReadBelow(Vec<String>),
-    /// This path could not be written to; `-` is standard output.
+    /// This path could not be written to; [`OUTPUT`] is standard output.
     #[error("cannot write {0}")]
     Write(&'a str),
     /// The record with this path ends inside a frame.

@@ -7,7 +7,7 @@ mod refused;
 mod showing;
 mod text;
 
-pub use fault::{Fault, fault_line};
+pub use fault::{Fault, OUTPUT, fault_line};
 pub use refused::refusal_line;
 pub use showing::show;
 pub use text::{Line, flush_after, write_escaped, write_line, write_path};

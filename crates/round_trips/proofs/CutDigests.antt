@@ -1,14 +1,12 @@
 -- The digests of a stream's cuts, behind whole cuts.
 use Rattle.std.proofs.Common.{◌≡◌, ℕ, zero, suc, ◌+◌, ◌-◌, ◌*◌, ◌<◌, ◌≤◌, List, [], ◌∷◌, ◌++◌, length, map, take, drop, replicate, refl, sym, ap, ◌∙◌}
-use Rattle.std.proofs.Common.{append_assoc, add_assoc, ◌/◌, ◌%◌, arith, length-append, zero-mul}
-use Rattle.std.proofs.Math.Nat.{mul-add-div_right}
+use Rattle.std.proofs.Common.{append_assoc, ◌%◌, arith, length-append, zero-mul}
 use Rattle.std.proofs.Math.Seq.{drop-append-add}
 use Rattle.std.proofs.lemmas.List.{length-drop, length-replicate, length-take-le, map-append, take-append-drop}
 use Rattle.std.specs.List.{range_with_len}
 use Rattle.sha1.specs.Sha1.{sha1}
-use Rattle.opening.proofs.Placing.{pieces_cover}
 use Rattle.pieces.proofs.Closing.{digests_grow}
-use Rattle.pieces.proofs.Cutting.{cut_append, cut_count_none, cut_ends, last_cut}
+use Rattle.pieces.proofs.Cutting.{cut_append, cut_count_none, cut_ends, last_cut, pieces_cover, more_pieces}
 use Rattle.pieces.specs.Cuts.{cut, cut_digests, filled_up, last_cut_of}
 use Rattle.pieces.specs.Pieces.{pieces_of}
 
@@ -29,9 +27,6 @@ moved f g a b (suc m) each =
     ∙ ap (λ xs. g b ∷ xs) (moved f g (a + 1) (b + 1) m (λ j less. let x : (a + 1) + j ≡ a + suc j = omega arith in let y : b + suc j ≡ (b + 1) + j =
     omega arith in ap f x ∙ each (suc j) (omega (arith, less)) ∙ ap g y))
 
-shifted : (p k n : ℕ) → 0 < p → pieces_of p (k * p + n) ≡ k + pieces_of p n
-shifted p k n legal = ap (λ m. m / p) (add_assoc (k * p) n (p - 1)) ∙ mul-add-div_right legal k (n + (p - 1))
-
 cut_behind : (p n j : ℕ) (front rest : List ℕ) → length front ≡ p * n → cut p (front ++ rest) (n + j) ≡ cut p rest j
 cut_behind p n j front rest whole =
     let at : p * (n + j) ≡ length front + p * j = omega (arith, whole) in
@@ -43,10 +38,10 @@ digests_append p n front rest some whole =
     let m = pieces_of p (length rest) in
     let turned : p * n + length rest ≡ n * p + length rest = omega arith in
     let count : pieces_of p (length (front ++ rest)) ≡ n + m = ap (pieces_of p) (length-append front rest ∙ ap (λ k. k + length rest) whole ∙ turned)
-    ∙ shifted p n (length rest) some in
+    ∙ more_pieces p n (length rest) some in
     let bare : p * n ≡ n * p + 0 = omega arith in
     let none : n + 0 ≡ n = omega arith in
-    let before : pieces_of p (length front) ≡ n = ap (pieces_of p) (whole ∙ bare) ∙ shifted p n 0 some ∙ ap (λ k. n + k) (cut_count_none p some) ∙ none in
+    let before : pieces_of p (length front) ≡ n = ap (pieces_of p) (whole ∙ bare) ∙ more_pieces p n 0 some ∙ ap (λ k. n + k) (cut_count_none p some) ∙ none in
     let first : map (cut p (front ++ rest)) (range_with_len 0 n) ≡ map (cut p front) (range_with_len 0 n) =
     moved (cut p (front ++ rest)) (cut p front) 0 0 n (λ j less. cut_append p front rest (0 + j) (let ends = cut_ends p (0 + j) n (omega (arith, less)) in
     omega (arith, ends, whole))) in

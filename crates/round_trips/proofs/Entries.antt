@@ -1,8 +1,9 @@
 -- The files of a draft's torrent beside their contents.
-use Rattle.std.proofs.Common.{◌≡◌, ℕ, zero, suc, ◌+◌, ◌⊎◌, Bool, List, [], ◌∷◌, ◌++◌, length, map, Option, Some, None, slice_get, inl, inr, refl, sym, ap}
+use Rattle.std.proofs.Common.{◌≡◌, ℕ, zero, suc, ◌+◌, Bool, List, [], ◌∷◌, ◌++◌, length, map, Option, Some, None, slice_get, inl, inr, refl, sym, ap}
 use Rattle.std.proofs.Common.{subst, ◌∙◌, arith}
 use Rattle.std.specs.List.{fold}
 use Rattle.std.specs.Prelude.{option_and_then}
+use Rattle.chains.proofs.Cases.{some_or_none}
 use Rattle.drafts.specs.Outline.{OutlineFile, listed_file}
 use Rattle.filetree.specs.declared.files.ListedFile.{ListedFile}
 use Rattle.opening.proofs.Rooting.{place_push_new, place_push_there, with_cases}
@@ -83,10 +84,6 @@ module _ (p : ℕ) (hybrid : Bool) (under : List (List ℕ) → Option (Option (
 abbrev IsRootPlaced : List Root → List ℕ → Type 0
 IsRootPlaced ts s = (k : ℕ) × (place_in ts s ≡ Some k)
 
-placed_or_not : (o : Option ℕ) → (o ≡ None) ⊎ ((k : ℕ) × (o ≡ Some k))
-placed_or_not None = inl refl
-placed_or_not (Some k) = inr (k, refl)
-
 keeps_one : (ts : List Root) (n : ℕ) (o : Option (List ℕ)) (s : List ℕ) → IsRootPlaced ts s → IsRootPlaced (with_root ts n o) s
 keeps_one ts n None s there = there
 keeps_one ts n (Some r) s there =
@@ -101,12 +98,12 @@ keeps_all ts (f ∷ fs) s there = keeps_all (with_file ts f) fs s (keeps_one ts 
 
 placed_here : (ts : List Root) (n : ℕ) (s : List ℕ) → IsRootPlaced (with_root ts n (Some s)) s
 placed_here ts n s =
-    elim (placed_or_not (place_in ts s)) [
-      | inl none ↦
+    elim (some_or_none (place_in ts s)) [
+      | inr none ↦
           let r : Root = record { root = s; length = n } in
           let new : with_root ts n (Some s) ≡ ts ++ r ∷ [] = rw none refl in
           subst (λ us. IsRootPlaced us s) (sym new) (length ts, place_push_new ts r s none refl)
-      | inr there ↦ keeps_one ts n (Some s) s there
+      | inl there ↦ keeps_one ts n (Some s) s there
     ]
 
 pub root_placed : (ts : List Root) (fs : List ListedFile) (n : ℕ) (f : ListedFile) (s : List ℕ) → slice_get fs n ≡ Some f → f.root ≡ Some s

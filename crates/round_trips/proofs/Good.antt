@@ -2,6 +2,7 @@
 use Rattle.std.proofs.Common.{◌≡◌, ℕ, zero, suc, ◌*◌, ◌<◌, true, List, [], ◌∷◌, length, map, Option, Some, None, slice_get, if◌then◌else◌, inl, inr, refl, sym}
 use Rattle.std.proofs.Common.{ap, subst, ◌∙◌, arith, take, drop}
 use Rattle.std.specs.Prelude.{nat_lt, option_and_then}
+use Rattle.std.proofs.lemmas.List.{nil_from_length}
 use Rattle.drafts.proofs.DraftLayers.{root_used}
 use Rattle.drafts.proofs.Accepted.{listed_at, rooted_file}
 use Rattle.drafts.proofs.Tidy.{legal_some}
@@ -77,7 +78,7 @@ module _ (d : Outline) (cs : List (List ℕ)) (under : List (List ℕ) → Optio
       let x = is_of n e at in
       let size : e.length ≡ length x.content = x.length_is ∙ x.made.length_is in
       record {
-        empty = λ none. no_content x.content (sym size ∙ none);
+        empty = λ none. nil_from_length x.content (sym size ∙ none);
         fits = λ some.
             let file_some : 0 < x.file.length = subst (λ k. 0 < k) x.length_is some in
             let content_some : 0 < length x.content = subst (λ k. 0 < k) size some in
@@ -93,10 +94,6 @@ module _ (d : Outline) (cs : List (List ℕ)) (under : List (List ℕ) → Optio
               },
             );
       }
-    where
-      no_content : (c : List ℕ) → length c ≡ 0 → c ≡ []
-      no_content [] e = refl
-      no_content (b ∷ c) e = absurd (omega (arith, e))
 
   covers : (i : ℕ) → CoversAt d.piece_length cs i → Covers (torrent_of d) held i
   covers i c =

@@ -4,13 +4,13 @@ use Rattle.std.proofs.Common.{Some, if◌then◌else◌, inl, inr, refl, sym, ap
 use Rattle.std.proofs.lemmas.List.{append-nil, length-replicate}
 use Rattle.std.specs.List.{list_any, range_with_len}
 use Rattle.std.specs.Prelude.{nat_lt}
+use Rattle.std.proofs.lemmas.Bool.{or_parts}
 use Rattle.sha1.specs.Sha1.{sha1}
 use Rattle.drafts.specs.Outline.{OutlineFile}
 use Rattle.drafts.specs.Written.{digests_of, filled_cuts, has_content, stream_of}
 use Rattle.filetree.proofs.Bytes.{true_or_false}
 use Rattle.hashtree.specs.Tree.{root_of}
-use Rattle.opening.proofs.Placing.{pieces_cover}
-use Rattle.pieces.proofs.Cutting.{cut_count_none}
+use Rattle.pieces.proofs.Cutting.{cut_count_none, pieces_cover}
 use Rattle.pieces.specs.Cuts.{cut, cut_digests, filled_up, last_cut_of}
 use Rattle.pieces.specs.Pieces.{pieces_of}
 use Rattle.round_trips.proofs.CutDigests.{block_digests, block_of, digests_append}
@@ -56,20 +56,16 @@ no_bytes : (c : List ℕ) → nat_lt 0 (length c) ≡ false → c ≡ []
 no_bytes [] e = refl
 no_bytes (b ∷ c) e = let more : nat_lt 0 (suc (length c)) ≡ true = grind arith in let bad : true ≡ false = sym more ∙ e in cc
 
-neither : (a b : Bool) → a || b ≡ false → (a ≡ false) × (b ≡ false)
-neither true b e = cc
-neither false b e = (refl, e)
-
 pub none_left : (p : ℕ) (cs : List (List ℕ)) → has_bytes cs ≡ false → stream p cs ≡ []
 none_left p [] none = refl
 none_left p (c ∷ cs) none =
-    let parts = neither (nat_lt 0 (length c)) (has_bytes cs) none in
+    let parts = or_parts (nat_lt 0 (length c)) (has_bytes cs) none in
     rw (parts.1) (ap (λ x. x ++ stream p cs) (no_bytes c parts.0) ∙ none_left p cs parts.1)
 
 no_digests : (fs : List OutlineFile) → has_content fs ≡ false → digests_of fs ≡ []
 no_digests [] none = refl
 no_digests (f ∷ fs) none =
-    let parts = neither (nat_lt 0 f.length) (has_content fs) none in
+    let parts = or_parts (nat_lt 0 f.length) (has_content fs) none in
     rw (parts.0) (no_digests fs parts.1)
 
 pub block_length : (p : ℕ) (c : List ℕ) → 0 < p → length (block_of p c) ≡ pieces_of p (length c) * p

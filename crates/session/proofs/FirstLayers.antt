@@ -2,6 +2,7 @@
 use Rattle.std.proofs.Common.{◌≡◌, ℕ, ◌+◌, ◌-◌, ◌^◌, ◌<◌, ◌≤◌, true, false, List, length, Some, inl, inr, refl, sym, ap, ap₂, ◌∙◌, subst, arith}
 use Rattle.std.proofs.lemmas.Bool.{false≢true}
 use Rattle.std.proofs.lemmas.Option.{same_Some}
+use Rattle.chains.proofs.Cases.{some_or_none}
 use Rattle.hashtree.specs.Tree.{block_count, root_over}
 use Rattle.hashtree.proofs.Heights.{height_enough, height_least}
 use Rattle.opening.specs.Description.{TreeEntry}
@@ -19,7 +20,7 @@ use Rattle.node_maps.specs.Known.{look}
 use Rattle.partial_tree.specs.Kept.{KeptTree, info_of, TreeJoins}
 use Rattle.session.specs.Layouts.{root_of_entry}
 use Rattle.session.specs.Fresh.{KnowsRoot, KnowsFrom, IsPlanted}
-use Rattle.partial_tree.proofs.ClaimValues.{either, there_or_not, first_of_two, second_of_two}
+use Rattle.partial_tree.proofs.ClaimValues.{either, first_of_two, second_of_two}
 use Rattle.partial_tree.proofs.Keeping.{good_filled}
 use Rattle.tree_laws.proofs.Over.{claims-node, claims-no_more, claims-root_over}
 
@@ -38,7 +39,7 @@ module _ (t : TreeRoot) (K : PartialTree) (l : ℕ) (hashes : List Hash) (layer_
   joined-knows L is = record {
     nodes = λ k i low at.
         let claim = claims-node t l hashes layer_inside right_count k i low at in
-        is k i ∙ elim (there_or_not (K k i)) [
+        is k i ∙ elim (some_or_none (K k i)) [
           | inl (v, p) ↦ first_of_two (K k i) (fill_claims t.length l hashes k i) v p ∙ ap Some (agreed k i v _ p claim)
           | inr none ↦ second_of_two (K k i) (fill_claims t.length l hashes k i) none ∙ claim
         ];

@@ -17,10 +17,11 @@ use Rattle.node_maps.specs.Digest.{Hash}
 use Rattle.node_maps.specs.Places.{tree_height, PartialTree}
 use Rattle.node_maps.specs.Known.{look}
 use Rattle.partial_tree.specs.TreeRoot.{TreeRoot}
-use Rattle.partial_tree.proofs.ClaimValues.{first_of_two, second_of_two, there_or_not}
+use Rattle.partial_tree.proofs.ClaimValues.{first_of_two, second_of_two}
 use Rattle.partial_tree.proofs.Claimed.{base-claims}
 use Rattle.partial_tree.proofs.Powers.{spans-some}
 use Rattle.chains.specs.Chain.{Chain}
+use Rattle.chains.proofs.Cases.{some_or_none}
 use Rattle.session.specs.declared.verdict.Verdict.{Verdict}
 use Rattle.session.specs.declared.verdict.Verdict.TheVariants as verdict
 use Rattle.session.specs.Asks.{AskSet, ask_cmp}
@@ -188,7 +189,7 @@ stored_base S ask hashes c S' h =
           let ok = h.taken.0 in
           let claim = base-claims ask hashes (spans-some (tree_height h.asked.tree.length) ask ok.range) ok.range.power_of_two ok.range.aligned ok.count.enough
           (ask.index + j) (omega arith) (omega arith) in
-          elim (there_or_not (look h.asked.state.known ask.base (ask.index + j))) [
+          elim (some_or_none (look h.asked.state.known ask.base (ask.index + j))) [
             | inl (v, known) ↦ (v, h.taken.1.joined_is ask.base (ask.index + j) ∙ first_of_two (look h.asked.state.known ask.base (ask.index + j)) _ v known)
             | inr none ↦ (
               claim.0,

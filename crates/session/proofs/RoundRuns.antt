@@ -24,8 +24,8 @@ use Rattle.node_maps.specs.Known.{look}
 use Rattle.session.specs.Session.{SessionSeen, HasClosedTrees, HasDistinctRoots, HasHashes, Step}
 use Rattle.chains.specs.Chain.{Chain}
 use Rattle.chains.proofs.Chains.{LastStep, last_step}
+use Rattle.chains.proofs.Cases.{some_or_none}
 use Rattle.session.specs.Rounds.{HasNoMoreGaps, RoundLeavesFewer}
-use Rattle.partial_tree.proofs.ClaimValues.{there_or_not}
 use Rattle.tree_laws.proofs.Whole.{whole-closed}
 use Rattle.tree_laws.proofs.Answers.{answer-reaches, answer-root}
 use Rattle.tree_laws.proofs.Wanted.{want-range, whole-can_answer, gaps-fall, gaps-none, gaps-all_known}
@@ -43,7 +43,7 @@ pub wanted-some : (t : TreeRoot) (K : PartialTree) (b : ℕ) → K 0 b ≡ None 
 wanted-some t K b none = ap (λ (o : Option Hash). cond (is_none o) (Some (want_ask t b)) None) none
 
 pub wanted-is : (t : TreeRoot) (K : PartialTree) (b : ℕ) (ask : Ask) → want_of t K b ≡ Some ask → (K 0 b ≡ None) × (ask ≡ want_ask t b)
-wanted-is t K b ask e = elim (there_or_not (K 0 b)) [
+wanted-is t K b ask e = elim (some_or_none (K 0 b)) [
   | inl known ↦ absurd (none-some ask (sym (wanted-none t K b known) ∙ e))
   | inr none ↦ (none, same_Some ask (want_ask t b) (sym e ∙ wanted-some t K b none))
 ]
@@ -52,7 +52,7 @@ pub no_gap-nothing_wanted : (t : TreeRoot) (K : PartialTree) → gaps t.length K
 no_gap-nothing_wanted t K e b inside = wanted-none t K b (gaps-none t.length K e b inside)
 
 pub nothing_wanted-no_gap : (t : TreeRoot) (K : PartialTree) → ((b : ℕ) → b < block_count t.length → want_of t K b ≡ None) → gaps t.length K ≡ 0
-nothing_wanted-no_gap t K all = gaps-all_known t.length K (λ b inside. elim (there_or_not (K 0 b)) [
+nothing_wanted-no_gap t K all = gaps-all_known t.length K (λ b inside. elim (some_or_none (K 0 b)) [
   | inl known ↦ known
   | inr none ↦ absurd (none-some (want_ask t b) (sym (all b inside) ∙ wanted-some t K b none))
 ])

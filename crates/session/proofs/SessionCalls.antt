@@ -1,6 +1,6 @@
 -- Whole layers, answers and places in a session.
-use Rattle.std.proofs.Common.{◌≡◌, ◌⊎◌, inl, inr, ℕ, ◌<◌, List, map, length, set, get_or, Option, Some, None, option_map, Result, Ok, Err, IfOk}
-use Rattle.std.proofs.Common.{IfErr, OnErr, refl, sym, ap, ap₂, ◌∙◌, subst, arith}
+use Rattle.std.proofs.Common.{◌≡◌, inl, inr, ℕ, ◌<◌, List, map, length, set, get_or, Some, option_map, Result, Ok, Err, IfOk}
+use Rattle.std.proofs.Common.{IfErr, OnErr, sym, ap, ap₂, ◌∙◌, subst, arith}
 use Rattle.std.specs.Prelude.{slice_get}
 use Rattle.std.specs.FinSet as leaves
 use Rattle.std.proofs.lemmas.Option.{slice_get-map}
@@ -11,6 +11,7 @@ use Rattle.opening.specs.Sound.{IsSound}
 use Rattle.opening.specs.Blocks.{IsBlockRun}
 use Rattle.opening.specs.Places.{place_of}
 use Rattle.chains.specs.Chain.{Chain}
+use Rattle.chains.proofs.Cases.{some_or_none}
 use Rattle.session.specs.Blocks.{BlocksSeen, cuts}
 use Rattle.partial_tree.specs.declared.refusal.BlockRefusal.TheVariants.{BadPlace, BadSize, Unproved, BadBlock}
 use Rattle.wire.specs.declared.message.Ask.{Ask}
@@ -107,14 +108,10 @@ module _ (d : Description) (ts : List KeptTree) (kept : AreKept d ts) where
 
 -- ---- files and trees
 
-none_or_some : (o : Option ℕ) → ((n : ℕ) × (o ≡ Some n)) ⊎ (o ≡ None)
-none_or_some None = inr refl
-none_or_some (Some n) = inl (n, refl)
-
 -- a file that has a block has a tree
 pub has_tree : (d : Description) → IsSound d → (file b : ℕ) (f : FileEntry) → slice_get d.files file ≡ Some f → b < block_count f.length
     → (n : ℕ) × (f.tree ≡ Some n)
-has_tree d sound file b f there low = elim (none_or_some f.tree) [
+has_tree d sound file b f there low = elim (some_or_none f.tree) [
   | inl tree ↦ tree
   | inr none ↦
       let empty : f.length ≡ 0 = (sound.files file f there).no_tree none in

@@ -5,8 +5,7 @@ use Rattle.partial_tree.specs.TreeRoot.{TreeRoot}
 use Rattle.node_maps.specs.Places.{tree_height, PartialTree, IsTreePlace}
 use Rattle.node_maps.specs.Digest.{Hash, join}
 use Rattle.partial_tree.specs.Closed.{IsFamily, IsClosed, Collision}
-use Rattle.chains.proofs.Cases.{same_or_not}
-use Rattle.partial_tree.proofs.Digests.{same_parts}
+use Rattle.chains.proofs.Cases.{same_or_not, same_parts}
 use Rattle.partial_tree.proofs.Tracing.{left_or_right}
 
 module _ (t : TreeRoot) (J K : PartialTree) (closed_J : IsClosed t J) (closed_K : IsClosed t K) where

@@ -1,6 +1,6 @@
 -- The gaps: they never rise, and the true answer to what is wanted closes one.
 use Rattle.std.proofs.Common.{◌≡◌, ◌≢◌, ◌⊎◌, ℕ, zero, suc, ◌+◌, ◌<◌, ◌≤◌, Bool, true, false, ◌||◌, inl, inr, refl, sym, ap, ap₂, ◌∙◌, arith}
-use Rattle.std.proofs.lemmas.Bool.{cases_lt, cases_Bool, false≢true, or_cases, or_left, or_right}
+use Rattle.std.proofs.lemmas.Bool.{cases_lt, cases_Bool, false≢true, or_cases, or_left, or_right, or_from}
 use Rattle.partial_tree.specs.Gaps.{one_if, count_below, some_below}
 
 -- ---- counts
@@ -116,10 +116,7 @@ some-where p (suc n) e = found (or_cases (some_below p n) (p n) e) (some-where p
 
 pub some-none : (p : ℕ → Bool) (n : ℕ) → ((k : ℕ) → k < n → p k ≡ false) → some_below p n ≡ false
 some-none p zero h = refl
-some-none p (suc n) h = or_none _ _ (some-none p n (λ k low. h k (omega arith))) (h n (omega arith))
-  where
-    or_none : (a b : Bool) → a ≡ false → b ≡ false → (a || b) ≡ false
-    or_none a b e d = ap₂ ◌||◌ e d
+some-none p (suc n) h = or_from _ _ (some-none p n (λ k low. h k (omega arith))) (h n (omega arith))
 
 pub some-same : (p q : ℕ → Bool) (n : ℕ) → ((k : ℕ) → k < n → p k ≡ q k) → some_below p n ≡ some_below q n
 some-same p q zero h = refl

@@ -5,6 +5,7 @@ use Rattle.std.specs.Prelude.{slice_get}
 use Rattle.std.proofs.lemmas.Option.{slice_get_within, slice_get-get_or}
 use Rattle.std.proofs.lemmas.Bool.{and_from, eq-eqb, le-leb, lt-ltb, cond-true}
 use Rattle.std.proofs.lemmas.List.{append-nil, take_all}
+use Rattle.chains.proofs.Cases.{some_or_none}
 use Rattle.hashtree.specs.Tree.{filled, node_over, root_over, tree}
 use Rattle.hashtree.proofs.Nodes.{leaf_at, node_over-suc}
 use Rattle.node_maps.specs.Digest.{Hash}
@@ -13,7 +14,7 @@ use Rattle.node_maps.specs.Places.{tree_height, IsTreePlace}
 use Rattle.partial_tree.specs.Claims.{cover, given, base_hash, uncle_hash}
 use Rattle.partial_tree.specs.Fill.{fill_ask, fill_hashes, fill_claims, pad_from}
 use Rattle.node_maps.proofs.Places.{place_left, place_right, place_parent}
-use Rattle.partial_tree.proofs.ClaimValues.{either, there_or_not, first_of_two, base-read, uncle-read, claims-read, claims-zero, claims-given, claims-joined}
+use Rattle.partial_tree.proofs.ClaimValues.{either, first_of_two, base-read, uncle-read, claims-read, claims-zero, claims-given, claims-joined}
 use Rattle.partial_tree.proofs.WholeLayers.{full}
 
 module _ (t : TreeRoot) (l : ℕ) (hashes : List Hash) (layer_inside : l ≤ tree_height t.length) (right_count : length hashes ≡ pad_from t.length l) where
@@ -37,7 +38,7 @@ module _ (t : TreeRoot) (l : ℕ) (hashes : List Hash) (layer_inside : l ≤ tre
       ]
 
   not_given : (k i : ℕ) → l ≤ k → given (fill_ask t.length l) (fill_hashes t.length l hashes) (suc k) i ≡ None
-  not_given k i low = elim (there_or_not (given (fill_ask t.length l) (fill_hashes t.length l hashes) (suc k) i)) [
+  not_given k i low = elim (some_or_none (given (fill_ask t.length l) (fill_hashes t.length l hashes) (suc k) i)) [
     | inl (v, e) ↦ let at = given-layer (suc k) i v e in absurd (omega (arith, at.0))
     | inr none ↦ none
   ]

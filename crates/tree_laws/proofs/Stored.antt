@@ -2,6 +2,7 @@
 -- collision of the two is named.
 use Rattle.std.proofs.Common.{◌≡◌, ◌⊎◌, ℕ, zero, suc, ◌+◌, ◌-◌, ◌*◌, ◌/◌, ◌^◌, ◌<◌, List, Some, None, inl, inr, sym, ap, ap₂, ◌∙◌, subst, arith, eq-or-lt_of_le}
 use Rattle.std.proofs.lemmas.Option.{same_Some, none-some}
+use Rattle.chains.proofs.Cases.{some_or_none}
 use Rattle.wire.specs.declared.message.Ask.{Ask}
 use Rattle.partial_tree.specs.TreeRoot.{TreeRoot}
 use Rattle.node_maps.specs.Places.{tree_height, PartialTree, IsTreePlace}
@@ -10,7 +11,7 @@ use Rattle.partial_tree.specs.Closed.{IsFamily, IsClosed, Collision}
 use Rattle.partial_tree.specs.Claims.{claims, top_layer, top_index, GoodRange, GoodCount, IsAccepted, IsAgreed, IsHeldBy}
 use Rattle.tree_laws.proofs.Agree.{agree_or_collision}
 use Rattle.partial_tree.proofs.Deciding.{each_below}
-use Rattle.partial_tree.proofs.ClaimValues.{there_or_not, claims-read, claims-zero}
+use Rattle.partial_tree.proofs.ClaimValues.{claims-read, claims-zero}
 
 module _ (t : TreeRoot) (J K : PartialTree) (closed_J : IsClosed t J) (closed_K : IsClosed t K) where
   -- J and K agree at a place
@@ -19,7 +20,7 @@ module _ (t : TreeRoot) (J K : PartialTree) (closed_J : IsClosed t J) (closed_K 
 
   same_at : (l i : ℕ) → SameAt l i ⊎ Collision J K
   unfolding SameAt
-  same_at l i = both (there_or_not (J l i)) (there_or_not (K l i))
+  same_at l i = both (some_or_none (J l i)) (some_or_none (K l i))
     where
       both : ((u : Hash) × (J l i ≡ Some u)) ⊎ (J l i ≡ None) → ((v : Hash) × (K l i ≡ Some v)) ⊎ (K l i ≡ None) → SameAt l i ⊎ Collision J K
       both (inr none) q = inl (λ u v e d. absurd (none-some u (sym none ∙ e)))

@@ -8,14 +8,15 @@ use Rattle.sha2.specs.Sha256.{sha256}
 use Rattle.node_maps.specs.Digest.{Hash, join}
 use Rattle.hashtree.specs.Tree.{pad_leaf, block, block_count, leaves, tree, zero_hash, node}
 use Rattle.hashtree.proofs.Zeros.{zero_hash-zero, zero_hash-suc}
+use Rattle.hashtree.proofs.Pairs.{two-pow}
 use Rattle.node_maps.specs.Places.{IsTreePlace, tree_height}
-use Rattle.node_maps.proofs.Places.{two_halves, place_left, place_right}
+use Rattle.node_maps.proofs.Places.{place_left, place_right}
 
 -- a node is the join of its two children
 pub node-suc : (f : List ℕ) (l i : ℕ) → node f (suc l) i ≡ join (node f l (2 * i)) (node f l (2 * i + 1))
 unfolding tree
 node-suc f l i =
-    let e : 2 ^ suc l ≡ 2 ^ l + 2 ^ l = two_halves l in
+    let e : 2 ^ suc l ≡ 2 ^ l + 2 ^ l = two-pow l in
     let s : i * 2 ^ suc l ≡ 2 * i * 2 ^ l = ap (λ k. i * k) e ∙ omega arith in
     ap₂ (λ a b. join (tree l a) (tree l b))
     (take-take (2 ^ l) (2 ^ suc l) (drop (i * 2 ^ suc l) (leaves f)) (omega arith)
@@ -58,7 +59,7 @@ node-past f zero i at h =
     let e : tree_height (length f) - 0 ≡ tree_height (length f) = omega arith in
     node-pad f i (subst (λ k. i < 2 ^ k) e at.1) (omega arith) ∙ sym zero_hash-zero
 node-past f (suc l) i at h =
-    let e : 2 ^ suc l ≡ 2 ^ l + 2 ^ l = two_halves l in
+    let e : 2 ^ suc l ≡ 2 ^ l + 2 ^ l = two-pow l in
     let s : i * 2 ^ suc l ≡ 2 * i * 2 ^ l = ap (λ k. i * k) e ∙ omega arith in
     node-suc f l i
     ∙ ap₂ join (node-past f l (2 * i) (place_left _ l i at.0 at) (omega arith)) (node-past f l (2 * i + 1) (place_right _ l i at.0 at) (omega arith))

@@ -4,6 +4,7 @@ use Rattle.std.proofs.Common.{None, inl, inr, refl, sym, ap, ◌∙◌, subst, a
 use Rattle.std.proofs.lemmas.Option.{none-some}
 use Rattle.std.proofs.lemmas.Bool.{cases_lt, cases_Bool, false≢true, and_parts, and_from, and_right, ltb-true, lt-ltb}
 use Rattle.std.proofs.lemmas.Nat.{shl-shr, mod_below, div_below, div-mul-add, mod-mul-add, le-div}
+use Rattle.chains.proofs.Cases.{some_or_none}
 use Rattle.wire.specs.declared.message.Ask.{Ask}
 use Rattle.partial_tree.specs.TreeRoot.{TreeRoot, Fits}
 use Rattle.node_maps.specs.Places.{tree_height, PartialTree, IsKnown, IsTreePlace}
@@ -12,10 +13,10 @@ use Rattle.hashtree.specs.Tree.{block_count, height, node}
 use Rattle.partial_tree.specs.Closed.{Keeps, IsClosed, Collision, whole}
 use Rattle.partial_tree.specs.Claims.{span, claims, joined, GoodRange, CanAnswer, IsAccepted, answer_of}
 use Rattle.partial_tree.specs.Gaps.{window, is_missing, is_gap, gaps, want_ask}
-use Rattle.hashtree.proofs.Heights.{height_enough, pow_split}
-use Rattle.partial_tree.proofs.Powers.{height_pow, spans-some}
+use Rattle.hashtree.proofs.Heights.{height_enough, pow_split, height_pow}
+use Rattle.partial_tree.proofs.Powers.{spans-some}
 use Rattle.tree_laws.proofs.Whole.{whole-at, whole-closed}
-use Rattle.partial_tree.proofs.ClaimValues.{first_of_two, second_of_two, there_or_not}
+use Rattle.partial_tree.proofs.ClaimValues.{first_of_two, second_of_two}
 use Rattle.partial_tree.proofs.Claimed.{claimed-base, base-claims}
 use Rattle.tree_laws.proofs.Answers.{answer-stored}
 use Rattle.tree_laws.proofs.Gaps.{count-le, count-lt, count-one, count-none, count-zero, count-upto, some-from, some-where, some-none, some-same}
@@ -88,7 +89,7 @@ gap-closed len K r all = some-none _ (window len) (λ j in'. known-not_missing l
 missing-keeps : (len : ℕ) (K L : PartialTree) → Keeps K L → (i : ℕ) → is_missing len L i ≡ true → is_missing len K i ≡ true
 missing-keeps len K L keeps i e =
     let (in', none) = missing-read len L i e in
-    elim (there_or_not (K 0 i)) [
+    elim (some_or_none (K 0 i)) [
       | inl (v, known) ↦ absurd (none-some v (sym none ∙ keeps 0 i v known))
       | inr missing ↦ missing-from len K i in' missing
     ]
@@ -136,7 +137,7 @@ gaps-at_most len K = count-upto (is_gap len K) (2 ^ tree_height len / window len
 -- none is left exactly where every block's leaf is known
 pub gaps-none : (len : ℕ) (K : PartialTree) → gaps len K ≡ 0 → (b : ℕ) → b < block_count len → IsKnown K 0 b
 unfolding gaps
-gaps-none len K e b in' = elim (there_or_not (K 0 b)) [
+gaps-none len K e b in' = elim (some_or_none (K 0 b)) [
   | inl known ↦ known
   | inr none ↦ absurd (false≢true (sym (count-none (is_gap len K) (2 ^ tree_height len / window len) e (b / window len) (window-of len b in'))
       ∙ gap-of len K b in' none))
@@ -200,15 +201,15 @@ module _ (t : TreeRoot) (b : ℕ) (tall : 1 ≤ tree_height t.length) (in' : b <
         let i : ℕ = b / window t.length * window t.length + j in
         let c = base-claims (want_ask t b) hashes (spans-some (tree_height t.length) (want_ask t b) ok.range) ok.range.power_of_two ok.range.aligned
         ok.count.enough i (omega arith) (omega arith) in
-        elim (there_or_not (K 0 i)) [
+        elim (some_or_none (K 0 i)) [
           | inl (v, known) ↦ (v, first_of_two (K 0 i) _ v known)
           | inr none ↦ (c.0, second_of_two (K 0 i) _ none ∙ c.1)
         ]
 
     pub window-only : (i : ℕ) → i / window t.length ≢ b / window t.length → joined K (claims (want_ask t b) hashes) 0 i ≡ K 0 i
-    window-only i other = elim (there_or_not (K 0 i)) [
+    window-only i other = elim (some_or_none (K 0 i)) [
       | inl (v, known) ↦ first_of_two (K 0 i) _ v known ∙ sym known
-      | inr none ↦ elim (there_or_not (claims (want_ask t b) hashes 0 i)) [
+      | inr none ↦ elim (some_or_none (claims (want_ask t b) hashes 0 i)) [
         | inr nothing ↦ second_of_two (K 0 i) _ none ∙ nothing ∙ sym none
         | inl (v, claim) ↦
             let (low, high) = claimed-base (want_ask t b) hashes (spans-some (tree_height t.length) (want_ask t b) ok.range) ok.range.power_of_two

@@ -8,10 +8,11 @@ use Rattle.partial_tree.specs.TreeRoot.{TreeRoot, Fits}
 use Rattle.node_maps.specs.Places.{tree_height, IsTreePlace}
 use Rattle.node_maps.specs.Digest.{Hash, IsHash, join}
 use Rattle.hashtree.specs.Tree.{block, block_count, leaves, tree, node}
+use Rattle.hashtree.proofs.Pairs.{two-pow}
 use Rattle.partial_tree.specs.Closed.{IsClosed, whole}
 use Rattle.partial_tree.proofs.Digests.{is_hash}
 use Rattle.partial_tree.proofs.WholeLayers.{pad-is_hash}
-use Rattle.node_maps.proofs.Places.{two_halves, place_parent, place_left, place_right}
+use Rattle.node_maps.proofs.Places.{place_parent, place_left, place_right}
 use Rattle.tree_laws.proofs.Trees.{node-suc, node-leaf, node-pad, node-past}
 
 -- what the whole tree has at a place
@@ -42,7 +43,7 @@ pub tree-take : (m : ℕ) (xs : List Hash) → tree m (take (2 ^ m) xs) ≡ tree
 unfolding tree
 tree-take zero xs = get_or-take 1 xs 0 [] (omega arith)
 tree-take (suc m) xs =
-    let e : 2 ^ suc m ≡ 2 ^ m + 2 ^ m = two_halves m in
+    let e : 2 ^ suc m ≡ 2 ^ m + 2 ^ m = two-pow m in
     ap₂ (λ a b. join (tree m a) b)
     (take-take (2 ^ m) (2 ^ suc m) xs (omega arith))
     (ap (λ k. tree m (drop (2 ^ m) (take k xs))) e ∙ ap (tree m) (drop-take (2 ^ m) (2 ^ m) xs) ∙ tree-take m (drop (2 ^ m) xs))

@@ -1,10 +1,11 @@
 use Rattle.std.proofs.Common.{rules, ◌≡◌, [], Some, get_or, refl, subst, inr}
 use Rattle.std.specs.Prelude.{slice_get}
+use Rattle.pieces.proofs.Legal.{piece_length_is}
 use Rattle.opening.specs.Seen.{file_entry, tree_entry}
 use Rattle.opening.specs.declared.torrent.TreeInfo.{TreeInfo}
+use Rattle.opening.proofs.Placing.{file_there}
 use Rattle.btcheck_c.specs.FileChecks.{BeginsFile}
-use Rattle.c_layouts.proofs.Entries.{file_at}
-use Rattle.btcheck_c.proofs.Starting.{info_inside, info_sound, info_there, piece_length_is}
+use Rattle.btcheck_c.proofs.Starting.{info_inside, info_sound, info_there}
 use Rattle.btcheck_c.proofs.check_calls.check_of.Goals as goal
 
 abbrev none_there : TreeInfo
@@ -13,7 +14,7 @@ none_there = record { root = []; length = 0; layer = record { ref_ptr = (0, 0); 
 pub bounds-trees-tree : goal.bounds-trees-tree
 bounds-trees-tree c =
     let d = c.args.torrent.now in let f = file_entry c.in-Some.file.now in
-    let file : slice_get d.files c.args.number ≡ Some f = file_at d c.files.result.now c.args.number c.in-Some.file.now c.files.ensures
+    let file : slice_get d.files c.args.number ≡ Some f = file_there d c.files.result.now c.args.number c.in-Some.file.now c.files.ensures
     c.in-Some.ensures.lookup.3.0 (c.in-Some.ensures.lookup.3.1 c.in-Some.file.now) in
     info_inside d c.trees.result.now f c.in-Some-tree.tree c.trees.ensures (c.sound.ensures.files c.args.number f file) c.in-Some-tree.is
 
@@ -32,7 +33,7 @@ returns-in-None-tree c =
       refl,
       (
         file_entry c.in-Some.file.now,
-        file_at d c.files.result.now c.args.number c.in-Some.file.now c.files.ensures
+        file_there d c.files.result.now c.args.number c.in-Some.file.now c.files.ensures
             c.in-Some.ensures.lookup.3.0 (c.in-Some.ensures.lookup.3.1 c.in-Some.file.now),
         c.in-None-tree.is,
       ),
@@ -41,7 +42,7 @@ returns-in-None-tree c =
 pub returns-in-Some-tree : goal.returns-in-Some-tree
 returns-in-Some-tree c =
     let d = c.args.torrent.now in let f = file_entry c.in-Some.file.now in
-    let file : slice_get d.files c.args.number ≡ Some f = file_at d c.files.result.now c.args.number c.in-Some.file.now c.files.ensures
+    let file : slice_get d.files c.args.number ≡ Some f = file_there d c.files.result.now c.args.number c.in-Some.file.now c.files.ensures
     c.in-Some.ensures.lookup.3.0 (c.in-Some.ensures.lookup.3.1 c.in-Some.file.now) in
     let inside = info_inside d c.trees.result.now f c.in-Some-tree.tree c.trees.ensures (c.sound.ensures.files c.args.number f file) c.in-Some-tree.is in
     let e = tree_entry (get_or c.trees.result.now c.in-Some-tree.tree none_there) in

@@ -1,6 +1,7 @@
 use Rattle.std.proofs.Common.{drop}
+use Rattle.filetree.proofs.Folders.{texts}
 use Rattle.c_layouts.specs.Paths.{path_text}
-use Rattle.c_layouts.proofs.Joining.{texts, tail_text, IsCounted}
+use Rattle.c_layouts.proofs.Joining.{tail_text, IsCounted}
 use Rattle.c_layouts.proofs.path_text.text_length.Given as goal
 
 -- some first components were counted

@@ -1,6 +1,7 @@
 use Rattle.std.proofs.Common.{drop}
+use Rattle.filetree.proofs.Folders.{texts}
 use Rattle.c_layouts.specs.Paths.{path_text}
-use Rattle.c_layouts.proofs.Joining.{texts, tail_text, IsWritten}
+use Rattle.c_layouts.proofs.Joining.{tail_text, IsWritten}
 use Rattle.c_layouts.proofs.path_text.write_text.Given as goal
 
 -- some first components were written

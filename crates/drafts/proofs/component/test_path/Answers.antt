@@ -1,25 +1,21 @@
-use Rattle.std.proofs.Common.{◌≡◌, ◌==◌, true, ◌⊎◌, ℕ, ◌+◌, ◌<◌, List, [], ◌∷◌, length, get_or, map, inl, inr, refl, sym, ap, subst, ◌∙◌, arith}
+use Rattle.std.proofs.Common.{◌≡◌, ◌==◌, true, ℕ, ◌+◌, ◌<◌, List, [], ◌∷◌, length, get_or, inl, inr, refl, sym, ap, subst, ◌∙◌, arith}
 use Rattle.std.proofs.lemmas.Bool.{false≢true}
 use Rattle.std.specs.Borrow.{Bor}
 use Rattle.std.specs.Prelude.{Some, option_map, slice_get}
 use Rattle.std.proofs.lemmas.List.{length-map}
 use Rattle.std.proofs.lemmas.Option.{same_Some, slice_get-map, slice_get-get_or, slice_get_within}
+use Rattle.chains.proofs.Cases.{last_or_before}
 use Rattle.filetree.specs.Paths.{IsComponent}
+use Rattle.filetree.proofs.Folders.{texts}
 use Rattle.drafts.proofs.component.test_path.Goals as goal
-
-abbrev texts : List (Bor (List ℕ)) → List (List ℕ)
-texts xs = map (λ s. s.now) xs
 
 at : (xs : List (Bor (List ℕ))) (i : ℕ) (d : Bor (List ℕ)) → i < length xs → slice_get (texts xs) i ≡ Some (get_or xs i d).now
 at xs i d low = slice_get-map (λ (s : Bor (List ℕ)). s.now) xs i ∙ ap (option_map (λ (s : Bor (List ℕ)). s.now)) (slice_get-get_or xs i d low)
 
-before_or_at : (k i : ℕ) → k < i + 1 → (k < i) ⊎ (k ≡ i)
-before_or_at k i less = grind arith
-
 more : (xs : List (Bor (List ℕ))) (i : ℕ) (d : Bor (List ℕ)) → i < length xs → IsComponent (get_or xs i d).now
     → ((k : ℕ) (x : List ℕ) → k < i → slice_get (texts xs) k ≡ Some x → IsComponent x)
     → (k : ℕ) (x : List ℕ) → k < i + 1 → slice_get (texts xs) k ≡ Some x → IsComponent x
-more xs i d low good before k x less there = elim (before_or_at k i less) [
+more xs i d low good before k x less there = elim (last_or_before k i less) [
   | inl old ↦ before k x old there
   | inr same ↦ subst IsComponent (same_Some _ _ (sym (at xs i d low) ∙ ap (slice_get (texts xs)) (sym same) ∙ there)) good
 ]

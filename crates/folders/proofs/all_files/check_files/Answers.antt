@@ -1,4 +1,4 @@
-use Rattle.std.proofs.Common.{◌∷◌, ◌++◌, slice_get, ◌≡◌, ◌∙◌, ◌+◌, ◌≤◌, ◌<◌, ◌^◌, ℕ, List, length, map}
+use Rattle.std.proofs.Common.{◌∷◌, ◌++◌, slice_get, ◌≡◌, ◌∙◌, ◌+◌, ◌<◌, ◌^◌, ℕ, List, length}
 use Rattle.std.proofs.Common.{[], ap, sym, subst, Some, arith}
 use Rattle.std.proofs.lemmas.Result.{err_from_is_err_and}
 use Rattle.opening.specs.Description.{Description, FileEntry}
@@ -7,10 +7,10 @@ use Rattle.std.proofs.lemmas.List.{length-map, take_all}
 use Rattle.chains.specs.Chain.{Chain}
 use Rattle.std.proofs.lemmas.List.Sums.{count_by-le-length}
 use Rattle.opening.specs.Seen.{file_entry}
+use Rattle.opening.proofs.Placing.{file_there, all_passed}
 use Rattle.folders.specs.FolderCheck.{HasChecked, verdicts_of}
 use Rattle.folders.specs.Verdicts.{is_unreadable, unreadable_count}
 use Rattle.folders.proofs.Counts.{more_none}
-use Rattle.folders.proofs.Places.{file_there}
 use Rattle.folders.specs.Printed.{verdicts_text, wanted_text}
 use Rattle.folders.specs.LinesOut.{HasBroken, HasSent}
 use Rattle.folders.specs.Shelf.{ShelfContents, more}
@@ -80,9 +80,6 @@ returns-in_err-write-clause-cut g c =
           (broke_more (g.T.LinesOut.seen c.args.out.now) (g.T.LinesOut.seen c.files.out) (g.T.LinesOut.seen c.write.new.self)
           (verdicts_text c.args.lines before t.files) (wanted_text c.args.lines next.result f) c.files.invariant.sent c.in_err-write.ensures),
     ))
-
-all_passed : (t : Description) (n : ℕ) (files : List File) → map file_entry files ≡ t.files → length files ≤ n → n ≤ length files → n ≡ length t.files
-all_passed t n files is le ge = omega (arith, length-map files file_entry, ap length is)
 
 pub returns-clause-verdicts : goal.returns-clause-verdicts
 returns-clause-verdicts g c =

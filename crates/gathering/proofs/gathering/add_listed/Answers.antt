@@ -1,6 +1,7 @@
-use Rattle.std.proofs.Common.{◌≡◌, ℕ, ◌<◌, ap, inl, inr, length, map, subst, arith}
+use Rattle.std.proofs.Common.{ap, inl, inr, length, map, subst, arith}
 use Rattle.std.proofs.lemmas.List.{length-map}
 use Rattle.std.proofs.lemmas.Option.{slice_get_within}
+use Rattle.chains.proofs.Cases.{above_zero}
 use Rattle.folders.specs.Shelf.{path_bytes}
 use Rattle.gathering.specs.Gathering.{HasComponents}
 use Rattle.gathering.proofs.Listed.{gathers_all, listed_as, stopped_at}
@@ -24,9 +25,6 @@ returns-clause-gathers g c =
     (rw c.deref-2.ensures.value at c.in-Err-add_files.ensures.adds)
     c.swap_remove.ensures.value c.at.ensures
 
-positive : (n : ℕ) → (n ≡ 0 → ⊥) → 0 < n
-positive n some = grind (arith, some)
-
 pub returns-in_default-clause-gathers : goal.returns-in_default-clause-gathers
 returns-in_default-clause-gathers g c =
     inr (inl (record {
@@ -35,7 +33,7 @@ returns-in_default-clause-gathers g c =
       listing_is = listed_as g.S.Shelf c.args.shelf.now _ c.in-Ok.paths c.sort_unstable.new.self.items c.in-Ok.ensures.lists
           c.in-Ok.ensures.listed c.sort_unstable.ensures.permutation c.sort_unstable.ensures.sorted;
       some = subst HasComponents (ap (map path_bytes) c.deref.ensures.value)
-          (c.longest.ensures.some (positive c.longest.result (λ none. let is : _ = c.in_default.ensures.succeeds none in let no : ⊥ = cc in no)));
+          (c.longest.ensures.some (above_zero c.longest.result (λ none. let is : _ = c.in_default.ensures.succeeds none in let no : ⊥ = cc in no)));
       quiet = c.in-Ok.ensures.counts;
       stays = c.list.ensures.stays;
     }))

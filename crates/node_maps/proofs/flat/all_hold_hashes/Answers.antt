@@ -1,14 +1,9 @@
-use Rattle.std.proofs.Common.{◌≡◌, Option, Some, None, is_some, true, not, get_or, refl, sym, ap, ◌∙◌, below_more}
+use Rattle.std.proofs.Common.{None, is_some, true, not, get_or, sym, ap, ◌∙◌, below_more}
 use Rattle.std.proofs.lemmas.Bool.{false≢true}
-use Rattle.node_maps.specs.Digest.{Hash}
+use Rattle.chains.proofs.Cases.{some_of}
 use Rattle.node_maps.specs.Flat.{hash_in_row}
 use Rattle.node_maps.proofs.Runs.{from-start}
 use Rattle.node_maps.proofs.flat.all_hold_hashes.Goals as goal
-
--- a cell that is not empty holds a hash
-holds : (cell : Option Hash) → is_some cell ≡ true → (v : Hash) × (cell ≡ Some v)
-holds None is = absurd (false≢true is)
-holds (Some h) is = (h, refl)
 
 pub returns-then-is_none : goal.returns-then-is_none
 returns-then-is_none c =
@@ -20,5 +15,5 @@ returns-then-is_none c =
 
 pub cells-preserved : goal.cells-preserved
 cells-preserved c =
-    let here = holds (get_or c.args.row.now c.cells.cell-index None) (c.is_none.ensures ∙ ap not c.if-is_none.false) in
+    let here = some_of (get_or c.args.row.now c.cells.cell-index None) (c.is_none.ensures ∙ ap not c.if-is_none.false) in
     below_more _ _ c.cells.invariant (here.0, from-start (hash_in_row c.args.row.now) c.cells.cell-index ∙ here.1)

@@ -1,7 +1,7 @@
 use Rattle.std.proofs.Common.{◌+◌, length, subst, sym, ap, ◌∙◌, arith}
 use Rattle.std.proofs.lemmas.List.{length-map}
 use Rattle.opening.specs.Seen.{file_entry}
-use Rattle.folders.proofs.Places.{file_there}
+use Rattle.opening.proofs.Placing.{file_there}
 use Rattle.folders.specs.Verdicts.{is_yes}
 use Rattle.parts.specs.PartLines.{answer_line}
 use Rattle.part_reports.proofs.ReadLines.{ReadSoFar, read_all, read_next, read_none}

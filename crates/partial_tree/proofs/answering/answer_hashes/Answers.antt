@@ -2,12 +2,12 @@ use Rattle.std.proofs.Common.{◌≡◌, ℕ, ◌+◌, ◌-◌, ◌/◌, ◌^◌
 use Rattle.std.specs.List.{range_with_len}
 use Rattle.std.proofs.lemmas.List.FromFn.{map-range_with_len_more, length-map-range_with_len}
 use Rattle.hashtree.specs.Tree.{height}
+use Rattle.hashtree.proofs.Heights.{height_pow}
 use Rattle.node_maps.specs.Digest.{Hash}
 use Rattle.node_maps.specs.Places.{PartialTree}
 use Rattle.node_maps.specs.Known.{look}
 use Rattle.node_maps.specs.Runs.{AreKnown, hashes_from}
 use Rattle.partial_tree.specs.Claims.{span, cover, above, sibling, hash_or_pad, answer_uncles}
-use Rattle.partial_tree.proofs.Powers.{height_pow}
 use Rattle.partial_tree.proofs.answering.answer_hashes.Goals as goal
 
 pub copy_to-requires-clause-known : goal.copy_to-requires-clause-known

@@ -2,7 +2,8 @@ use Rattle.std.proofs.Common.{rules, ◌∙◌, map, Option, Some, None, Result,
 use Rattle.benc.specs.declared.device.DeviceFault.{DeviceFault}
 use Rattle.opening.specs.Seen.{file_entry}
 use Rattle.folders.specs.Shelf.{IsFound}
-use Rattle.parts.proofs.RunLines.{counts_opened, gone_agrees, prints_opened}
+use Rattle.folders.proofs.Visiting.{agrees_missing}
+use Rattle.parts.proofs.RunLines.{counts_opened, prints_opened}
 use Rattle.parts.proofs.bad_pieces.print_bad_pieces.Goals as goal
 
 pub returns-in-Ok-Some-clause-lines : goal.returns-in-Ok-Some-clause-lines
@@ -42,7 +43,7 @@ returns-in-Ok-None-clause-lines g c =
     let under = (g.S.Shelf.contents c.args.shelf.now).under in
     let path = ap (map (λ s. s.now)) c.deref.ensures.0 ∙ c.parts.ensures in
     let here : IsFound (under (map (λ s. s.now) c.deref.result.now)) None = rw c.in-Ok-None.field-0-is at c.in-Ok-None.ensures.found in
-    (gone_agrees (under c.args.file.now.path) (subst (λ p. IsFound (under p) None) path here), refl)
+    (agrees_missing (under c.args.file.now.path) (subst (λ p. IsFound (under p) None) path here), refl)
 
 pub returns-in-Ok-Some-clause-stays : goal.returns-in-Ok-Some-clause-stays
 returns-in-Ok-Some-clause-stays g c = search rules

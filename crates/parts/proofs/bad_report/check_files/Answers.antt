@@ -3,8 +3,8 @@ use Rattle.std.proofs.lemmas.List.{length_push}
 use Rattle.std.proofs.lemmas.Result.{err_from_is_err_and}
 use Rattle.folders.specs.FolderCheck.{HasChecked, verdicts_of}
 use Rattle.folders.specs.Shelf.{ShelfContents}
-use Rattle.folders.proofs.Places.{file_there}
 use Rattle.opening.specs.Seen.{file_entry}
+use Rattle.opening.proofs.Placing.{file_there}
 use Rattle.parts.specs.BadReport.{shelf_and_sink}
 use Rattle.parts.proofs.BadReports.{ChecksNext, first_none, one_more_file, stops_at}
 use Rattle.parts.proofs.bad_report.check_files.Goals as goal

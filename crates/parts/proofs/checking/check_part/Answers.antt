@@ -1,15 +1,15 @@
-use Rattle.std.proofs.Common.{rules, ◌≡◌, ◌∙◌, ◌+◌, ◌≤◌, ◌<◌, ◌^◌, ℕ, List, length, map}
-use Rattle.std.proofs.Common.{Option, option_map, is_some, ap, sym, subst, Some, None, arith}
+use Rattle.std.proofs.Common.{rules, ◌≡◌, ◌∙◌, ◌+◌, ◌<◌, ◌^◌}
+use Rattle.std.proofs.Common.{is_some, ap, sym, subst, arith}
 use Rattle.std.proofs.lemmas.Option.{same_Some, none-some}
-use Rattle.opening.specs.Description.{Description}
 use Rattle.opening.specs.declared.torrent.File.{File}
-use Rattle.std.proofs.lemmas.List.{length-map, take_all}
+use Rattle.std.proofs.lemmas.List.{take_all}
 use Rattle.chains.specs.Chain.{Chain}
+use Rattle.chains.proofs.Cases.{same_some}
 use Rattle.std.proofs.lemmas.List.Sums.{count_by-le-length}
 use Rattle.opening.specs.Seen.{file_entry, version1}
+use Rattle.opening.proofs.Placing.{file_there, all_passed}
 use Rattle.folders.specs.Verdicts.{is_checked, is_unreadable, unreadable_count}
 use Rattle.folders.proofs.Counts.{more_none}
-use Rattle.folders.proofs.Places.{file_there}
 use Rattle.parts.specs.PartVisits.{VisitsPart}
 use Rattle.parts.specs.Worse.{worse_v1}
 use Rattle.parts.proofs.CheckedFirst.{IsCheckedFirst, checked_none, checked_one, all_true}
@@ -54,9 +54,6 @@ files-preserved g c =
           (sym c.push_reserved.ensures.items) checked);
     }
 
-all_passed : (t : Description) (n : ℕ) (files : List File) → map file_entry files ≡ t.files → length files ≤ n → n ≤ length files → n ≡ length t.files
-all_passed t n files is le ge = omega (arith, length-map files file_entry, ap length is)
-
 pub returns-clause-readable : goal.returns-clause-readable
 returns-clause-readable g c = λ same.
     let files = c.files.files.items in
@@ -70,10 +67,6 @@ returns-clause-readable g c = λ same.
       c.files.files.small,
     ) in
     more_none (g.S.Shelf.faults c.args.shelf.now) (unreadable_count files) few (sym c.files.invariant.checked.counted ∙ same)
-
-same_some : {A B : Type 0} (f : A → B) (o : Option A) (p : Option B) → option_map f o ≡ p → is_some p ≡ is_some o
-same_some f None p is = ap is_some (sym is)
-same_some f (Some x) p is = ap is_some (sym is)
 
 pub returns-clause-verdicts : goal.returns-clause-verdicts
 returns-clause-verdicts g c =

@@ -1,6 +1,6 @@
 use Rattle.std.proofs.Common.{refl, arith}
 use Rattle.std.proofs.lemmas.Result.{err_from_is_err_and}
-use Rattle.folders.proofs.Places.{file_there}
+use Rattle.opening.proofs.Placing.{file_there}
 use Rattle.printing.proofs.Parts.{sent_fault, sent_next}
 use Rattle.parts.proofs.PlaceTests.{next_line}
 use Rattle.parts.proofs.part_lines.write_lines.Goals as goal

@@ -1,7 +1,7 @@
 use Rattle.std.proofs.Common.{arith}
 use Rattle.opening.specs.Description.{FileEntry}
 use Rattle.opening.specs.Seen.{file_entry}
-use Rattle.folders.proofs.Places.{file_there}
+use Rattle.opening.proofs.Placing.{file_there}
 use Rattle.parts.proofs.SharedPlaces.{bytes_fit, sum_next}
 use Rattle.parts.proofs.shares.byte_count.Goals as goal
 

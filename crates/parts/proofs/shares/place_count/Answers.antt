@@ -1,8 +1,8 @@
 use Rattle.std.proofs.Common.{arith}
 use Rattle.opening.specs.Description.{FileEntry}
 use Rattle.opening.specs.Seen.{file_entry}
+use Rattle.opening.proofs.Placing.{file_there}
 use Rattle.pieces.specs.Pieces.{pieces_of}
-use Rattle.folders.proofs.Places.{file_there}
 use Rattle.parts.proofs.SharedPlaces.{sum_next}
 use Rattle.parts.proofs.shares.place_count.Goals as goal
 

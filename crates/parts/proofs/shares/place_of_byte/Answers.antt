@@ -1,7 +1,8 @@
 use Rattle.std.proofs.Common.{◌≤◌, ◌/◌, ◌+◌, ◌∙◌, ap, sym, arith}
 use Rattle.std.proofs.Math.Nat.{div-le_self}
 use Rattle.opening.specs.Seen.{file_entry}
-use Rattle.folders.proofs.Places.{file_there, start_fits}
+use Rattle.opening.proofs.Placing.{file_there}
+use Rattle.folders.proofs.Places.{start_fits}
 use Rattle.parts.specs.Parts.{place_count}
 use Rattle.parts.proofs.SharedPlaces.{place_here, place_later}
 use Rattle.parts.proofs.shares.place_of_byte.Goals as goal

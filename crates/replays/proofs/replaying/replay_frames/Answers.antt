@@ -1,5 +1,5 @@
 use Rattle.std.proofs.Common.{◌<◌, ◌^◌, ◌+◌, refl, sym, subst, ◌∙◌, arith}
-use Rattle.benc.proofs.Known.{OnErr_anyway}
+use Rattle.chains.proofs.Cases.{on_err}
 use Rattle.replays.specs.Replay.{replay_seen}
 use Rattle.replays.proofs.Replays.{InReplay, cut_in_answer, cut_in_line, frame_falls, in_end_of_record, in_end_unanswered, in_replay_more, in_replay_none}
 use Rattle.replays.proofs.Replays.{report_cut, report_ended}
@@ -44,7 +44,7 @@ pub returns-in_err-write_frame-clause-err : goal.returns-in_err-write_frame-clau
 returns-in_err-write_frame-clause-err g c =
     let new = replay_seen (g.R.Source.seen c.next_response.new.reader.source.now) c.next_response.new.session (g.W.Sink.seen c.write_frame.new.report)
     (g.B.Answering.seen c.frames.answers) in
-    OnErr_anyway _ _ (cut_in_line new c.frames.invariant.so_far c.in-Ok.ensures.frame.2 c.in_err-write_frame.ensures refl)
+    on_err _ (cut_in_line new c.frames.invariant.so_far c.in-Ok.ensures.frame.2 c.in_err-write_frame.ensures refl)
 
 pub returns-in-Err-Write-clause-err : goal.returns-in-Err-Write-clause-err
 returns-in-Err-Write-clause-err g c =

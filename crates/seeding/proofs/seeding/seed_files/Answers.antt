@@ -6,7 +6,7 @@ use Rattle.session.specs.Session.{SessionSeen}
 use Rattle.seeding.specs.declared.seed_fault.SeedFault.{SeedFault}
 use Rattle.seeding.specs.declared.seed_fault.SeedFault.TheVariants as fault
 use Rattle.opening.specs.Seen.{file_entry}
-use Rattle.folders.proofs.Places.{file_there}
+use Rattle.opening.proofs.Placing.{file_there}
 use Rattle.seeding.specs.Seeding.{SeedsFiles, shelf_and_session}
 use Rattle.seeding.proofs.Seeds.{in_seed_more}
 use Rattle.seeding.proofs.seeding.seed_files.Goals as goal

@@ -1,9 +1,8 @@
 use Rattle.std.proofs.Common.{ap, sym, ◌∙◌}
 use Rattle.std.proofs.lemmas.Option.{same_Some, slice_get_within}
+use Rattle.chains.proofs.Cases.{on_err}
 use Rattle.opening.specs.Description.{TreeEntry}
 use Rattle.opening.specs.Seen.{file_entry, tree_entry}
-use Rattle.benc.proofs.Known.{OnErr_anyway}
-use Rattle.seeding.specs.Seeding.{StopsAtFile, shelf_and_session}
 use Rattle.seeding.proofs.Seeds.{seeds_filled, seeds_nothing, stops_reading}
 use Rattle.seeding.proofs.seeding.seed_tree.Goals as goal
 
@@ -17,8 +16,7 @@ take_over-requires-clause-length g c =
 
 pub returns-in_err-grown-clause-no_memory : goal.returns-in_err-grown-clause-no_memory
 returns-in_err-grown-clause-no_memory g c =
-    OnErr_anyway (StopsAtFile g.S.Shelf g.S.File.Source.seen (shelf_and_session c.args.shelf.now c.args.session.now) (file_entry c.args.file.now)
-    (shelf_and_session c.find_tree.new.shelf c.args.session.now)) c.from_residual.result
+    on_err c.from_residual.result
     (stops_reading g.S.Shelf g.S.File.Source.seen _ _ c.args.session.now (file_entry c.args.file.now) c.args.number (tree_entry c.args.tree.now)
     c.requires.number c.requires.tree c.requires.same c.find_tree.ensures.visited c.in_err-grown.ensures.no_memory)
 

@@ -1,8 +1,9 @@
-use Rattle.std.proofs.Common.{◌≡◌, ◌+◌, length, map, Result, Ok, Err, OnErr, sym, ap, subst, subst₂, ◌∙◌, arith}
+use Rattle.std.proofs.Common.{◌≡◌, ◌+◌, length, map, sym, ap, subst, subst₂, ◌∙◌, arith}
 use Rattle.std.specs.List.{insert}
 use Rattle.std.specs.String.{string_bytes}
 use Rattle.std.proofs.lemmas.Bool.{false≢true}
 use Rattle.std.proofs.lemmas.List.{length-map}
+use Rattle.chains.proofs.Cases.{on_err}
 use Rattle.filetree.specs.Tests.{NoneHolds}
 use Rattle.drafts.specs.Adding.{IsGiven, IsWith, add_rows}
 use Rattle.drafts.specs.DraftSeen.{IsKept, outline, outline_file}
@@ -10,11 +11,6 @@ use Rattle.drafts.specs.Orders.{IsPlaceOf}
 use Rattle.drafts.specs.Outline.{Outline, OutlineFile}
 use Rattle.drafts.proofs.Kept.{put_file}
 use Rattle.drafts.proofs.draft.Draft.insert.Goals as goal
-
--- what holds anyway holds of an error
-on_any_err : {T E P : Type 0} (r : Result T E) → P → OnErr r P
-on_any_err (Ok x) p = tt
-on_any_err (Err e) p = p
 
 pub insert-requires : goal.insert-requires
 insert-requires c =
@@ -29,7 +25,7 @@ invariant_of-self c =
 pub returns-in_err-reserve-clause-unchanged : goal.returns-in_err-reserve-clause-unchanged
 returns-in_err-reserve-clause-unchanged c =
     let i = c.self.inside in
-    on_any_err c.from_residual.result
+    on_err c.from_residual.result
     (ap (λ fs. outline (string_bytes i.name) i.piece_length i.hybrid fs i.roots.entries) c.in_err-reserve.ensures.items ∙ c.self.view_is)
 
 pub invariant_of-self-in_err-keep_root : goal.invariant_of-self-in_err-keep_root
@@ -41,7 +37,7 @@ invariant_of-self-in_err-keep_root c =
 pub returns-in_err-keep_root-clause-unchanged : goal.returns-in_err-keep_root-clause-unchanged
 returns-in_err-keep_root-clause-unchanged c =
     let i = c.self.inside in
-    on_any_err c.from_residual-in_err-keep_root.result
+    on_err c.from_residual-in_err-keep_root.result
     (ap (λ fs. outline (string_bytes i.name) i.piece_length i.hybrid fs c.keep_root.new.roots.entries) c.in_ok-reserve.ensures.items
     ∙ ap (λ es. outline (string_bytes i.name) i.piece_length i.hybrid i.files.items es) c.in_err-keep_root.ensures.unchanged ∙ c.self.view_is)
 

@@ -1,6 +1,7 @@
-use Rattle.std.proofs.Common.{◌≡◌, ◌∙◌, ◌&&◌, Option, Some, None, option_map, is_some, length, ap, sym, subst}
+use Rattle.std.proofs.Common.{◌≡◌, ◌∙◌, ◌&&◌, is_some, length, ap, sym, subst}
 use Rattle.std.specs.List.{list_all}
 use Rattle.std.proofs.lemmas.Option.{none-some, same_Some}
+use Rattle.chains.proofs.Cases.{same_some}
 use Rattle.opening.specs.Seen.{version1}
 use Rattle.folders.specs.FolderCheck.{verdicts_of}
 use Rattle.folders.specs.Verdicts.{IsV1Verdict, AreTrueVerdicts, is_checked, is_whole}
@@ -9,10 +10,6 @@ use Rattle.folders.proofs.Reports.{good_is_enough, stream_found, yes_is_sure}
 use Rattle.folders.proofs.Visiting.{contents_agree, contents_extend, contents_of}
 use Rattle.folders.proofs.folder_check.FolderCheck.finish.Goals as goal
 use Rattle.folders.proofs.folder_check.FolderCheck.finish.Goals.{in-None, in-Some}
-
-same_some : {A B : Type 0} (f : A → B) (o : Option A) (p : Option B) → option_map f o ≡ p → is_some p ≡ is_some o
-same_some f None p is = ap is_some (sym is)
-same_some f (Some x) p is = ap is_some (sym is)
 
 pub returns-clause-verdicts : goal.returns-clause-verdicts
 returns-clause-verdicts c = λ under checked all.

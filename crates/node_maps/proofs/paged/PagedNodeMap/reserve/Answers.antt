@@ -3,7 +3,8 @@ use Rattle.std.proofs.lemmas.Bool.{cases_lt}
 use Rattle.node_maps.specs.Paged.{page_at}
 use Rattle.node_maps.specs.Pages.{cell_of}
 use Rattle.std.proofs.lemmas.Result.{on_ok_weaker, on_err_weaker}
-use Rattle.node_maps.proofs.Paging.{on_err, same-in_tree, held-same, held-more, page_span-some}
+use Rattle.chains.proofs.Cases.{on_err}
+use Rattle.node_maps.proofs.Paging.{same-in_tree, held-same, held-more, page_span-some}
 use Rattle.node_maps.proofs.paged.PagedNodeMap.reserve.Goals as goal
 
 pub returns-in_err-add_rows-clause-refused : goal.returns-in_err-add_rows-clause-refused

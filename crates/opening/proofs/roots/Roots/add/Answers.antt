@@ -4,10 +4,11 @@ use Rattle.std.specs.BTreeMap as tree
 use Rattle.std.specs.Cmp.Lexicographic.{slice_cmp}
 use Rattle.std.specs.Ordering.{nat_cmp, is_eq}
 use Rattle.std.proofs.lemmas.Option.{slice_get_read}
+use Rattle.chains.proofs.Cases.{pushed_last}
 use Rattle.opening.specs.Rooted.{IsRootAt}
 use Rattle.opening.specs.Trees.{place_in}
 use Rattle.opening.specs.declared.roots.Root.{Root}
-use Rattle.opening.proofs.Rooting.{place_within, root_is_at, place_push_new, numbered_push, last_of}
+use Rattle.opening.proofs.Rooting.{place_within, root_is_at, place_push_new, numbered_push}
 use Rattle.opening.proofs.roots.Roots.add.Goals as goal
 
 pub index-requires : goal.index-requires
@@ -66,4 +67,5 @@ returns-in_ok-push-in-None-clause-there c =
     let kept : c.reserve.new.self.items ≡ items = c.in_ok-reserve-in-None.ensures.items in
     let after : c.push.new.self.items ≡ items ++ one ∷ [] = c.in_ok-push-in-None.ensures.items ∙ ap (λ xs. xs ++ one ∷ []) kept in
     subst (λ ts. IsRootAt ts c.args.root c.args.length) (sym after)
-    (root_is_at (items ++ one ∷ []) c.args.root (length items) c.args.length one (place_push_new items one c.args.root none refl) (last_of items one) refl)
+    (root_is_at (items ++ one ∷ []) c.args.root (length items) c.args.length one (place_push_new items one c.args.root none refl)
+    (pushed_last items one (length items) refl) refl)

@@ -1,8 +1,8 @@
 use Rattle.std.proofs.Common.{◌≡◌, ◌≤◌, suc, ◌+◌, ◌-◌, ◌*◌, ◌^◌, Some, arith, sym, ap, ◌∙◌, subst}
+use Rattle.hashtree.proofs.Pairs.{two-pow}
 use Rattle.node_maps.specs.Places.{tree_height}
 use Rattle.node_maps.specs.Known.{look}
 use Rattle.partial_tree.specs.Evidence.{claimed_by, IsClaimedPlace}
-use Rattle.node_maps.proofs.Places.{two_halves}
 use Rattle.partial_tree.proofs.Tracing.{Opened, rests_on, left_claimed, right_claimed, given_claimed, join_claimed}
 use Rattle.partial_tree.proofs.Written.{children-written, here-written}
 use Rattle.partial_tree.proofs.LowPlaces.{place-low}
@@ -71,7 +71,7 @@ write_below-returns-else-layer-evidence-clause-few g t c =
     c.write_claimed-before.ensures.few in
     let right : c.write_claimed-after.result.1 + 1 ≤ 2 ^ c.args.layer = subst (λ k. c.write_claimed-after.result.1 + 1 ≤ 2 ^ k) down
     c.write_claimed-after.ensures.few in
-    omega (arith, left, right, two_halves c.args.layer)
+    omega (arith, left, right, two-pow c.args.layer)
 
 pub write_claimed-returns-clause-written : goal.write_claimed-returns-clause-written
 write_claimed-returns-clause-written g t c =

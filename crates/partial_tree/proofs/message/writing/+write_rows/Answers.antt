@@ -1,4 +1,5 @@
 use Rattle.std.proofs.Common.{◌≡◌, [], slice_index_or, ◌<◌, ◌≤◌, ◌+◌, ◌-◌, ◌*◌, ◌^◌, suc, sym, ap, ◌∙◌, subst, arith, mul-le-mul, pow_mono}
+use Rattle.hashtree.proofs.Pairs.{two-pow}
 use Rattle.node_maps.specs.Digest.{Hash}
 use Rattle.node_maps.specs.Places.{tree_height}
 use Rattle.node_maps.specs.Known.{look}
@@ -10,7 +11,6 @@ use Rattle.partial_tree.proofs.FoldedRows.{base-row, children-claimed, joined-ro
 use Rattle.partial_tree.proofs.WrittenRows.{IsRowBegun, base-few, base-written, children-few, children-row_written, places-few}
 use Rattle.partial_tree.proofs.WrittenRows.{row-done, row-next, rows-few, rows-written}
 use Rattle.partial_tree.proofs.LowPlaces.{place-low}
-use Rattle.node_maps.proofs.Places.{two_halves}
 use Rattle.partial_tree.proofs.message.writing.+write_rows.Goals as goal
 
 pub write_below_row-base_row-requires-clause-given : goal.write_below_row-base_row-requires-clause-given
@@ -201,7 +201,7 @@ write_row-overflow_add-gained g t c =
 pub write_row-returns-clause-few : goal.write_row-returns-clause-few
 write_row-returns-clause-few g t c =
     let all : c.places.j ≡ 2 ^ c.args.row.depth = omega (arith, c.places-test.false, c.places.auto.j-end, c.count-j-end.ensures.count) in
-    omega (arith, all, c.places.invariant.few, c.write_below_row-below.ensures.few, two_halves c.args.row.depth)
+    omega (arith, all, c.places.invariant.few, c.write_below_row-below.ensures.few, two-pow c.args.row.depth)
 
 pub write_row-write_below_row-below-requires : goal.write_row-write_below_row-below-requires
 write_row-write_below_row-below-requires g t c κs within = (omega arith, (within, (c.requires.at, c.requires.room)))

@@ -1,6 +1,7 @@
 use Rattle.std.proofs.Common.{◌≡◌, ℕ, suc, ◌*◌, ◌-◌, ◌^◌, ◌<◌, ◌≤◌, [], length, sym, ap, ◌∙◌, subst, arith, rules}
 use Rattle.std.proofs.lemmas.Nat.{one_shl}
 use Rattle.std.proofs.lemmas.Bool.{false≢true}
+use Rattle.chains.proofs.Cases.{on_err}
 use Rattle.hashtree.specs.Tree.{zero_hash}
 use Rattle.partial_tree.specs.TreeRoot.{TreeRoot}
 use Rattle.node_maps.specs.Places.{tree_height, IsKnown}
@@ -11,7 +12,6 @@ use Rattle.partial_tree.specs.Claims.{HasNew}
 use Rattle.partial_tree.specs.Joins.{Joins}
 use Rattle.node_maps.specs.Known.{look}
 use Rattle.node_maps.specs.Runs.{AreKnown}
-use Rattle.node_maps.proofs.Paging.{on_err}
 use Rattle.partial_tree.proofs.Planted.{known-joins, layer-new}
 use Rattle.partial_tree.proofs.Layers.{layer_evidence, layer-leads}
 use Rattle.partial_tree.proofs.nodes.TreeNodes.plant.Goals as goal

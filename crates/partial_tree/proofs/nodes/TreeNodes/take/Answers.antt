@@ -8,14 +8,15 @@ use Rattle.partial_tree.specs.Claims.{top_layer, top_index, ArePadsRight, GoodRa
 use Rattle.partial_tree.specs.Joins.{TakesHashes}
 use Rattle.partial_tree.specs.Evidence.{LeadsTo}
 use Rattle.std.proofs.lemmas.Result.{on_ok_weaker}
+use Rattle.chains.proofs.Cases.{some_of}
 use Rattle.partial_tree.proofs.MessagePages.{few-up_to}
-use Rattle.partial_tree.proofs.Messages.{known_of, same_claims, leads, taken_by, refused_by}
+use Rattle.partial_tree.proofs.Messages.{same_claims, leads, taken_by, refused_by}
 use Rattle.partial_tree.proofs.nodes.TreeNodes.take.Goals as goal
 
 pub store-requires-clause-place : goal.store-requires-clause-place
 store-requires-clause-place g c =
     let index = c.from.result / 2 ^ (c.in_ok-top.top - c.args.ask.now.base) in
-    let v = known_of c.get.result (c.is_none.ensures ∙ ap not c.if-is_none.false) in
+    let v = some_of c.get.result (c.is_none.ensures ∙ ap not c.if-is_none.false) in
     let known : IsKnown (look (g.N.NodeMap.seen c.self.inside.map).known) c.in_ok-top.top index = (v.0, sym c.get.ensures ∙ v.1) in
     subst (λ (n : Nodes). IsTreePlace (tree_height n.length) c.in_ok-top.top index) (sym c.self.view_is)
     (c.requires c.in_ok-top.top index (subst (λ (n : Nodes). IsKnown (look n.known) c.in_ok-top.top index) c.self.view_is known))
@@ -41,7 +42,7 @@ returns-clause-taken g c =
     let range = c.in_ok-span.ensures.good in
     let count = c.in_ok-top.ensures.good in
     let t : TreeRoot = record { root = []; length = c.self.inside.shape } in
-    let v = known_of c.get.result (c.is_none.ensures ∙ ap not c.if-is_none.false) in
+    let v = some_of c.get.result (c.is_none.ensures ∙ ap not c.if-is_none.false) in
     let top : IsKnown K (top_layer ask hashes) (top_index ask hashes) =
     (v.0, ap₂ K (sym count.1) (ap₂ (λ i l. i / 2 ^ (l - ask.base)) (sym c.from.ensures) (sym count.1)) ∙ sym c.get.ensures ∙ v.1) in
     let fits : ArePadsRight c.self.inside.shape ask hashes = c.if-not-pads_fit.ensures.fit in
@@ -62,7 +63,7 @@ returns-clause-refused g c =
     let range = c.in_ok-span.ensures.good in
     let count = c.in_ok-top.ensures.good in
     let t : TreeRoot = record { root = []; length = c.self.inside.shape } in
-    let v = known_of c.get.result (c.is_none.ensures ∙ ap not c.if-is_none.false) in
+    let v = some_of c.get.result (c.is_none.ensures ∙ ap not c.if-is_none.false) in
     let top : IsKnown K (top_layer ask hashes) (top_index ask hashes) =
     (v.0, ap₂ K (sym count.1) (ap₂ (λ i l. i / 2 ^ (l - ask.base)) (sym c.from.ensures) (sym count.1)) ∙ sym c.get.ensures ∙ v.1) in
     let now = g.N.NodeMap.seen c.store.new.map in

@@ -1,5 +1,6 @@
 use Rattle.std.proofs.Common.{suc, ◌+◌, ◌^◌, ◌<◌, ◌≤◌, sym, ap₂, subst, arith}
 use Rattle.std.specs.FinMap.{len}
+use Rattle.chains.proofs.Cases.{on_err}
 use Rattle.partial_tree.specs.TreeRoot.{TreeRoot}
 use Rattle.node_maps.specs.Places.{tree_height}
 use Rattle.partial_tree.specs.Fill.{fill_claims, IsFillAccepted}
@@ -7,7 +8,6 @@ use Rattle.node_maps.specs.Known.{look}
 use Rattle.partial_tree.specs.Kept.{KeptTree, kept, IsGoodTree, TreeJoins}
 use Rattle.partial_tree.proofs.Ranges.{pow_more}
 use Rattle.partial_tree.proofs.Layers.{filled-len}
-use Rattle.node_maps.proofs.Paging.{on_err}
 use Rattle.partial_tree.specs.Claims.{HasNew}
 use Rattle.partial_tree.proofs.Planted.{closed-upward}
 use Rattle.partial_tree.proofs.Counting.{counted_more, counted_same}

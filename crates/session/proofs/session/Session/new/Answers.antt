@@ -1,28 +1,21 @@
-use Rattle.std.proofs.Common.{◌≡◌, ℕ, zero, suc, ◌+◌, ◌<◌, ◌∙◌, true, false, Result, Ok, Err, OnErr, Option, Some}
+use Rattle.std.proofs.Common.{◌≡◌, ℕ, zero, suc, ◌+◌, ◌<◌, true, false, Option, Some}
 use Rattle.std.proofs.Common.{None, SomeIff, List, map, take, length, refl, ap, sym, subst, subst₂, arith}
 use Rattle.std.specs.Prelude.{IsSome}
 use Rattle.std.proofs.lemmas.Bool.{false≢true}
 use Rattle.std.proofs.lemmas.List.{length-map}
+use Rattle.chains.proofs.Cases.{on_err}
 use Rattle.pieces.specs.Pieces.{IsPieceLength}
+use Rattle.pieces.proofs.Legal.{piece_length_is}
 use Rattle.opening.specs.Seen.{tree_entry}
 use Rattle.partial_tree.specs.Kept.{KeptTree, info_of}
 use Rattle.session.specs.Layouts.{root_of_entry}
 use Rattle.session.proofs.FirstTrees.{ArePlanted, sound_at, same_more, kept_all, planted_one_more, no_trees, fresh}
 use Rattle.session.proofs.session.Session.new.Goals as goal
 
--- the trees are planted at the torrent's piece length
-piece_length_is : (made : Option ℕ) (p n torrents : ℕ) → made ≡ Some p → SomeIff made (IsPieceLength n) n → n ≡ torrents → p ≡ torrents
-piece_length_is made p n torrents is stated same = (subst (λ o. SomeIff o (IsPieceLength n) n) is stated).1 ∙ same
-
 -- a lawful piece length is made
 made_of : (made : Option ℕ) (n : ℕ) → SomeIff made (IsPieceLength n) n → IsPieceLength n → IsSome made
 made_of None n none is = absurd (none is)
 made_of (Some p) n both is = refl
-
--- what holds anyway holds of an error
-on_any_err : {T E P : Type 0} (r : Result T E) → P → OnErr r P
-on_any_err (Ok x) p = tt
-on_any_err (Err e) p = p
 
 -- what fails is not for nothing
 some : (n : ℕ) → (n ≡ 0 → false ≡ true) → 0 < n
@@ -89,13 +82,13 @@ unwrap-piece_length-requires g c =
 pub returns-in_err-trees-clause-no_memory : goal.returns-in_err-trees-clause-no_memory
 returns-in_err-trees-clause-no_memory g c =
     let infos = c.trees-infos.result.now in
-    on_any_err c.from_residual.result
+    on_err c.from_residual.result
     (omega (arith, some (length infos) c.in_err-trees.ensures.succeeds, length-map infos tree_entry, ap length c.trees-infos.ensures))
 
 pub returns-in_err-planted-clause-no_memory : goal.returns-in_err-planted-clause-no_memory
 returns-in_err-planted-clause-no_memory g c =
     let infos = c.trees-infos.result.now in
-    on_any_err c.from_residual-in_err-planted.result
+    on_err c.from_residual-in_err-planted.result
     (omega (arith, c.infos-test.true, length-map infos tree_entry, ap length c.trees-infos.ensures))
 
 pub push_reserved-requires : goal.push_reserved-requires

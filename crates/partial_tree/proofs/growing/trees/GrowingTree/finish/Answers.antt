@@ -1,5 +1,6 @@
-use Rattle.std.proofs.Common.{◌≡◌, ℕ, suc, ◌+◌, ◌-◌, ◌*◌, ◌^◌, ◌<◌, ◌≤◌, Result, Ok, Err, OnErr, sym, ap, ◌∙◌, subst, arith}
+use Rattle.std.proofs.Common.{◌≡◌, ℕ, suc, ◌+◌, ◌-◌, ◌*◌, ◌^◌, ◌<◌, ◌≤◌, sym, ap, ◌∙◌, subst, arith}
 use Rattle.std.proofs.lemmas.Grind.{common_steps}
+use Rattle.chains.proofs.Cases.{on_err}
 use Rattle.hashtree.specs.Tree.{block_count}
 use Rattle.node_maps.specs.Known.{look}
 use Rattle.node_maps.specs.Places.{tree_height}
@@ -69,10 +70,6 @@ returns-clause-leaves g c =
     (ended old.shape old.count (g.N.NodeMap.seen old.nodes).known c.args.self c.self.view_is c.requires c.self.invariant.3 c.layers.layer
     (g.N.NodeMap.seen c.layers.nodes).known (g.N.NodeMap.seen c.trim.new.self).known top c.layers.invariant.up_to (known-of c.trim.ensures.seen)).2
 
-on_err : {A E : Type 0} (P : Type 0) (r : Result A E) → P → OnErr r P
-on_err P (Ok x) p = tt
-on_err P (Err e) p = p
-
 pub returns-in_err-add_pads-clause-no_memory : goal.returns-in_err-add_pads-clause-no_memory
 returns-in_err-add_pads-clause-no_memory g c =
     let height = c.height-height.ensures in
@@ -81,7 +78,7 @@ returns-in_err-add_pads-clause-no_memory g c =
     blocks.value ∙ ap (λ (t : GrownTree). block_count t.length) c.self.view_is in
     let least : (k : ℕ) → c.blocks-blocks.result ≤ 2 ^ k → c.height-height.result ≤ k =
     λ k fits. height.least k (omega (arith, fits, blocks.value)) in
-    on_err _ _ (subst (λ n. 1 < n) same
+    on_err _ (subst (λ n. 1 < n) same
     (has_pads _ _ blocks.some least height.bound c.in_err-add_pads.ensures.no_memory))
 
 pub add_pads-requires-clause-range : goal.add_pads-requires-clause-range
