@@ -1,7 +1,7 @@
 -- How far the conversion of a record has come, and how it ends.
-use Rattle.std.proofs.Common.{◌≡◌, ◌≢◌, ℕ, ◌≤◌, Bool, true, false, nat_eq, List, [], ◌++◌, length, take, drop, refl, sym, ap, ◌∙◌, subst}
+use Rattle.std.proofs.Common.{◌≡◌, ◌≢◌, ℕ, ◌≤◌, Bool, true, false, ◌&&◌, nat_eq, List, [], ◌++◌, length, take, drop, refl, sym, ap, ◌∙◌, subst}
 use Rattle.std.specs.Io.KnownBytes.{IsAtEnd, Keeps}
-use Rattle.std.proofs.lemmas.Bool.{eq-eqb, eqb-true, false≢true}
+use Rattle.std.proofs.lemmas.Bool.{and_from, and_parts, eq-eqb, eqb-true, false≢true}
 use Rattle.std.proofs.lemmas.List.{append_assoc, append-nil, length-take-le, take-append-drop}
 use Rattle.benc.specs.Device.{SinkSeen, SourceSeen, Sent, one_more}
 use Rattle.wire.specs.declared.fault.FrameFault.TheVariants as fault
@@ -131,16 +131,14 @@ pub ended_here : (first now now' : SourceSeen) (start out : SinkSeen) (left : �
 ended_here first now now' start out left front waiting s gave =
     subst (SoFar first now' start out left front) (append-nil waiting) (so_far_read first now now' start out left front waiting [] s gave)
 
--- nothing waits, so the record is whole if nothing is left of a body
-pub left_is_whole : (left held : ℕ) (buffer : List ℕ) → held ≡ 0 → IsWhole (nat_eq left 0) left (take held buffer)
-left_is_whole left held buffer none = record {
-  yes = λ e. (eqb-true left 0 e, ap (λ n. take n buffer) none);
-  no = λ e both. false≢true (sym e ∙ eq-eqb left 0 both.0);
-}
-
--- something waits
-pub held_is_whole : (left held : ℕ) (buffer : List ℕ) → held ≤ length buffer → held ≢ 0 → IsWhole (nat_eq held 0) left (take held buffer)
-held_is_whole left held buffer within some = record {
-  yes = λ e. absurd (some (eqb-true held 0 e));
-  no = λ e both. some (sym (length-take-le held buffer within) ∙ ap length both.1);
+-- nothing waits and nothing is left, or not
+pub whole_is : (whole : Bool) (left held : ℕ) (buffer : List ℕ) → whole ≡ (nat_eq held 0 && nat_eq left 0) → held ≤ length buffer
+    → IsWhole whole left (take held buffer)
+whole_is whole left held buffer is within = record {
+  yes = λ e.
+      let both = and_parts (nat_eq held 0) (nat_eq left 0) (sym is ∙ e) in
+      (eqb-true left 0 both.1, ap (λ n. take n buffer) (eqb-true held 0 both.0));
+  no = λ e both.
+      let none : held ≡ 0 = sym (length-take-le held buffer within) ∙ ap length both.1 in
+      false≢true (sym e ∙ is ∙ and_from (nat_eq held 0) (nat_eq left 0) (eq-eqb held 0 none) (eq-eqb left 0 both.0));
 }

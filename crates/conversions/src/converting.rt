@@ -1,5 +1,5 @@
 //! The conversion of a record.
-ghost use Rattle.std.specs.Prelude.{◌≡◌, ◌+◌, ◌<◌, ◌≤◌, [], length, take, drop, IfOk, MatchResult, OnOk};
+ghost use Rattle.std.specs.Prelude.{◌≡◌, ◌+◌, ◌<◌, ◌≤◌, ◌&&◌, [], length, nat_eq, take, drop, IfOk, MatchResult, OnOk};
 ghost use Rattle.benc.specs.Device.{Wrote};
 ghost use Rattle.printing.specs.Cut.{FailedFlush, Flushed};
 ghost use Rattle.wire.specs.Records.{header};
@@ -129,10 +129,18 @@ fn convert_frames<R: Source, W: Sink>(
     'parts: loop {
         held = convert_held(out, &mut outgoing, buffer, held, &mut left)?;
         match source.read(&mut buffer[held..])? {
-            0 => return Ok(held == 0 && left == 0),
+            0 => return Ok(is_between(held, left)),
             count => held += count,
         }
     }
+}
+
+// Whether a record that ends here ends between two frames: no bytes of a head are held, and none of
+// a body are left.
+fn is_between(held: usize, left: usize) -> bool
+    ensures { result ≡ (nat_eq held 0 && nat_eq left 0) }
+{
+    held == 0 && left == 0
 }
 
 // Converts what stands in the buffer, and writes it. What is less than a head stays, at the front:

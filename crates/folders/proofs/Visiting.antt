@@ -1,5 +1,5 @@
 -- What a check found of one file, by how its opening was answered, and of the first files together.
-use Rattle.std.proofs.Common.{◌≡◌, inl, inr, ℕ, ◌+◌, ◌<◌, Bool, true, false, List, [], ◌∷◌, ◌++◌, length, slice_get, Option, Some, None}
+use Rattle.std.proofs.Common.{◌≡◌, inl, inr, ℕ, ◌+◌, ◌<◌, true, false, List, [], ◌∷◌, ◌++◌, length, slice_get, Option, Some, None}
 use Rattle.std.proofs.Common.{option_map, Result, Ok, Err, IfOk, OnErr, cond, refl, ap, sym, ◌∙◌, subst, arith}
 use Rattle.std.specs.Option.{unwrap_or}
 use Rattle.std.specs.Result.{result_unwrap_or}
@@ -52,7 +52,6 @@ finds_missing t f shown old new found stopped = record {
   taken = λ no. let n : ⊥ = cc in absurd n;
   stopped = λ _. stopped;
 }
-
 
 -- the file is unreadable, and may have any content
 pub finds_unreadable : (t : Description) (f : FileEntry) (shown : Option (Option (List ℕ))) (old new : Option V1Feed)
@@ -107,13 +106,6 @@ read_for t f source source' old new (Err e) v is blamed counts within same = sub
   gives = λ no. let never : ⊥ = cc in absurd never;
   early = λ _. blamed;
 })
-
--- a file that was not read whole was, and the other way round
-pub never_whole : (v : FileVerdict) (b : Bool) (x y : Option V1Feed) → b ≡ is_whole v → b ≡ false → is_whole v ≡ true → x ≡ y
-never_whole v b x y is broken whole = let no : true ≡ false = sym whole ∙ sym is ∙ broken in cc
-
-pub never_broken : (v : FileVerdict) (b : Bool) (x y : Option V1Feed) → b ≡ is_whole v → b ≡ true → is_whole v ≡ false → x ≡ y
-never_broken v b x y is whole broken = let no : true ≡ false = sym whole ∙ is ∙ broken in cc
 
 -- ---- the first files
 

@@ -89,9 +89,7 @@ pub(crate) fn check_file<S: Shelf>(
         Ok(None) => FileVerdict::Missing,
         Err(_) => FileVerdict::Unreadable,
     };
-    if !verdict.is_whole() {
-        stream.stop();
-    }
+    stream.stop_unless(verdict.is_whole());
     verdict
 }
 

@@ -1,5 +1,5 @@
 //! What takes a file's bytes as they are read: the check of its tree, and the version 1 stream.
-ghost use Rattle.std.specs.Prelude.{◌≡◌, ℕ, ◌<◌, ◌≤◌, [], length, is_some, IfSome, Some, None, true};
+ghost use Rattle.std.specs.Prelude.{◌≡◌, ℕ, ◌<◌, ◌≤◌, [], length, is_some, IfSome, Some, None, false, true};
 ghost use Rattle.pieces.specs.Feeding.{bytes_given, total};
 ghost use Rattle.folders.specs.Streaming.{IsStreamVerdict};
 ghost use Rattle.folders.specs.Verdicts.{is_checked};
@@ -94,11 +94,14 @@ impl<'a> Stream<'a> {
         mem::replace(self, Stream { feed: None })
     }
 
-    /// Ends the stream: a file was not read whole.
-    pub(crate) fn stop(&mut self)
-        ensures { self.new.feed ≡ None }
+    /// Ends the stream, unless the file was read whole.
+    pub(crate) fn stop_unless(&mut self, is_whole: bool)
+        ensures goes_on { is_whole ≡ true → self.new.feed ≡ self.old.feed }
+        ensures stops { is_whole ≡ false → self.new.feed ≡ None }
     {
-        self.feed = None;
+        if !is_whole {
+            self.feed = None;
+        }
     }
 
     /// Takes zeros up to the stream's end, and returns whether its pieces are the listed ones.

@@ -2,8 +2,7 @@ use Rattle.std.proofs.Common.{◌≡◌, ◌-◌, ◌<◌, ◌≤◌, length, ta
 use Rattle.std.proofs.lemmas.List.{length-drop, length-take}
 use Rattle.std.proofs.lemmas.Result.{err_from_is_err_and}
 use Rattle.wire.proofs.Giving.{Faultless-take, le-length-put, take-put_more}
-use Rattle.conversions.proofs.Ending.{SoFar, breaks_in_text, ended_here, ends_front, read_fails, so_far_converted, so_far_first, so_far_read, held_is_whole}
-use Rattle.conversions.proofs.Ending.{left_is_whole}
+use Rattle.conversions.proofs.Ending.{SoFar, breaks_in_text, ended_here, ends_front, read_fails, so_far_converted, so_far_first, so_far_read, whole_is}
 use Rattle.conversions.proofs.Fronts.{read_none}
 use Rattle.conversions.proofs.converting.convert_frames.Goals as goal
 
@@ -42,8 +41,8 @@ returns-in_err-count g c = λ first start gave sent.
     rw (p.1, p.2) (read_fails first (S.seen c.parts.source) (S.seen c.read.new.self) start (W.seen c.convert_held.new.out) c.convert_held.new.left front rest t
     c.in_ok-held.ensures.waits.0 e.bytes e.falls e.counts)
 
-pub returns-then-held-eq0 : goal.returns-then-held-eq0
-returns-then-held-eq0 g c = λ first start gave sent.
+pub returns-in-0 : goal.returns-in-0
+returns-in-0 g c = λ first start gave sent.
     let S = g.R.Source in
     let W = g.W.Sink in
     let s = c.parts.invariant.converts first start gave sent in
@@ -69,36 +68,7 @@ returns-then-held-eq0 g c = λ first start gave sent.
     let nothing = read_none (S.seen c.parts.source) (S.seen c.read.new.self) c.in_ok-count.count c.read.new.buf c.in-0.is e.bytes.0 e.falls e.counts in
     let u = ended_here first (S.seen c.parts.source) (S.seen c.read.new.self) start (W.seen c.convert_held.new.out) left front rest t nothing in
     ends_front _ first (S.seen c.read.new.self) start (W.seen c.convert_held.new.out) left front rest u c.in_ok-held.ensures.waits.0 (e.bytes.1 c.in-0.is room)
-    (left_is_whole left held buffer c.if-held-eq0.true)
-
-pub returns-else-held-eq0 : goal.returns-else-held-eq0
-returns-else-held-eq0 g c = λ first start gave sent.
-    let S = g.R.Source in
-    let W = g.W.Sink in
-    let s = c.parts.invariant.converts first start gave sent in
-    let d = c.in_ok-held.ensures.converts start s.fed s.text s.reached s.sent in
-    let front = take c.args.held c.args.buffer.now in
-    let held = c.in_ok-held.held in
-    let left = c.convert_held.new.left in
-    let buffer = c.convert_held.new.buffer in
-    let rest = take held buffer in
-    let e = c.in_ok-count.ensures in
-    let few : held < 53 = c.in_ok-held.ensures.waits.1 in
-    let size : length buffer ≡ 65536 = omega (arith, c.convert_held.auto.buffer, c.parts.auto.buffer, c.requires.room) in
-    let room : 0 < length c.read.new.buf = omega (
-      arith,
-      few,
-      size,
-      c.read.auto.buf,
-      length-take (length buffer - held) (drop held buffer),
-      length-drop held buffer,
-    ) in
-    let t = so_far_converted first (S.seen c.parts.source) start (W.seen c.parts.out) (W.seen c.convert_held.new.out) c.parts.left left front
-    (take c.parts.held c.parts.buffer) rest d.0 d.1 s d.2 d.3 d.4 in
-    let nothing = read_none (S.seen c.parts.source) (S.seen c.read.new.self) c.in_ok-count.count c.read.new.buf c.in-0.is e.bytes.0 e.falls e.counts in
-    let u = ended_here first (S.seen c.parts.source) (S.seen c.read.new.self) start (W.seen c.convert_held.new.out) left front rest t nothing in
-    ends_front _ first (S.seen c.read.new.self) start (W.seen c.convert_held.new.out) left front rest u c.in_ok-held.ensures.waits.0 (e.bytes.1 c.in-0.is room)
-    (held_is_whole left held buffer (omega (arith, few, size)) c.if-held-eq0.false)
+    (whole_is c.is_between.result left held buffer c.is_between.ensures (omega (arith, few, size)))
 
 pub parts-preserved : goal.parts-preserved
 parts-preserved g c =

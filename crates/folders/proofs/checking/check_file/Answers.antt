@@ -4,65 +4,40 @@ use Rattle.opening.specs.Seen.{file_entry}
 use Rattle.folders.specs.Pass.{FindsVerdict}
 use Rattle.folders.specs.Shelf.{IsFound}
 use Rattle.folders.specs.Verdicts.{is_whole}
-use Rattle.folders.proofs.Visiting.{finds_missing, finds_read, finds_unreadable, never_broken, never_whole, read_for}
+use Rattle.folders.proofs.Visiting.{finds_missing, finds_read, finds_unreadable, read_for}
 use Rattle.folders.proofs.checking.check_file.Goals as goal
 use Rattle.folders.proofs.checking.check_file.Goals.{in-Ok-Some, in-Ok-None, in-Err}
 
-pub returns-then-not-is_whole-clause-found : goal.returns-then-not-is_whole-clause-found
-returns-then-not-is_whole-clause-found g c =
+pub returns-clause-found : goal.returns-clause-found
+returns-clause-found g c =
     let t = c.args.torrent.now in
     let f = file_entry c.args.file.now in
     let old = c.args.stream.now.feed in
-    let end = c.stop.new.self.feed in
+    let end = c.stop_unless.new.self.feed in
     let shown = (g.S.Shelf.contents c.args.shelf.now).under c.args.file.now.path in
+    let path = ap (map (λ s. s.now)) c.deref.ensures.0 ∙ c.parts.ensures in
     elim c.match-open.branch [
       | in-Ok-Some w ↦
           let source = g.S.File.Source.seen w.in-Ok-Some.source in
           let there : IsFound shown (Some source.left) =
-          subst (λ p. IsFound ((g.S.Shelf.contents c.args.shelf.now).under p) (Some source.left)) (ap (map (λ s. s.now)) c.deref.ensures.0
-          ∙ c.parts.ensures) (rw w.in-Ok-Some.field-0-is at w.in-Ok-Some.ensures.found) in
+          subst (λ p. IsFound ((g.S.Shelf.contents c.args.shelf.now).under p) (Some source.left)) path
+          (rw w.in-Ok-Some.field-0-is at w.in-Ok-Some.ensures.found) in
           finds_read t f shown source _ old w.check_content.new.stream.feed end w.check_content.result c.match-open.verdict there
           w.check_content.ensures.verdict
           (w.verdict-is ∙ w.unwrap_or-verdict.ensures)
-          (never_whole c.match-open.verdict c.is_whole.result end w.check_content.new.stream.feed c.is_whole.ensures c.if-not-is_whole.true)
-          (λ _. c.stop.ensures)
+          (λ whole. c.stop_unless.ensures.goes_on (c.is_whole.ensures ∙ whole) ∙ ap (λ s. s.feed) w.stream-is)
+          (λ broken. c.stop_unless.ensures.stops (c.is_whole.ensures ∙ broken))
       | in-Ok-None w ↦
-          let there : IsFound shown None = subst (λ p. IsFound ((g.S.Shelf.contents c.args.shelf.now).under p) None) (ap (map (λ s. s.now)) c.deref.ensures.0
-          ∙ c.parts.ensures) (rw w.in-Ok-None.field-0-is at w.in-Ok-None.ensures.found) in
-          subst (FindsVerdict t f shown old end) (sym w.verdict-is) (finds_missing t f shown old end there c.stop.ensures)
-      | in-Err w ↦ subst (FindsVerdict t f shown old end) (sym w.verdict-is) (finds_unreadable t f shown old end c.stop.ensures)
-    ]
-
-pub returns-else-not-is_whole-clause-found : goal.returns-else-not-is_whole-clause-found
-returns-else-not-is_whole-clause-found g c =
-    let t = c.args.torrent.now in
-    let f = file_entry c.args.file.now in
-    let old = c.args.stream.now.feed in
-    let end = c.match-open.stream.feed in
-    let shown = (g.S.Shelf.contents c.args.shelf.now).under c.args.file.now.path in
-    elim c.match-open.branch [
-      | in-Ok-Some w ↦
-          let source = g.S.File.Source.seen w.in-Ok-Some.source in
-          let there : IsFound shown (Some source.left) =
-          subst (λ p. IsFound ((g.S.Shelf.contents c.args.shelf.now).under p) (Some source.left)) (ap (map (λ s. s.now)) c.deref.ensures.0
-          ∙ c.parts.ensures) (rw w.in-Ok-Some.field-0-is at w.in-Ok-Some.ensures.found) in
-          finds_read t f shown source _ old w.check_content.new.stream.feed end w.check_content.result c.match-open.verdict there
-          w.check_content.ensures.verdict
-          (w.verdict-is ∙ w.unwrap_or-verdict.ensures) (λ _. ap (λ s. s.feed) w.stream-is)
-          (never_broken c.match-open.verdict c.is_whole.result end None c.is_whole.ensures c.if-not-is_whole.false)
-      | in-Ok-None w ↦
-          let there : IsFound shown None = subst (λ p. IsFound ((g.S.Shelf.contents c.args.shelf.now).under p) None) (ap (map (λ s. s.now)) c.deref.ensures.0
-          ∙ c.parts.ensures) (rw w.in-Ok-None.field-0-is at w.in-Ok-None.ensures.found) in
+          let there : IsFound shown None = subst (λ p. IsFound ((g.S.Shelf.contents c.args.shelf.now).under p) None) path
+          (rw w.in-Ok-None.field-0-is at w.in-Ok-None.ensures.found) in
           subst (FindsVerdict t f shown old end) (sym w.verdict-is)
-          (finds_missing t f shown old end there (never_broken c.match-open.verdict c.is_whole.result end None c.is_whole.ensures c.if-not-is_whole.false
-          (ap is_whole w.verdict-is)))
+          (finds_missing t f shown old end there (c.stop_unless.ensures.stops (c.is_whole.ensures ∙ ap is_whole w.verdict-is)))
       | in-Err w ↦ subst (FindsVerdict t f shown old end) (sym w.verdict-is)
-          (finds_unreadable t f shown old end (never_broken c.match-open.verdict c.is_whole.result end None c.is_whole.ensures c.if-not-is_whole.false
-          (ap is_whole w.verdict-is)))
+          (finds_unreadable t f shown old end (c.stop_unless.ensures.stops (c.is_whole.ensures ∙ ap is_whole w.verdict-is)))
     ]
 
-pub returns-then-not-is_whole-clause-visits : goal.returns-then-not-is_whole-clause-visits
-returns-then-not-is_whole-clause-visits g c =
+pub returns-clause-visits : goal.returns-clause-visits
+returns-clause-visits g c =
     let t = c.args.torrent.now in
     let f = file_entry c.args.file.now in
     let same = ap (map (λ s. s.now)) c.deref.ensures.0 ∙ c.parts.ensures in
@@ -103,50 +78,5 @@ returns-then-not-is_whole-clause-visits g c =
       }
     ]
 
-pub returns-else-not-is_whole-clause-visits : goal.returns-else-not-is_whole-clause-visits
-returns-else-not-is_whole-clause-visits g c =
-    let t = c.args.torrent.now in
-    let f = file_entry c.args.file.now in
-    let same = ap (map (λ s. s.now)) c.deref.ensures.0 ∙ c.parts.ensures in
-    let opens = subst (λ p. g.S.Shelf.opens c.args.shelf.now p c.open.result c.open.new.self) same c.open.ensures.opens in
-    elim c.match-open.branch [
-      | in-Ok-Some w ↦
-          let source = w.in-Ok-Some.source in
-          let read = w.check_content.new.source in
-          let reading = read_for t f (g.S.File.Source.seen source) (g.S.File.Source.seen read) _ _ _ _ w.check_content.ensures.verdict
-          w.check_content.ensures.blamed w.check_content.ensures.counts w.check_content.ensures.no_further
-          (w.verdict-is ∙ w.unwrap_or-verdict.ensures) in
-          record {
-            answer = Ok (Some source);
-            opened = record {
-              between = c.open.new.self;
-              opened = subst (λ (a : Result (Option g.row.S-File.Denot) DeviceFault).
-                  g.S.Shelf.opens c.args.shelf.now f.path a c.open.new.self)
-                  (w.in-Ok-Some.is ∙ ap Ok w.in-Ok-Some.field-0-is) opens;
-              read = read;
-              reading = reading;
-              closed = subst (λ (s : g.row.S.Denot). g.S.Shelf.closes c.open.new.self read s) (sym w.shelf-is) w.close.ensures.closes;
-            };
-            follows = tt;
-          }
-      | in-Ok-None w ↦ record {
-        answer = Ok None;
-        opened = subst (λ (s : g.row.S.Denot). g.S.Shelf.opens c.args.shelf.now f.path (Ok None) s) (sym w.shelf-is)
-            (subst (λ (a : Result (Option g.row.S-File.Denot) DeviceFault).
-            g.S.Shelf.opens c.args.shelf.now f.path a c.open.new.self) (w.in-Ok-None.is ∙ ap Ok w.in-Ok-None.field-0-is) opens);
-        follows = w.verdict-is;
-      }
-      | in-Err w ↦ record {
-        answer = Err w.in-Err.field-0;
-        opened = subst (λ (s : g.row.S.Denot). g.S.Shelf.opens c.args.shelf.now f.path (Err w.in-Err.field-0) s) (sym w.shelf-is)
-            (subst (λ (a : Result (Option g.row.S-File.Denot) DeviceFault).
-            g.S.Shelf.opens c.args.shelf.now f.path a c.open.new.self) w.in-Err.is opens);
-        follows = w.verdict-is;
-      }
-    ]
-
-pub returns-then-not-is_whole-clause-counts : goal.returns-then-not-is_whole-clause-counts
-returns-then-not-is_whole-clause-counts g c = search rules
-
-pub returns-else-not-is_whole-clause-counts : goal.returns-else-not-is_whole-clause-counts
-returns-else-not-is_whole-clause-counts g c = search rules
+pub returns-clause-counts : goal.returns-clause-counts
+returns-clause-counts g c = search rules
