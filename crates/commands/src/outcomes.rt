@@ -214,6 +214,7 @@ pub fn replay<'a, N: NodeMap, R: Source, W: Sink>(
         (replay_seen (R.seen source.new) session.new (W.seen out.new) None)) }
     ensures fault { IfErr result NamesOutput }
 {
+    // There is no sink for answers, so any type of sink will do.
     let Ok(outcome) = replays::replay(alloc, session, source, out, None::<&mut MemSink>) else {
         return Err(Fault::Write(OUTPUT));
     };

@@ -89,17 +89,17 @@ fn run_bytes(
     }
 }
 
-fn words(rt: &HostRuntime) -> io::Result<Vec<String>> {
-    let mut words = Vec::new(rt.alloc());
-    for word in env::args(rt)?.skip(1) {
-        words.push(word)?;
+fn arguments(rt: &HostRuntime) -> io::Result<Vec<String>> {
+    let mut arguments = Vec::new(rt.alloc());
+    for argument in env::args(rt)?.skip(1) {
+        arguments.push(argument)?;
     }
-    Ok(words)
+    Ok(arguments)
 }
 
 fn main(rt: HostRuntime) -> io::Result<()> {
-    let words = words(&rt)?;
-    let [torrent, record, map, call] = words.as_slice() else {
+    let arguments = arguments(&rt)?;
+    let [torrent, record, map, call] = arguments.as_slice() else {
         return eprintln!(rt; "usage: memory_tests TORRENT RECORD flat|paged CALL");
     };
     run(

@@ -44,15 +44,15 @@ pub(crate) fn refuse_join<'a>(
 }
 
 // Says this of the report at this place.
-fn blame(system: &System, words: &[u8], paths: &[&str], place: usize) {
+fn blame(system: &System, text: &[u8], paths: &[&str], place: usize) {
     let path = paths.get(place).copied().unwrap_or("");
     let mut out = FromWrite::new(system.rt().stderr());
-    let _ = write_fault(words, path, &mut out);
+    let _ = write_fault(text, path, &mut out);
     let _ = out.flush();
 }
 
-fn write_fault<W: Sink>(words: &[u8], path: &str, out: &mut W) -> Result<(), DeviceFault> {
-    write_all(out, words)?;
+fn write_fault<W: Sink>(text: &[u8], path: &str, out: &mut W) -> Result<(), DeviceFault> {
+    write_all(out, text)?;
     write_escaped(out, path.as_bytes())?;
     write_all(out, b"\n")
 }

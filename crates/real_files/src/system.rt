@@ -77,7 +77,7 @@ impl fmt::Display for Cause {
     fn fmt<W: fmt::Write>(&self, f: &mut fmt::Formatter<W>) -> fmt::Result {
         match self {
             Cause::IsInput => f.write_str("it is an input"),
-            Cause::Error(error) => match words(error.kind()) {
+            Cause::Error(error) => match name_of(error.kind()) {
                 Some(text) => f.write_str(text),
                 None => write!(f, "{error}"),
             },
@@ -86,7 +86,7 @@ impl fmt::Display for Cause {
 }
 
 // What a kind of error is called here, of those that users meet.
-fn words(kind: ErrorKind) -> Option<&'static str> {
+fn name_of(kind: ErrorKind) -> Option<&'static str> {
     match kind {
         ErrorKind::NotFound => Some("no such file or folder"),
         ErrorKind::PermissionDenied => Some("permission denied"),
