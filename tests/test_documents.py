@@ -144,3 +144,15 @@ def test_proofs_in_specs_are_listed():
             name = os.path.basename(path).removesuffix(".antt")
             if re.search(r"\b(?:refl|omega|subst)\b", contracts.text_of(path)):
                 assert f"`{name}`" in section and f"`{crate}`" in section, path
+
+
+def test_each_crate_stands_above_those_it_depends_on():
+    """In the picture of ARCHITECTURE.md no crate stands below one that depends on it."""
+    picture = re.findall(r"^    (\w+)(?: *= ([\w, ]+?))?  +\S", contracts.text_of(TOP, "docs", "ARCHITECTURE.md").split("\n\n")[2], re.M)
+    rows = [{name, *re.findall(r"\w+", parts)} for name, parts in picture]
+    assert len(rows) > 20, rows
+    depends = {name: below.split() for name, below in re.findall(r"^(\w+):(.*)$", contracts.text_of(TOP, "crates.txt"), re.M)}
+    for number, row in enumerate(rows):
+        above = set().union(*rows[:number])
+        wrong = [(name, below) for name in row for below in depends[name] if below in above - row]
+        assert not wrong, wrong
