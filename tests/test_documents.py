@@ -139,11 +139,13 @@ def test_no_file_of_proofs_is_too_long():
 def test_proofs_in_specs_are_listed():
     """DECISIONS.md names each file of definitions that holds a proof, with its crate."""
     section = contracts.text_of(TOP, "docs", "DECISIONS.md").split("\n## Proofs and tests\n")[1].split("\n## ")[0]
+    found = []
     for crate in os.listdir(contracts.CRATES):
         for path in glob.glob(f"{contracts.CRATES}/{crate}/specs/**/*.antt", recursive=True):
-            name = os.path.basename(path).removesuffix(".antt")
             if re.search(r"\b(?:refl|omega|subst)\b", contracts.text_of(path)):
-                assert f"`{name}`" in section and f"`{crate}`" in section, path
+                found.append((crate, os.path.basename(path).removesuffix(".antt")))
+    lacking = [(crate, name) for crate, name in found if f"`{name}`" not in section or f"`{crate}`" not in section]
+    assert found and not lacking, lacking
 
 
 def test_each_crate_stands_above_those_it_depends_on():
