@@ -3,11 +3,15 @@
 #                      if there are a C compiler and an archive of that library
 # make CPU=x86-64-v2   builds for that kind of processor, over the same proofs; a program says so on a lesser one
 # make check           runs what the merge gate runs: proofs, must-fail edits, all tests
+# make run             builds it and prints the length and the root of README.md
+# make try             runs the program once without any proof, in two minutes, on README.md; nothing is proved of it
 # make test            runs the built program on real files
+# make test-all        installs the Debian packages that tests use, and runs all tests
 # make bench           measures the commands and what they stand on, compared with the digests alone
 # make lib             proves the C library and builds build/lib/libbtcheck.a and libbtcheck.so.0 (docs/LIBRARY.md)
-# make install         puts the program, its manual page, its completions, its documents and examples and the relay
-#                      `tools/record` below PREFIX (and DESTDIR); and the library, if `make lib` made it
+# make install         puts the program and `btcheck-many`, their manual pages and completions, the documents, the
+#                      examples, the sources of the bindings and the relay `tools/record` below PREFIX (and DESTDIR); and
+#                      the library, if `make lib` made it
 # make uninstall       removes them
 # make static          links what was proved with a static C library: build/static/btcheck, one file that needs no
 #                      library, for any machine (x86-64-v2)
@@ -16,7 +20,7 @@
 # make dist            packs that program and the library with all that `make install` puts beside them, and a list of
 #                      SHA-256 digests
 # make deb             packs the same as Debian packages, by dpkg-deb: build/deb/btcheck_VERSION_amd64.deb, and the library
-#                      as libbtcheck0 and libbtcheck-dev
+#                      as libbtcheck0, libbtcheck-dev and python3-btcheck
 # make clean           removes all that was built, kept proofs too
 
 RT ?= rt
@@ -40,7 +44,20 @@ define need_toolchain
   exit 1; }
 endef
 
+# What these goals need, looked for before anything is proved. (`make` itself needs no more than the kit and Python 3.)
+GOALS := $(or $(MAKECMDGOALS),all)
+OF_C := $(filter lib static both dist deb,$(GOALS))
+NEEDED := $(if $(filter-out clean uninstall,$(GOALS)),python3) $(if $(OF_C),$(CC) $(LD) $(AR) objcopy)
+NEEDED += $(if $(filter deb,$(GOALS)),dpkg-deb strip)
+LACKING := $(foreach it,$(NEEDED),$(if $(shell command -v $(it)),,$(it)))
+LACKING += $(if $(filter python3,$(NEEDED)),$(if $(shell python3 -c 'import concurrent.futures, hashlib; print(1)'),,all-of-python3))
+LACKING += $(if $(filter static both dist deb,$(GOALS)),$(if $(wildcard $(shell $(CC) -print-file-name=libc.a)),,libc.a))
+ifneq ($(strip $(LACKING)),)
+  $(error missing for '$(GOALS)': $(strip $(LACKING)). On Debian: apt install python3 gcc libc6-dev binutils dpkg-dev)
+endif
+
 all: build/btcheck
+	@echo "build/btcheck is ready: try 'build/btcheck root README.md'"
 
 # The one for this kind: copied anew where it is another. Times do not tell that, since two calls of make may come within
 # one tick of the clock of files.
@@ -61,8 +78,9 @@ build/x86-64-%/btcheck build/x86-64-%/btcheck.o: $(SOURCES)
 	@RT="$(RT)" tools/prove btcheck
 	@RT="$(RT)" tools/compile btcheck x86-64-$*
 
-# Programs for the tests alone: they make the libraries' calls with memory refused, and over devices that fail.
-build/memory_tests build/device_tests: $(SOURCES)
+# Programs for the tests alone: they make the libraries' calls with memory refused, over devices that fail, and with any
+# bound on what is held.
+build/memory_tests build/device_tests build/piece_tests: $(SOURCES)
 	$(need_toolchain)
 	@RT="$(RT)" tools/prove $(@F)
 	@RT="$(RT)" tools/compile $(@F) $(KIND)
@@ -73,8 +91,22 @@ check:
 	RT=$(RT) .ci/run
 
 # On the program whose C library stands apart, so that tests can stand before it.
-test: build/$(KIND)/btcheck build/memory_tests build/device_tests
+test: build/$(KIND)/btcheck build/memory_tests build/device_tests build/piece_tests
 	BTCHECK=$< tests/run
+
+test-all: build/$(KIND)/btcheck build/memory_tests build/device_tests build/piece_tests
+	tests/packages
+	$(MAKE) both lib
+	BTCHECK=$< tests/run --all $(if $(shell command -v go),,-test_go) $(if $(shell command -v cargo),,-test_rust)
+
+run: build/btcheck
+	@build/btcheck root README.md
+
+# The kit's compiler builds a program without a proof in a folder of its own, runs it with checks, and removes it.
+try:
+	$(need_toolchain)
+	@echo "the program without any proof: some two minutes" >&2
+	@cd crates/btcheck && $(RT) try --data README.md=../../README.md -- root README.md
 
 bench: build/btcheck
 	CPU=$(KIND) bench/run
@@ -88,6 +120,14 @@ FOR_ZSH = $(BELOW)/share/zsh/site-functions/_btcheck"
 FOR_FISH = $(BELOW)/share/fish/vendor_completions.d/btcheck.fish"
 DOCUMENTS = $(BELOW)/share/doc/btcheck"
 RELAY = $(BELOW)/share/doc/btcheck/tools/record"
+MANY = $(BELOW)/bin/btcheck-many"
+MANY_MANUAL = $(BELOW)/share/man/man1/btcheck-many.1"
+MANY_FOR_BASH = $(BELOW)/share/bash-completion/completions/btcheck-many"
+MANY_FOR_ZSH = $(BELOW)/share/zsh/site-functions/_btcheck-many"
+MANY_FOR_FISH = $(BELOW)/share/fish/vendor_completions.d/btcheck-many.fish"
+
+# What other builds leave among the sources that are installed.
+OF_BUILDS = \( -name target -o -name __pycache__ -o -name Cargo.lock -o -name '.*' \) -prune
 
 # The program that is installed.
 BUILT := build/btcheck
@@ -98,12 +138,18 @@ install: $(BUILT)
 	install -D -m 644 completions/btcheck.bash $(FOR_BASH)
 	install -D -m 644 completions/_btcheck $(FOR_ZSH)
 	install -D -m 644 completions/btcheck.fish $(FOR_FISH)
-	install -D -m 644 -t $(DOCUMENTS) README.md CHANGELOG.md LICENSE-MIT LICENSE-APACHE
-	find docs examples -type f -exec install -D -m 644 {} $(DOCUMENTS)/{} \;
+	install -D -m 755 tools/btcheck-many $(MANY)
+	install -D -m 644 man/btcheck-many.1 $(MANY_MANUAL)
+	install -D -m 644 completions/btcheck-many.bash $(MANY_FOR_BASH)
+	install -D -m 644 completions/_btcheck-many $(MANY_FOR_ZSH)
+	install -D -m 644 completions/btcheck-many.fish $(MANY_FOR_FISH)
+	install -D -m 644 -t $(DOCUMENTS) README.md CHANGELOG.md CONTRIBUTING.md SECURITY.md LICENSE-MIT LICENSE-APACHE
+	find docs examples bindings $(OF_BUILDS) -o -type f -exec install -D -m 644 {} $(DOCUMENTS)/{} \;
 	install -D -m 755 tools/record $(RELAY)
 
 uninstall:
 	rm -f $(PROGRAM) $(MANUAL) $(FOR_BASH) $(FOR_ZSH) $(FOR_FISH)
+	rm -f $(MANY) $(MANY_MANUAL) $(MANY_FOR_BASH) $(MANY_FOR_ZSH) $(MANY_FOR_FISH)
 	rm -rf $(DOCUMENTS)
 
 static: build/static/btcheck
@@ -150,4 +196,4 @@ clean:
 
 FORCE:
 
-.PHONY: all check test bench install uninstall static both dist deb clean FORCE
+.PHONY: all check run test test-all try bench install uninstall static both dist deb clean FORCE

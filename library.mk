@@ -5,7 +5,11 @@ ARCHIVE := crates/btcheck_c/out/libbtcheck_c.a
 LIB_VERSION = $(shell sed -n 's/.*VERSION: &str = "\([0-9.]*\).*/\1/p' crates/command_line/src/help.rt)
 WITH_VERSION = sed 's/@VERSION@/$(LIB_VERSION)/'
 
-lib: $(LIB)/libbtcheck.a $(LIB)/libbtcheck.so.0
+# Where the loader of the C library looks first on a processor that has all of x86-64-v3 (ld.so(8), "Hardware
+# capabilities"), below each folder of libraries.
+V3 := glibc-hwcaps/x86-64-v3
+
+lib: $(addprefix $(LIB)/,libbtcheck.a libbtcheck.so.0 $(V3)/libbtcheck.a $(V3)/libbtcheck.so.0)
 
 $(ARCHIVE): $(SOURCES)
 	$(need_toolchain)
@@ -13,39 +17,55 @@ $(ARCHIVE): $(SOURCES)
 	@RT="$(RT)" tools/compile btcheck_c $(or $(CPU),x86-64-v2)
 	install -D -m 644 build/$(or $(CPU),x86-64-v2)/libbtcheck_c.a $@
 
+# The same proved code with other instructions.
+build/x86-64-v3/libbtcheck_c.a: $(ARCHIVE)
+	$(need_toolchain)
+	@RT="$(RT)" tools/compile btcheck_c x86-64-v3
+
+$(LIB)/btcheck.o: $(ARCHIVE)
+$(LIB)/$(V3)/btcheck.o: build/x86-64-v3/libbtcheck_c.a
+
 # One object with the kit's C code inside. Only the names of the header leave it, so that it stands in the way of no
 # other library, and of no allocator that the client brings.
-$(LIB)/btcheck.o: $(ARCHIVE)
-	mkdir -p $(LIB)
-	$(LD) -r -o $@ --whole-archive $(ARCHIVE) --no-whole-archive $(KIT_C)/liblibc_c.a
+$(LIB)/btcheck.o $(LIB)/$(V3)/btcheck.o:
+	mkdir -p $(@D)
+	$(LD) -r -o $@ --whole-archive $< --no-whole-archive $(KIT_C)/liblibc_c.a
 	objcopy --wildcard --keep-global-symbol='btcheck_*' $@
 
-$(LIB)/libbtcheck.a: $(LIB)/btcheck.o
+%/libbtcheck.a: %/btcheck.o
 	rm -f $@
 	$(AR) rcsD $@ $<
 
-$(LIB)/libbtcheck.so.0: $(LIB)/btcheck.o
+%/libbtcheck.so.0: %/btcheck.o
 	$(CC) -shared -o $@ $< -Wl,-soname,libbtcheck.so.0 -Wl,-z,defs -Wl,-z,relro -Wl,-z,now -Wl,-z,noexecstack
-	ln -sf libbtcheck.so.0 $(LIB)/libbtcheck.so
+	ln -sf libbtcheck.so.0 $(@D)/libbtcheck.so
+
+.SECONDARY: $(LIB)/btcheck.o $(LIB)/$(V3)/btcheck.o
 
 # `make install` installs the library too, if `make lib` made it.
 install: $(if $(wildcard $(LIB)/libbtcheck.so.0),install-lib)
 
 install-lib:
-	install -D -m 644 -t $(BELOW)/include" include/btcheck.h
+	install -D -m 644 -t $(BELOW)/include" bindings/c/btcheck.h bindings/cpp/btcheck.hpp
 	install -D -m 644 -t $(BELOW)/lib" $(LIB)/libbtcheck.a
 	install -D -m 755 -t $(BELOW)/lib" $(LIB)/libbtcheck.so.0
+	install -D -m 644 -t $(BELOW)/lib/$(V3)" $(LIB)/$(V3)/libbtcheck.a
+	install -D -m 755 -t $(BELOW)/lib/$(V3)" $(LIB)/$(V3)/libbtcheck.so.0
 	ln -sf libbtcheck.so.0 $(BELOW)/lib/libbtcheck.so"
 	install -d $(BELOW)/lib/pkgconfig" $(BELOW)/lib/cmake/btcheck"
-	$(WITH_VERSION) include/btcheck.pc.in > $(BELOW)/lib/pkgconfig/btcheck.pc"
-	$(WITH_VERSION) include/btcheck-config-version.cmake.in > $(BELOW)/lib/cmake/btcheck/btcheck-config-version.cmake"
-	install -m 644 -t $(BELOW)/lib/cmake/btcheck" include/btcheck-config.cmake
+	$(WITH_VERSION) bindings/c/btcheck.pc.in > $(BELOW)/lib/pkgconfig/btcheck.pc"
+	$(WITH_VERSION) bindings/c/btcheck-config-version.cmake.in > $(BELOW)/lib/cmake/btcheck/btcheck-config-version.cmake"
+	install -m 644 -t $(BELOW)/lib/cmake/btcheck" bindings/c/btcheck-config.cmake
 	install -D -m 644 -t $(BELOW)/share/man/man3" man/libbtcheck.3
+	@test -n "$(DESTDIR)" || echo "run 'ldconfig' as root before a program that is linked with libbtcheck.so.0; below another \
+folder than /usr and /usr/local it needs LD_LIBRARY_PATH=$(PREFIX)/lib"
 
 uninstall: uninstall-lib
 
 uninstall-lib:
-	rm -f $(BELOW)/include/btcheck.h" $(BELOW)/lib/libbtcheck.a" $(BELOW)/lib/libbtcheck.so.0" $(BELOW)/lib/libbtcheck.so"
+	rm -f $(BELOW)/include/btcheck.h" $(BELOW)/include/btcheck.hpp"
+	rm -f $(BELOW)/lib/libbtcheck.a" $(BELOW)/lib/libbtcheck.so.0" $(BELOW)/lib/libbtcheck.so"
+	rm -f $(BELOW)/lib/$(V3)/libbtcheck.a" $(BELOW)/lib/$(V3)/libbtcheck.so.0"
 	rm -f $(BELOW)/lib/pkgconfig/btcheck.pc" $(BELOW)/share/man/man3/libbtcheck.3"
 	rm -rf $(BELOW)/lib/cmake/btcheck"
 

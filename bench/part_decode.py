@@ -10,19 +10,19 @@ MARK = 1.25
 
 
 def write_keys(path, count):
-    """A dictionary of so many keys of six digits, which ascend, with an integer under each."""
+    """A dictionary of `count` keys of six digits, which ascend, with an integer under each."""
     with open(path, "wb") as out:
         out.write(b"d" + b"".join(b"6:%06di1e" % key for key in range(count)) + b"e")
 
 
 def write_string(path, count):
-    """A dictionary with one byte string of so many bytes."""
+    """A dictionary with one byte string of `count` bytes."""
     with open(path, "wb") as out:
         out.write(b"d1:a%d:" % count + bytes(count) + b"e")
 
 
 def write_items(path, count):
-    """A list of integers, of so many bytes."""
+    """A list of integers, of `count` bytes."""
     with open(path, "wb") as out:
         out.write(b"l" + b"i1e" * (count // 3) + b"e")
 

@@ -17,7 +17,7 @@ def build():
     """Builds the library, the program over it, and btcheck for the same kind of processor."""
     subprocess.run(["make", "-s", "lib", f"build/{KIND}/btcheck"], cwd=TOP, check=True, env={**os.environ, "CPU": ""})
     archive = os.path.join(TOP, "build", "lib", "libbtcheck.a")
-    subprocess.run([os.environ.get("CC", "cc"), "-O2", "-I", os.path.join(TOP, "include"),
+    subprocess.run([os.environ.get("CC", "cc"), "-O2", "-I", os.path.join(TOP, "bindings", "c"),
                     os.path.join(TOP, "bench", "library.c"), archive, "-o", PROGRAM], check=True)
 
 

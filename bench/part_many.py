@@ -16,7 +16,7 @@ MARK = 3.5
 
 
 def make(folder, mib):
-    """So many torrents, each beside a folder with a file of so many MiB."""
+    """COUNT torrents, each beside a folder with a file of `mib` MiB."""
     for number in range(COUNT):
         content = os.path.join(folder, str(number))
         os.makedirs(content)
@@ -26,7 +26,7 @@ def make(folder, mib):
 
 
 def by_xargs(folder, jobs):
-    """The command that checks all of them, so many at a time; it fails if one is not good."""
+    """The command that checks all of them, `jobs` at a time; it fails if one is not good."""
     numbers = " ".join(map(str, range(COUNT)))
     one = f"{BTCHECK} check {folder}/{{}}.torrent {folder}/{{}}"
     return ["sh", "-c", f"echo {numbers} | tr ' ' '\\n' | xargs -P {jobs} -I {{}} {one}"]

@@ -39,7 +39,7 @@ def torrent_in_pieces(tree, length, piece_length):
 
 
 def uncles_of(tree, span):
-    """How many uncles lead from a range of so many leaves to the root."""
+    """How many uncles lead from a range of `span` leaves to the root."""
     return tree.height - (span.bit_length() - 1)
 
 

@@ -70,7 +70,7 @@ def write_torrent(path, tree, layers, version1=None):
 
 
 def write_hybrid(path, count):
-    """A hybrid of so many files, each with a pad behind it but the last."""
+    """A hybrid of `count` files, each with a pad behind it but the last."""
     tree, files = {}, []
     for number in range(count):
         name = b"file %06d" % number
@@ -80,7 +80,7 @@ def write_hybrid(path, count):
 
 
 def write_files(path, kind, count):
-    """The torrent of so many files of this kind."""
+    """The torrent of `count` files of this kind."""
     tree, layers = {}, {}
     for number in range(count):
         components, length, root = kind(number)
@@ -94,7 +94,7 @@ def write_files(path, kind, count):
 
 
 def write_layer(path, pairs_path, count):
-    """The torrent of one file with so many pieces, and the pairs that its root is the digest over."""
+    """The torrent of one file with `count` pieces, and the pairs that its root is the digest over."""
     layer = [sha256(b"%d" % number) for number in range(count)]
     level, pad = layer, bytes(32)
     with open(pairs_path, "wb") as pairs:

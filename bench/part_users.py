@@ -65,9 +65,16 @@ def row(name, found):
     print(f"| {name} | " + " | ".join(figures(found, other) for other in ["btcheck", *NAMES]) + " |")
 
 
+def has_sha_instructions():
+    """Whether the processor has instructions for SHA, which OpenSSL uses, and with it libtorrent; btcheck does not."""
+    with open("/proc/cpuinfo", encoding="ascii", errors="replace") as file:
+        return any("sha_ni" in line.split() for line in file if line.startswith("flags"))
+
+
 def run(folder, words):
     """Measures all rows. No mark is missed here: the other parts have them."""
     need_program()
+    print(f"this processor has {'instructions' if has_sha_instructions() else 'no instructions'} for SHA")
     files = os.path.join(folder, "files")
     os.makedirs(files)
     path = os.path.join(files, "content")

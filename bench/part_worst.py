@@ -22,12 +22,12 @@ CONVERT_MARK = 2
 
 
 def ignored(value, size):
-    """The torrent of `abc.txt` with a list of so many values under a key that nothing reads."""
+    """The torrent of `abc.txt` with a list of `size` bytes of values under a key that nothing reads."""
     return b"d1:al" + value * (size // len(value)) + b"e" + ABC[1:]
 
 
 def empty_files(folders, size):
-    """A torrent of empty files, all below so many folders."""
+    """A torrent of empty files, all below `folders` folders."""
     files = [b"4:%sd0:d6:lengthi0eee" % name for name in names(size // 23)]
     tree = b"d1:d" * folders + b"d" + b"".join(files) + b"e" * (folders + 1)
     return b"d4:infod9:file tree" + tree + b"12:meta versioni2e4:name1:x12:piece lengthi16384eee"
@@ -97,7 +97,7 @@ RECORDS = {
 
 
 def measure_one(name, arguments, mib, most):
-    """Measures a command on an input of so many MiB, and gives the mark that it misses: its memory at most, in MiB."""
+    """Measures a command on an input of `mib` MiB, and gives the mark that it misses: its memory at most, in MiB."""
     _, processor, peak = measure([BTCHECK, *arguments], statuses=(0, 1))
     peak /= 1024
     print(f"{name:38} {mib:6} {processor / mib:12.4f} {peak:9.1f} {peak / mib:10.2f}", flush=True)

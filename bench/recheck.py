@@ -1,4 +1,4 @@
-"""recheck.py TORRENT FOLDER [THREADS]: lets libtorrent check a folder with one thread, or so many; status 1 where a
+"""recheck.py TORRENT FOLDER [THREADS]: lets libtorrent check a folder with one thread, or THREADS; status 1 where a
 piece is bad.
 
 The torrent's files lie below FOLDER/NAME, where NAME is the torrent's name.

@@ -5,13 +5,13 @@
 _btcheck_command() {
     options='-h --help'
     case $1 in
-        root) options+=' --json' kinds=(file) ;;
-        show) options+=' --json' kinds=(torrent) ;;
-        check) options+=' --quiet --bad --part --json' kinds=(torrent folder) ;;
-        join) kinds=(torrent file) last=more ;;
-        create) options+=' --name --piece-length --hybrid --exclude' kinds=(folder file) ;;
-        convert) kinds=(file file) ;;
-        replay) options+=' --info-only --seed --answers --json' kinds=(torrent file) ;;
+        root) options+=' -j --json --reasons' kinds=(file) ;;
+        show) options+=' --long -j --json --reasons' kinds=(torrent) ;;
+        check) options+=' -q --quiet --bad --extra --summary --part -j --json --reasons' kinds=(torrent folder) ;;
+        join) options+=' --reasons' kinds=(torrent file) last=more ;;
+        create) options+=' --name --piece-length --hybrid --exclude --no-clobber --reasons' kinds=(folder file) ;;
+        convert) options+=' --reasons' kinds=(file file) ;;
+        replay) options+=' --info-only --seed -o --answers --padded --pieces -j --json --reasons' kinds=(torrent file) ;;
         help) options='' kinds=(command) ;;
         *) options='' kinds=() ;;
     esac
@@ -21,7 +21,7 @@ _btcheck_command() {
 _btcheck_value() {
     case $1 in
         --seed) kind=folder ;;
-        --answers) kind=file ;;
+        -o | --answers) kind=file ;;
         --name | --piece-length | --exclude | --part) kind=text ;;
         *) kind='' ;;
     esac

@@ -11,6 +11,8 @@ import shutil
 
 import folder_model
 import opening_model
+import parts_model
+import pieces_model
 import record_model
 import torrents
 from poison import Peers
@@ -243,8 +245,10 @@ class Fuzz:
         files, piece_length, with_layers, record = self.drawn_record(draw, 0.5)
         write(f"{self.place}/torrent", torrents.torrent_of(files, piece_length))
         write(f"{self.place}/record", record)
-        wanted = record_model.report(Session(files, piece_length, with_layers), record)
-        flags = [] if with_layers else ["--info-only"]
+        is_padded = draw.random() < 0.3
+        model = pieces_model.padded_report if is_padded else record_model.report
+        wanted = model(Session(files, piece_length, with_layers), record)
+        flags = ([] if with_layers else ["--info-only"]) + (["--padded"] if is_padded else [])
         self.compare("record", wanted, "replay", f"{self.place}/torrent", f"{self.place}/record", *flags)
 
     def conversion(self, draw):
@@ -293,12 +297,12 @@ class Fuzz:
             write(b"/".join([below, *path]), bytes_of)
         for path, bytes_of in draw.sample(files, draw.choice([0, 1, min(2, len(files))])):
             damage(draw, b"/".join([below, *path]), bytes_of)
-        count = draw.choice([1, 2, 3, 5])
-        true = [run(b"check", torrent, below, b"--part", b"%d/%d" % (number + 1, count)).stdout for number in range(count)]
+        count, more = draw.choice([1, 2, 3, 5]), draw.choice([[], [b"--bad"]])
+        true = [run(b"check", torrent, below, b"--part", b"%d/%d" % (number + 1, count), *more).stdout for number in range(count)]
         given = bent_reports(draw, true)
         paths = [write(f"{self.place}/report {number}", text) for number, text in enumerate(given)]
         done = run("join", torrent, *paths, timeout=SECONDS, memory=MEMORY)
-        wanted = joined(true, given)
+        wanted = joined(opening_model.Opened(torrents.bencoded(top)), true, given)
         if wanted is None:
             is_right = (done.returncode, done.stdout) == (2, b"") and JOIN_FAULT.fullmatch(done.stderr)
         else:
@@ -311,6 +315,7 @@ class Fuzz:
 # The lines of a join that is refused.
 JOIN_FAULT = re.compile(rb"fault: (part \d+ of \d+ is missing|part \d+ is there twice|no whole report of a part: .*"
                         rb"|a part of another torrent: .*|a report of another number of parts: .*)\n")
+RUN = re.compile(rb"bad pieces (0|[1-9][0-9]{0,19}) (0|[1-9][0-9]{0,19}) bytes (0|[1-9][0-9]{0,19})-(0|[1-9][0-9]{0,19})")
 VERDICT = re.compile(rb"(good|missing|unreadable|wrong length|bad (0|[1-9][0-9]{0,19})) (.*)", re.S)
 V1_VERDICT = re.compile(rb"v1 (good|not checked|bad (0|[1-9][0-9]{0,19}))")
 BEST_FIRST = [b"good", b"bad", b"wrong length", b"unreadable", b"missing"]
@@ -338,6 +343,9 @@ def bent_reports(draw, true):
             lambda: bend_bytes(draw, text) if text else b"x",
             lambda: text + text,
             lambda: text.replace(b"part no\n", b"part yes\n"),
+            lambda: text.replace(b" bad\n", b"\n", 1) if b" bad\n" in text else text.replace(b"\n", b" bad\n", 1),
+            lambda: bend_run(draw, text),
+            lambda: re.sub(rb"(?<= )[0-9a-f]{64}(?=\n)", b"%064x" % draw.getrandbits(256), text, count=1),
         ])()
         if given and draw.random() < 0.8:
             given[at] = bent
@@ -346,20 +354,95 @@ def bent_reports(draw, true):
     return given or [b""]
 
 
-def said(text, true):
-    """What a report says of each file and of the version 1 pieces, if it has the form of the true one of its part."""
+def bend_run(draw, text):
+    """The report with another number in the line of a run of bad pieces, or with such a line more."""
+    runs = list(re.finditer(rb"bad pieces .*\n", text))
+    if not runs:
+        return re.sub(rb"\n", b"\nbad pieces 0 0 bytes 0-16383\n", text, count=1)
+    run = draw.choice(runs)
+    numbers = list(re.finditer(rb"[0-9]+", run[0]))
+    one = draw.choice(numbers)
+    other = b"%d" % max(int(one[0]) + draw.choice([-16384, -1, 1, 16384]), 0)
+    return text[:run.start()] + run[0][:one.start()] + other + run[0][one.end():] + text[run.end():]
+
+
+def without_runs(text):
+    """A report without the lines of runs, and for each line that is left the runs behind it."""
+    left, runs = [], []
+    for line in text.split(b"\n"):
+        found = RUN.fullmatch(line)
+        if found and left:
+            runs[-1].append(tuple(int(number) for number in found.groups()))
+        else:
+            left.append(line)
+            runs.append([])
+    return b"\n".join(left), runs
+
+
+def are_runs(runs, verdict, there, first, length, piece_length):
+    """Whether a report can tell these runs of a file with these pieces in the part, behind this verdict."""
+    if not verdict.startswith((b"bad", b"wrong")):
+        return not runs
+    ends = [there.start - 2] + [last for _, last, _, _ in runs]
+    return (all(before + 1 < low <= high < there.stop and start == (low - first) * piece_length
+                and end == min((high - first + 1) * piece_length, length) - 1
+                for before, (low, high, start, end) in zip(ends, runs))
+            and (not verdict.startswith(b"bad") or bool(runs) and runs[0][0] == int(verdict.split()[1])))
+
+
+def marked(text, true, held, pieces, files, piece_length):
+    """The same of a report that may tell of runs: what it says, and the pieces in them by the files' names."""
+    plain, runs = without_runs(text)
+    says = said(plain, without_runs(true)[0], held, pieces)
+    if says is None or runs != [[]] * len(runs) and not true.split(b"\n")[0].endswith(b" bad"):
+        return None
+    own = [(there, *file) for there, file in zip(held, files) if there is not None]
+    bad = {}
+    for at, told in enumerate(runs):
+        if not 1 <= at <= len(own):
+            if told:
+                return None
+            continue
+        there, first, length = own[at - 1]
+        name = VERDICT.fullmatch(plain.split(b"\n")[at])[3]
+        verdict = VERDICT.fullmatch(plain.split(b"\n")[at])[1]
+        if true.split(b"\n")[0].endswith(b" bad") and not are_runs(told, verdict, there, first, length, piece_length):
+            return None
+        bad[name] = {piece for low, high, _, _ in told for piece in range(low, high + 1)}, first, length
+    return says, bad
+
+
+def run_lines(bad, first, length, piece_length):
+    """The lines of the runs of these bad pieces of a file."""
+    lines, left = [], sorted(bad)
+    while left:
+        many = next((at for at in range(1, len(left)) if left[at] != left[0] + at), len(left))
+        last = left[many - 1]
+        lines.append(b"bad pieces %d %d bytes %d-%d" % (left[0], last, (left[0] - first) * piece_length,
+                                                        min((last - first + 1) * piece_length, length) - 1))
+        left = left[many:]
+    return lines
+
+
+def said(text, true, held, pieces):
+    """What a report says of each file and of the version 1 pieces, if it has the form of the true one of its part, which
+    has these pieces of the files that have a place there, and these of all."""
     lines, others = text.split(b"\n"), true.split(b"\n")
     if len(lines) != len(others) or lines[0] != others[0] or lines[-1]:
         return None
-    says = {}
+    says, own = {}, iter(there for there in held if there is not None)
     for line, other in zip(lines[1:-2], others[1:-2]):
         of_file = not other.startswith(b"v1 ")
+        there = next(own) if of_file else pieces
         found, wanted = ((VERDICT if of_file else V1_VERDICT).fullmatch(text) for text in (line, other))
-        if not found or of_file and found[3] != wanted[3] or found[2] and int(found[2]) >= 1 << 64:
+        if not found or of_file and found[3] != wanted[3] or found[2] and int(found[2]) not in there:
             return None
         says[wanted[3] if of_file else None] = found[1]
-    whole = all(verdict == b"good" for verdict in says.values())
-    return says if lines[-2] == (b"part yes" if whole else b"part no") else None
+    is_whole = all(verdict.split()[0] in (b"good", b"bad") for name, verdict in says.items() if name is not None)
+    if None in says and (says[None] != b"not checked") != is_whole:
+        return None
+    is_good = all(verdict == b"good" for verdict in says.values())
+    return says if lines[-2] == (b"part yes" if is_good else b"part no") else None
 
 
 def badness(verdict):
@@ -370,23 +453,42 @@ def badness(verdict):
     return BEST_FIRST.index(kind), -int(piece or 0)
 
 
-def joined(true, given):
-    """The status and the report of a join, or none if it is refused."""
+def of_kind(text, tells_runs):
+    """A report as one that may tell of runs, or as a plain one."""
+    if text.split(b"\n")[0].endswith(b" bad") == tells_runs:
+        return text
+    head, rest = without_runs(text)[0].split(b"\n", 1)
+    return (head + b" bad" if tells_runs else head.removesuffix(b" bad")) + b"\n" + rest
+
+
+def joined(torrent, true, given):
+    """The status and the report of a join, or none if it is refused. All reports are of the kind of the first."""
     if len(given) != len(true):
         return None
     heads = [text.split(b"\n")[0] for text in given]
-    says = {}
-    for text in true:
+    true = [of_kind(text, heads[0].endswith(b" bad")) for text in true]
+    says, bad = {}, {}
+    lengths = [length for _, length, _ in torrent.files]
+    files = list(zip(parts_model.first_pieces(lengths, torrent.piece_length)[0], lengths))
+    for number, text in enumerate(true):
         head = text.split(b"\n")[0]
         if heads.count(head) != 1:
             return None
-        one = said(given[heads.index(head)], text)
+        held, pieces = parts_model.pieces_in(lengths, torrent.piece_length, number, len(true))
+        one = marked(given[heads.index(head)], text, held, pieces, files, torrent.piece_length)
         if one is None:
             return None
-        for name, verdict in one.items():
+        for name, verdict in one[0].items():
             says[name] = max(says.get(name, b"good"), verdict, key=badness)
+        for name, (told, first, length) in one[1].items():
+            bad[name] = bad.get(name, (set(),))[0] | told, first, length
     v1 = says.pop(None, None)
-    lines = [verdict + b" " + name for name, verdict in says.items()] + ([b"v1 " + v1] if v1 else [])
+    lines = []
+    for name, verdict in says.items():
+        lines.append(verdict + b" " + name)
+        if verdict.startswith((b"bad", b"wrong")):
+            lines += run_lines(*bad[name], torrent.piece_length)
+    lines += [b"v1 " + v1] if v1 else []
     whole = all(verdict == b"good" for verdict in [*says.values(), v1 or b"good"])
     return (0 if whole else 1), b"".join(line + b"\n" for line in [*lines, b"yes" if whole else b"no"])
 

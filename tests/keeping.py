@@ -78,7 +78,7 @@ class Keeper:
     """The client, in front of some ports."""
 
     def __init__(self, order, ports):
-        words = [order["program"], order["torrent"], order["kept"], str(SECONDS), *(f"127.0.0.1:{port}" for port in ports)]
+        words = [order["program"], *(["--ask"] if order["asks"] else []), order["torrent"], order["kept"], str(SECONDS), *(f"127.0.0.1:{port}" for port in ports)]
         self.program = subprocess.Popen(words, stdout=subprocess.PIPE, stderr=subprocess.PIPE, text=True)
         self.ports = [int(self.program.stdout.readline().split()[0]) for _ in ports]
 

@@ -1,9 +1,9 @@
-"""Lets one libtorrent session load a torrent from another over loopback, through tools/record.
+"""Lets one libtorrent session load a torrent from others over loopback, through tools/record.
 
 Run by an interpreter that has libtorrent. Standard input is a JSON object: the folder that holds the content, the torrent
 file, an empty folder for what is loaded, whether the loader starts with the info dictionary alone, the file for the record,
-and whether a liar stands between the holder and the relay. The loader is our side. Standard output is a JSON list of the
-numbers of the frames that are lies, counted from 0 among those that came in.
+how many sessions hold the content, and whether a liar stands between the one holder and the relay. The loader is our side.
+Standard output is a JSON list of the numbers of the frames that are lies, counted from 0 among those that came in.
 """
 import atexit
 import json
@@ -84,7 +84,7 @@ class Liar:
         return given
 
     def whole(self, size, change):
-        """The next so many bytes, changed, or none if they are not there yet."""
+        """The next `size` bytes, changed, or none if they are not there yet."""
         if len(self.rest) < size:
             return b""
         given, self.rest = change(self.rest[:size]), self.rest[size:]
@@ -119,20 +119,23 @@ def turn(text, at):
 
 
 class Relay:
-    """The tool, in front of a port."""
+    """The tool, in front of these ports."""
 
-    def __init__(self, port, out):
-        self.program = subprocess.Popen([RECORD, "127.0.0.1:0", f"127.0.0.1:{port}", out], stderr=subprocess.PIPE, text=True)
+    def __init__(self, ports, out):
+        pairs = [word for port in ports for word in ("127.0.0.1:0", f"127.0.0.1:{port}")]
+        self.program = subprocess.Popen([RECORD, *pairs, out], stderr=subprocess.PIPE, text=True)
         atexit.register(self.program.kill)
-        self.port = int(self.program.stderr.readline().rsplit(":", 1)[1])
+        said = [self.program.stderr.readline().split(" for ")[0] for _ in ports]
+        self.ports = [int(line.rsplit(":", 1)[1]) for line in said]
 
     def stop(self):
-        """Ends it, unless it has ended with the connection; the status counts only one connection as good."""
+        """Ends it, unless it has ended with the connections. One to each port has to be recorded, and if there is one port
+        it has to be the only one; of several peers libtorrent tries some twice."""
         if self.program.poll() is None:
             self.program.send_signal(signal.SIGTERM)
         said = self.program.stderr.read()
-        if self.program.wait(SECONDS) != 0 or "only passed on" in said:
-            sys.exit(f"not one connection that was recorded:\n{said}")
+        if self.program.wait(SECONDS) != 0 or len(self.ports) == 1 and "only passed on" in said:
+            sys.exit(f"not one connection to each port that was recorded:\n{said}")
 
 
 def wait_for(what, done):
@@ -143,15 +146,24 @@ def wait_for(what, done):
         time.sleep(0.02)
 
 
-def main(order):
-    info = lt.torrent_info(order["torrent"])
-    holder, loader, liar = session(), session(), Liar()
+def holding(order, info):
+    """A session that holds the content; one of several lets nobody have all of it at once."""
+    holder = session()
     held = holder.add_torrent({"ti": info, "save_path": order["content"]})
+    if order.get("holders", 1) > 1:
+        held.set_upload_limit(400_000)  # that of a session does not hold on one machine
     wait_for("the content is not found", lambda: held.status().is_seeding)
     wait_for("nobody listens", lambda: holder.listen_port() != 0)
+    return holder
+
+
+def main(order):
+    info = lt.torrent_info(order["torrent"])
+    holders, loader, liar = [holding(order, info) for _ in range(order.get("holders", 1))], session(), Liar()
+    ports = [holder.listen_port() for holder in holders]
     lying = order["lies"]
-    relay = Relay(Passing(holder.listen_port(), liar.lie).own_port() if lying else holder.listen_port(), order["record"])
-    port = Passing(relay.port, liar.restore).own_port() if lying else relay.port
+    relay = Relay([Passing(ports[0], liar.lie).own_port()] if lying else ports, order["record"])
+    doors = [Passing(relay.ports[0], liar.restore).own_port()] if lying else relay.ports
     if order["info_only"]:
         known = lt.parse_magnet_uri(lt.make_magnet_uri(info))
     else:
@@ -159,7 +171,10 @@ def main(order):
         known.ti = lt.torrent_info(order["torrent"])
     known.save_path = order["loaded"]
     loaded = loader.add_torrent(known)
-    wait_for("nobody connects", lambda: loaded.get_peer_info() or loaded.connect_peer(("127.0.0.1", port)))
+    for port in doors:
+        count = len(loaded.get_peer_info())
+        wait_for("nobody connects", lambda: len(loaded.get_peer_info()) > count or loaded.status().is_seeding
+                 or loaded.connect_peer(("127.0.0.1", port)))
     wait_for("it is not loaded", lambda: loaded.status().is_seeding)
     time.sleep(0.2)
     relay.stop()

@@ -65,7 +65,7 @@ def byte_string(data, start):
 
 
 def item(data, start, is_open, spans):
-    """The value that starts here and where it ends; so many lists and dictionaries are open around it. `spans` takes
+    """The value that starts here and where it ends; `is_open` lists and dictionaries are open around it. `spans` takes
     where the values of the dictionary stand."""
     first = data[start:start + 1]
     if not first:

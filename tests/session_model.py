@@ -83,7 +83,7 @@ class Session:
         return ["refused P1 BadPlace"]
 
     def block(self, tree, number, place, cut, count):
-        """The line of one block of a message that carries so many."""
+        """The line of one block of a message that carries `count`."""
         behind = f" {number} {place}" if count > 1 else ""
         leaf = tree["known"].get((0, place))
         if leaf is None:

@@ -7,6 +7,7 @@ import sys
 import tempfile
 
 TOP = os.path.dirname(os.path.dirname(os.path.abspath(__file__)))
+INCLUDES = [f"-I{TOP}/bindings/{place}" for place in ("c", "cpp")]
 BTCHECK = os.path.abspath(os.environ.get("BTCHECK", os.path.join(TOP, "build", "btcheck")))
 
 
@@ -21,13 +22,37 @@ def need(*commands):
             raise LeftOut(f"there is no {command} here")
 
 
+def memory_tests():
+    """The program that makes the libraries' calls with memory refused; a test is left out where it is not built."""
+    return program_of_tests("memory_tests")
+
+
+def device_tests():
+    """The program that makes the libraries' calls over devices that fail; a test is left out where it is not built."""
+    return program_of_tests("device_tests")
+
+
+def piece_tests():
+    """The program that replays a record beside held blocks with any bound; a test is left out where it is not built."""
+    return program_of_tests("piece_tests")
+
+
+def program_of_tests(name):
+    path = os.path.join(TOP, "build", name)
+    if not os.path.exists(path):
+        raise LeftOut(f"build/{name} is not built: make test builds it")
+    return path
+
+
 def run(*arguments, **options):
-    """Runs the program, or another one, with these arguments, bytes or text. A shell limits it to so many KiB of
-    `memory`, since to copy this process for that takes longer. All other options are those of subprocess.run."""
+    """Runs the program, or another one, with these arguments, bytes or text. A shell limits it to `memory` KiB of
+    memory and `stack` KiB of stack, since to copy this process for that takes longer. All other options are those of
+    subprocess.run."""
     words = [options.pop("program", BTCHECK), *arguments]
-    memory = options.pop("memory", None)
-    if memory:
-        words = ["sh", "-c", 'ulimit -v "$0" && exec "$@"', str(memory), *words]
+    for limit, letter in (("memory", "v"), ("stack", "s")):
+        most = options.pop(limit, None)
+        if most:
+            words = ["sh", "-c", f'ulimit -{letter} "$0" && exec "$@"', str(most), *words]
     options.setdefault("stdout", subprocess.PIPE)
     options.setdefault("stderr", subprocess.PIPE)
     options.setdefault("timeout", 600)
@@ -75,18 +100,15 @@ def escaped(text):
 
 
 def python_with_libtorrent():
-    """A Python that has libtorrent, or None."""
+    """A Python that has libtorrent; a test that needs it is left out where none has it."""
     for python in [sys.executable, "/usr/bin/python3"]:
         if subprocess.run([python, "-c", "import libtorrent"], stderr=subprocess.DEVNULL).returncode == 0:
             return python
-    return None
+    raise LeftOut("no Python here has libtorrent: the Debian package is python3-libtorrent")
 
 
 def made_by_libtorrent(orders):
     """What libtorrent says of the torrents that it makes by these orders (maker.py)."""
-    python = python_with_libtorrent()
-    if python is None:
-        raise LeftOut("no Python here has libtorrent: the Debian package is python3-libtorrent")
     maker = os.path.join(os.path.dirname(os.path.abspath(__file__)), "maker.py")
-    done = subprocess.run([python, maker], input=json.dumps(orders), stdout=subprocess.PIPE, text=True, check=True)
+    done = subprocess.run([python_with_libtorrent(), maker], input=json.dumps(orders), stdout=subprocess.PIPE, text=True, check=True)
     return json.loads(done.stdout)

@@ -21,7 +21,7 @@ NO_WRAP, WRAP = "\x1b[?7l", "\x1b[?7h"
 
 
 def screen(text, columns=None):
-    """The lines that a terminal of so many columns shows of this text, or one without a right edge. Between the two
+    """The lines that a terminal of this width shows of this text, or one without a right edge. Between the two
     control sequences it begins no new line at that edge, but writes on in the last column."""
     lines, column, wraps = [{}], 0, True
     for letter in text.replace(NO_WRAP, "\x0e").replace(WRAP, "\x0f"):
@@ -51,7 +51,7 @@ def drawn(text):
 
 
 def cut_off(count, *arguments):
-    """Runs the program with a terminal for standard output, which is interrupted once it has printed so many lines. Gives
+    """Runs the program with a terminal for standard output, which is interrupted once it has printed `count` lines. Gives
     the status, and what was printed. A shell that runs the tests in the background has them ignore interrupts."""
     ours, theirs = pty.openpty()
     tty.setraw(theirs)

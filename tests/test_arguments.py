@@ -11,6 +11,9 @@ COMMANDS = ["root", "show", "check", "join", "create", "replay", "convert"]
 PARTS = ["", "/", "1", "1/", "/1", "0/1", "2/1", "0/0", "1/0", "-1/2", "1/-2", "1 /2", "1/2/3", "1//2", "a/b", "0x1/2", "1.0/2",
          "1/18446744073709551616", "18446744073709551616/18446744073709551616", "\u0661/2"]
 
+# What a part of a check has not.
+NOT_OF_PARTS = ["--quiet", "-q", "--json", "-j", "--extra", "--summary"]
+
 REFUSED = [
     [],
     [""],
@@ -33,8 +36,21 @@ REFUSED = [
     *[["check", "a", "b", "--part", part] for part in PARTS],
     ["check", "a", "b", "--part"],
     ["check", "a", "b", "--part", "1/2", "--part", "2/2"],
-    *[["check", "a", "b", "--part", "1/2", option] for option in ("--quiet", "--bad", "--json")],
+    *[["check", "a", "b", "--part", "1/2", option] for option in NOT_OF_PARTS],
     ["check", "a", "b", "--bad", "--bad"],
+    ["check", "a", "b", "--part", "1/2", "--bad", "--bad"],
+    *[["check", "a", "b", "--part", "1/2", "--bad", option] for option in NOT_OF_PARTS],
+    ["check", "a", "b", "-q", "--quiet"],
+    ["check", "a", "b", "--long"],
+    ["check", "a", "b", "--extra", "--extra"],
+    ["check", "a", "b", "--summary=yes"],
+    ["show", "a", "--long", "--long"],
+    ["show", "a", "--reasons", "--reasons"],
+    ["root", "a", "-q"],
+    ["join", "a", "b", "-j"],
+    ["create", "a", "b", "-o", "c", "--name", "x", "--piece-length", "16384"],
+    ["create", "a", "b", "--name", "x", "--piece-length", "16384", "--no-clobber", "--no-clobber"],
+    ["convert", "a", "b", "--no-clobber"],
     ["check", "--part", "1/2", "a"],
     ["root", "a", "--part", "1/2"],
     ["join"],
@@ -49,6 +65,11 @@ REFUSED = [
     ["replay", "a", "b", "c"],
     ["replay", "a", "b", "--info-only", "--info-only"],
     ["replay", "a", "b", "--info-only=yes"],
+    ["replay", "a", "b", "--padded", "--padded"],
+    ["convert", "a", "b", "--padded"],
+    ["replay", "a", "b", "--pieces", "--pieces"],
+    ["replay", "a", "b", "--pieces=yes"],
+    ["convert", "a", "b", "--pieces"],
     ["replay", "a", "b", "--seed"],
     ["replay", "a", "b", "--seed", "c", "--seed", "d"],
     ["replay", "a", "b", "--answers"],
@@ -84,19 +105,26 @@ def test_refused_arguments():
         assert done.stderr.startswith(b"error: "), (arguments, done.stderr)
 
 
+def test_what_is_said_of_a_piece_length_that_is_none():
+    done = run("create", "a", "b", "--name", "x", "--piece-length", "16 KiB")
+    expect(done, 2, b"", None)
+    assert done.stderr.startswith(b"error: invalid value for '--piece-length <K>'"), done.stderr
+
+
 def test_what_is_said_of_a_part_that_is_refused():
     """What the option has in its place is not opened: neither the torrent nor the folder is there."""
     for part in PARTS:
         done = run("check", "a", "b", f"--part={part}")
         expect(done, 2, b"", None)
         assert done.stderr.startswith(b"error: invalid value for '--part <I/N>'"), (part, done.stderr)
-    for option in ("--quiet", "--bad", "--json"):
+    for option in NOT_OF_PARTS:
         for arguments in (["--part", "1/2", option], [option, "--part", "1/2"], [option, "--part", "2/1"]):
             done = run("check", "a", "b", *arguments)
             expect(done, 2, b"", None)
             assert done.stderr.startswith(b"error: the argument '--part <I/N>' cannot be used with"), (arguments, done)
     for part in ("1/1", "+1/+2", "01/02", "18446744073709551615/18446744073709551615"):
-        expect(run("check", "a", "b", "--part", part), 2, b"", "fault: cannot read a\n")
+        for more in ([], ["--bad"]):
+            expect(run("check", "a", "b", "--part", part, *more), 2, b"", "fault: cannot read a\n")
 
 
 # Mistyped arguments, with what clap says of them and what it suggests, if anything is close.

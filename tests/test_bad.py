@@ -7,8 +7,9 @@ import re
 import signal
 
 from shim import shimmed
-from support import escaped, expect, folder, run, write
+from support import escaped, expect, folder, need, run, write
 from terminal import cut_off
+from test_parts import instructions
 from test_progress import torrent_of_zeros, zeros
 from torrents import torrent_of
 
@@ -263,7 +264,7 @@ def test_faults():
 
 
 def test_reads_that_fail():
-    """Where a file can be read once and not again, the lines so far stand, and the fault names the folder."""
+    """Each file is read once: one of which a read fails is unreadable and has no runs, and the other's lines stand."""
     with shimmed() as (place, shim):
         contents = [("a", FIVE), ("c", b"abc")]
         torrent = write(f"{place}/torrent", torrent_of(contents, PIECE))
@@ -273,17 +274,16 @@ def test_reads_that_fail():
         lines = ["bad 0 a", "bad pieces 0 0 bytes 0-16383", "bad pieces 2 2 bytes 32768-49151", "wrong length c",
                  "bad pieces 5 5 bytes 0-2", "no"]
         assert (ample.returncode, ample.stdout.decode().split("\n")[:-1]) == (1, lines), ample
-        stood = set()
+        told = {"a": ["unreadable a", *lines[3:]], "c": [*lines[:3], "unreadable c", "no"]}
+        seen = set()
         for done in runs:
             said = done.stdout.decode().split("\n")[:-1]
             if done.returncode == 1:
-                assert done.stderr == b"" and said in (["unreadable a", *lines[3:]], [*lines[:3], "unreadable c", "no"]), done
+                assert done.stderr == b"" and said in told.values(), done
+                seen.add(said[0])
             else:
-                assert done.returncode == 2, done
-                assert done.stderr.decode() in (f"fault: cannot read {torrent}\n", f"fault: cannot read {content}\n"), done
-                assert said == lines[:len(said)], done
-                stood.add(len(said))
-        assert {0, 1, 2, 4} <= stood and 6 not in stood, stood
+                assert (done.returncode, done.stderr.decode(), said) == (2, f"fault: cannot read {torrent}\n", []), done
+        assert seen == {"unreadable a", lines[0]}, seen
 
 
 def test_a_check_that_is_cut_off():
@@ -304,3 +304,21 @@ def test_memory_does_not_grow_with_the_runs():
         laid_out(f"{place}/content", [("a", flipped(content, *range(0, len(content), 2 * PIECE)))], {})
         done = run("check", "--bad", torrent, f"{place}/content", memory=12000)
         assert done.returncode == 1 and done.stdout.count(b"bad pieces") == 200, done
+
+
+def test_bad_pieces_cost_little():
+    """Of a file with some bad pieces `--bad` takes hardly more instructions than `check` alone, however long the pieces are."""
+    need("valgrind")
+    with folder() as place:
+        os.mkdir(f"{place}/files")
+        content = random.Random(2).randbytes(1 << 23)
+        for length in (1 << 14, 1 << 16, 1 << 20):
+            write(f"{place}/files/content", content)
+            expect(run("create", f"{place}/files", f"{place}/torrent", "--name", "x", "--piece-length", str(length)), 0)
+            write(f"{place}/files/content", flipped(content, 5, 3 << 20, -1))
+            plain, done = instructions("check", f"{place}/torrent", f"{place}/files")
+            assert done.returncode == 1 and done.stdout == b"bad 0 content\nno\n", done
+            told, done = instructions("check", "--bad", f"{place}/torrent", f"{place}/files")
+            assert done.returncode == 1 and done.stdout.count(b"bad pieces ") == 3, done
+            print(f"pieces of {length} bytes: instructions of --bad {told / plain:.3f} of those of check")
+            assert told <= 1.1 * plain, (told, plain)

@@ -144,3 +144,15 @@ def test_make_without_the_toolchain():
     with folder() as place:
         status, told, _ = Copy(place).make("RT=no-such-command")
         assert status != 0 and "there is no command 'no-such-command' on the path" in told, told
+
+
+def test_make_says_what_is_missing_first():
+    """What a goal needs is looked for before anything is proved; and the last line says what is ready."""
+    need("make")
+    with folder() as place:
+        copy = Copy(place)
+        for goal in ("lib", "static", "both", "deb"):
+            status, told, calls = copy.make(goal, "CC=no-compiler", "LD=no-linker")
+            assert status != 0 and not calls and "no-compiler no-linker" in told and "apt install" in told, (goal, told)
+        status, told, _ = copy.make("CC=no-compiler", "LD=no-linker")
+        assert status == 0 and told.splitlines()[-1].startswith("build/btcheck is ready: try"), told

@@ -95,6 +95,24 @@ def test_a_capture_becomes_a_record():
         assert (done.returncode, done.stdout) == replayed(record), done
 
 
+def holes(place, packets):
+    """What the page's recipe for lost packets prints of a capture of these."""
+    need("tcpdump")
+    write(f"{place}/capture.pcap", capture(packets))
+    steps = "\n".join(recipe("tcpdump -nr", "sed -n", "print \"lost"))
+    return subprocess.run(["sh", "-ec", steps], cwd=place, stdout=subprocess.PIPE, check=True, text=True, timeout=60).stdout
+
+
+def test_lost_packets_are_found():
+    """Each hole, at the start, in the middle and over several packets; not what came twice, or late, or from the other side."""
+    came = list(segments(PEER, OURS, (1 << 32) - 300, HANDSHAKE + bytes(5000), 100))
+    went = list(segments(OURS, PEER, 7, HANDSHAKE, 1400))
+    with folder() as place:
+        assert holes(place, [*went, *came[:9], came[10], came[9], came[3], *came[11:]]) == ""
+        lost = [came[0], *came[2:20], *came[21:30], *came[33:], *went[:1]]
+        assert holes(place, lost) == "lost: bytes 1 to 100\nlost: bytes 1901 to 2000\nlost: bytes 2901 to 3200\n"
+
+
 def test_packets_that_the_capture_lost():
     """They stand as zeros, and the end is missing."""
     wanted = messages.piece(0, 0, bytes([1]) * 16384) + messages.piece(0, 0, b"abc") + messages.frame(b"\x05" + bytes(200))

@@ -320,7 +320,7 @@ def sha1(content):
 
 
 def hybrid_of(first, second, piece_length, tail):
-    """A hybrid of two files, `a` and `c`, of one piece each, and so many zeros behind them (BEP 47)."""
+    """A hybrid of two files, `a` and `c`, of one piece each, and `tail` zeros behind them (BEP 47)."""
     pad = piece_length - len(first)
     stream = first + bytes(pad) + second + bytes(tail)
     cuts = [stream[i:i + piece_length] for i in range(0, len(stream), piece_length)]

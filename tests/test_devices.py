@@ -7,7 +7,7 @@ import subprocess
 import messages
 import record_model
 from session_model import Session
-from shim import shimmed
+from shim import has_c_library_inside, shimmed
 from support import BTCHECK, expect, folder, run, write, written
 from torrents import ABC, TWO, hybrid, torrent, torrent_of
 from trees import Tree, root_line
@@ -44,6 +44,7 @@ class World:
         self.commands = {
             "root": (["root", self.long], 0), "show": (["show", self.pair], 0),
             "check": (["check", self.pair, self.folder], 0), "part": (["check", self.pair, self.folder, "--part", "1/1"], 0),
+            "part of bad pieces": (["check", self.pair, self.folder, "--part", "1/1", "--bad"], 0),
             "join": (["join", self.pair, f"{place}/report"], 0), "replay": (["replay", self.abc, self.record], 1),
             "seeded": (["replay", self.pair, self.talk, "--seed", self.folder, "--answers", self.answers], 1),
         }
@@ -309,12 +310,12 @@ def test_a_record_that_changes_while_it_is_converted():
     """What goes out is the conversion of some record that it was, or of its whole frames if that is cut."""
     hashes = messages.hashes(ASKS[0][0], 0, 0, 256, 0, given=[bytes(32)] * 256)
     frames = [*FRAMES, *[hashes, messages.piece(0, 0, TWO)] * 6]
-    whole = b"".join(frames)
+    whole, part = b"".join(frames), 40960
     with shimmed() as (place, shim):
         record, out = f"{place}/record", f"{place}/out"
         cut, met = len(b"".join(frames[:9])), set()
-        for length in (0, 1, 8, cut, cut + 3, 65536, 65537, len(whole) - 1, len(whole) + 4, len(whole) + 3, len(whole) + 200000):
-            ends = [record_model.conversion(content, record) for content in contents_of(whole, length, 65536)]
+        for length in (0, 1, 8, cut, cut + 3, part, part + 1, len(whole) - 1, len(whole) + 4, len(whole) + 3, len(whole) + 200000):
+            ends = [record_model.conversion(content, record) for content in contents_of(whole, length, part)]
             for at in range(1, shim.run("read", 0, "convert", write(record, whole), out)[0] + 1):
                 write(record, whole)
                 done = shim.run("read", at, "convert", record, out, change=(record, length), out=out)[1]
@@ -409,6 +410,18 @@ def test_standard_input_that_is_closed():
         for command in world.commands:
             arguments, ample = world.ample(command)
             assert outcome(run(*arguments, stdin=None, preexec_fn=lambda: os.close(0))) == ample, command
+
+
+def test_no_descriptor_is_left():
+    """With the standard streams alone, the fault names the file that could not be opened. A program with the C library
+    apart does not start then."""
+    if not has_c_library_inside(BTCHECK):
+        return
+    with folder() as place:
+        path = write(f"{place}/abc", ABC)
+        for command in ("root", "show"):
+            done = run("-c", 'ulimit -n 3 && exec "$@"', "sh", BTCHECK, command, path, program="sh")
+            expect(done, 2, b"", f"fault: cannot read {path}\n")
 
 
 def test_closed_streams_keep_their_places():

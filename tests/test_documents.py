@@ -7,6 +7,7 @@ import subprocess
 
 import contracts
 import definitions
+import promised as promises
 from support import BTCHECK, TOP, folder
 from test_fuzz import CASES
 
@@ -35,10 +36,49 @@ def test_the_examples_of_the_readme():
             assert done.stdout == printed, (command, done.stdout)
 
 
-def test_the_readme_counts_hostile_input():
-    text = " ".join(contracts.text_of(TOP, "README.md").split())
-    conversions = CASES["conversion"]
-    assert f"{sum(CASES.values()) - conversions - CASES['join']:,} hostile torrents, folders and records and {conversions} conversions" in text
+def test_the_page_on_tests_counts_hostile_input():
+    text = " ".join(contracts.text_of(TOP, "docs", "TESTING.md").split())
+    inputs = sum(CASES[kind] for kind in ("torrent", "folder", "record"))
+    assert f"{inputs:,} torrents, folders and records, {CASES['conversion']} conversions and {CASES['join']} joins" in text
+
+
+def test_the_readme_has_figures_of_the_page_on_speed():
+    """Each row of README's table of figures is one of SPEED's, and README too says that processors without instructions for
+    SHA were measured."""
+    readme, speed = (contracts.text_of(TOP, *path) for path in (("README.md",), ("docs", "SPEED.md")))
+    table = readme.split("\n## Speed\n")[1].split("\n## ")[0]
+    rows = re.findall(r"^\| (?!What).*\d.* \|$", table, re.M)
+    assert len(rows) >= 3 and all(f"{row}\n" in speed for row in rows), rows
+    assert all(re.search(r"without\s+instructions\s+for\s+SHA", text) for text in (table, speed))
+
+
+def count_of(pattern, *paths):
+    """How often a pattern begins a line of these files."""
+    return sum(len(re.findall(pattern, contracts.text_of(path), re.M)) for one in paths for path in glob.glob(f"{TOP}/{one}", recursive=True))
+
+
+def test_the_page_on_tests_counts_tests():
+    """Its numbers are no larger than those of the tree, and no smaller than two thirds of them."""
+    text = " ".join(contracts.text_of(TOP, "docs", "TESTING.md").split())
+    told = [int(number) for number in re.search(r"over (\d+) wrong bodies, over (\d+) tests in Python, over (\d+) in Rattle, and "
+                                                r"over (\d+) in Rust and Go", text).groups()]
+    there = [len(glob.glob(f"{TOP}/crates/*/must-fail/*.edit")), count_of(r"^def test_", "tests/test_*.py"),
+             count_of(r"^ *#\[test\]", "crates/*/src/**/*.rt"),
+             count_of(r"^ *#\[test\]", "bindings/rust/*/tests/*.rs") + count_of(r"^func Test", "bindings/go/*_test.go")]
+    assert all(number <= real <= number * 3 / 2 for number, real in zip(told, there)), (told, there)
+
+
+def test_the_readme_is_short():
+    assert len(contracts.text_of(TOP, "README.md").encode()) <= 12_000
+
+
+def test_what_is_promised_is_there():
+    """tests/promised.txt has all that STABILITY.md promises and that can be counted, and nothing that is gone."""
+    now, listed = promises.found(), promises.listed()
+    assert len(now) > 350, len(now)
+    for kind in ("command ", "option ", "line, ", "status ", "object ", "key ", "call ", "number ", "struct ", "record ", "direction "):
+        assert sum(line.startswith(kind) for line in now) >= 1, kind
+    assert sorted(listed) == sorted(now), ("run tests/promised.py --write", {*now} ^ {*listed})
 
 
 def test_every_cited_definition_is_explained():
@@ -48,7 +88,7 @@ def test_every_cited_definition_is_explained():
 
 
 def promised(text, count):
-    """The rows of a table of so many columns, the last of words: the names of the calls, and the labels of their
+    """The rows of a table of `count` columns, the last of words: the names of the calls, and the labels of their
     clauses."""
     calls = []
     for line in text.split("\n"):
@@ -91,16 +131,39 @@ def test_every_clause_is_listed():
 
 def documents():
     """The documents, each with its text."""
-    for name in ["README.md", "CONTRIBUTING.md", "CHANGELOG.md", *(f"docs/{name}" for name in os.listdir(f"{TOP}/docs"))]:
+    pages = [f"{place}/README.md" for place in ("bindings", "bindings/python", "bindings/rust", "bindings/go", "examples/keep")]
+    for name in ["README.md", "CONTRIBUTING.md", "CHANGELOG.md", "SECURITY.md", *(f"docs/{name}" for name in os.listdir(f"{TOP}/docs")), *pages]:
         yield name, contracts.text_of(TOP, name)
 
 
+def anchors(text):
+    """The names by which links reach the headings of a document."""
+    heads = re.findall(r"^#+ (.*)$", text, re.M)
+    return {re.sub(r"[^\w -]", "", head).lower().replace(" ", "-") for head in heads}
+
+
 def test_files_that_are_named_exist():
+    found = 0
     for name, text in documents():
-        for path in re.findall(r"`((?:crates|docs|tests|tools|bench|examples|man|completions|\.ci)/[\w./*-]*\w)`", text):
+        for path in re.findall(r"`((?:crates|docs|tests|tools|bench|bindings|examples|man|completions|\.ci)/[\w./*-]*\w)`", text):
+            found += 1
             assert "CRATE" in path or "COMMAND" in path or glob.glob(f"{TOP}/{path}"), (name, path)
-        for path in re.findall(r"\]\(([\w./-]+)\)", text):
-            assert os.path.exists(os.path.join(TOP, os.path.dirname(name), path)), (name, path)
+        for path, anchor in re.findall(r"\]\(([\w./-]*)(?:#([\w-]+))?\)", text):
+            to = os.path.join(TOP, os.path.dirname(name), path) if path else os.path.join(TOP, name)
+            found += 1
+            assert os.path.exists(to), (name, path)
+            assert not anchor or anchor in anchors(contracts.text_of(to)), (name, path, anchor)
+    assert found > 150, found
+
+
+def test_what_make_is_asked_for_is_there():
+    """Each goal of `make` that a document names is one of the Makefile's."""
+    rules = contracts.text_of(TOP, "Makefile") + contracts.text_of(TOP, "library.mk")
+    goals = set(" ".join(re.findall(r"^\.PHONY: (.*)$", rules, re.M)).split())
+    found = {(name, goal) for name, text in documents() for line in re.findall(r"`make [^`]*`|^    make .*$", text, re.M)
+             for goal in re.findall(r"\bmake (?:[A-Z]+=\S+ )*([a-z-]+)", line.split("#")[0])}
+    assert len(found) > 20, found
+    assert {goal for _, goal in found} <= goals, [it for it in found if it[1] not in goals]
 
 
 def test_no_path_of_a_machine():
@@ -111,6 +174,14 @@ def test_no_path_of_a_machine():
 def test_no_marks_of_a_merge():
     for name, text in documents():
         assert not re.search(r"^(?:<{7}|>{7}|={7}$)", text, re.M), name
+
+
+def test_no_number_that_is_not_there():
+    """What is written by hand says which number it means, where "so many" would leave the reader to guess."""
+    texts = [text.split(definitions.MARK)[0] for _, text in documents()]
+    texts += [contracts.text_of(path) for kind in ("tests/*.py", "bench/*", "tools/*", "man/*") for path in glob.glob(f"{TOP}/{kind}")
+              if os.path.isfile(path) and path != os.path.abspath(__file__)]
+    assert not [found for text in texts for found in re.findall(r".*\bso many\b.*", text)]
 
 
 def test_no_line_is_too_wide():
@@ -126,6 +197,16 @@ def test_no_line_is_too_wide():
                 if len(line) > most and not is_free:
                     wide.append((path, number))
     assert not wide, wide
+
+
+def test_only_one_file_lets_boxes_go():
+    """No code lets go of what it owns without its drop, which no proof would see, but `loose.rt`: it takes a box apart
+    to put it into a handle of C."""
+    found = []
+    for path in glob.glob(f"{TOP}/crates/*/src/**/*.rt", recursive=True):
+        if re.search(r"\b(?:forget|leak|ManuallyDrop|into_raw\w*)\b", re.sub(r"//.*", "", contracts.text_of(path))):
+            found.append(os.path.relpath(path, TOP))
+    assert found == ["crates/btcheck_c/src/loose.rt"], found
 
 
 def test_no_file_of_proofs_is_too_long():
@@ -149,12 +230,12 @@ def test_proofs_in_specs_are_listed():
 
 
 def test_each_crate_stands_above_those_it_depends_on():
-    """In the picture of ARCHITECTURE.md no crate stands below one that depends on it."""
-    picture = re.findall(r"^    (\w+)(?: *= ([\w, ]+?))?  +\S", contracts.text_of(TOP, "docs", "ARCHITECTURE.md").split("\n\n")[2], re.M)
-    rows = [{name, *re.findall(r"\w+", parts)} for name, parts in picture]
-    assert len(rows) > 20, rows
+    """ARCHITECTURE.md lists each crate once, and none below one that depends on it, but for those of the last table, which no
+    other crate depends on."""
+    tables = contracts.text_of(TOP, "docs", "ARCHITECTURE.md").split("A crate's folder:")[0].split("\n\n|")[1:]
+    *tables, on_top = [re.findall(r"^\| `(\w+)` \|", table, re.M) for table in tables]
+    rows = [*on_top, *(name for table in tables for name in table)]
     depends = {name: below.split() for name, below in re.findall(r"^(\w+):(.*)$", contracts.text_of(TOP, "crates.txt"), re.M)}
-    for number, row in enumerate(rows):
-        above = set().union(*rows[:number])
-        wrong = [(name, below) for name in row for below in depends[name] if below in above - row]
-        assert not wrong, wrong
+    assert sorted(rows) == sorted(depends), (set(rows) ^ set(depends), [name for name in rows if rows.count(name) > 1])
+    wrong = [(name, below) for number, name in enumerate(rows) for below in depends[name] if below in rows[:number]]
+    assert not wrong, wrong

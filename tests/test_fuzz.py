@@ -22,7 +22,7 @@ TEXTS = ["keep-alive", "stored", "verified", "answered", "rejected", "reject", "
 # Of a folder.
 VERDICTS = ["good", "missing", "unreadable", "wrong", "bad", "v1 good", "v1 bad", "v1 not", "yes", "no"]
 
-# At least so many cases a minute of one processor's time; there are some thousand.
+# Cases a minute of one processor's time, at least; there are some thousand.
 RATE = 1000
 
 

@@ -99,7 +99,7 @@ VERDICTS = re.compile("good |missing |wrong length |bad [0-9]+ ")
 
 
 def is_report_with_unreadable(seen, ample, most):
-    """The report is the ample one but for at most so many files that could not be opened."""
+    """The report is the ample one but for at most `most` files that could not be opened."""
     lines, whole = seen.decode().splitlines(), ample.decode().splitlines()
     files = [line for line in whole if VERDICTS.match(line)]
     changed = 0
@@ -140,15 +140,16 @@ def test_check_of_bad_pieces():
         path = write(f"{place}/torrent", torrent(hybrid()))
         write(f"{below}/a", TWO[:-1] + b"x")
         write(f"{below}/c", b"ab")
-        ample = None
-        for called, done in refused_in_turn(shim, "check --bad", "check", path, below, "--bad"):
-            ample = ample or done.stdout
-            if done.returncode == 2 and done.stderr == f"fault: cannot read {below}\n".encode():
-                assert ample.startswith(done.stdout) and called != "ample", (called, outcome(done))
-            elif outcome(done) != NO_MEMORY:
-                runs = [line for line in ample.splitlines(True) if line.startswith(b"bad pieces ")]
-                assert len(runs) == 2 and done.returncode == 1 and not done.stderr, (called, outcome(done))
-                assert done.stdout == ample or b"unreadable " in done.stdout, (called, outcome(done))
+        for more in ([], ["--part", "1/1"]):
+            ample = None
+            for called, done in refused_in_turn(shim, " ".join(["check --bad", *more]), "check", path, below, "--bad", *more):
+                ample = ample or done.stdout
+                if done.returncode == 2 and done.stderr == f"fault: cannot read {below}\n".encode():
+                    assert ample.startswith(done.stdout) and called != "ample", (called, outcome(done))
+                elif outcome(done) != NO_MEMORY:
+                    runs = [line for line in ample.splitlines(True) if line.startswith(b"bad pieces ")]
+                    assert len(runs) == 2 and done.returncode == 1 and not done.stderr, (called, outcome(done))
+                    assert done.stdout == ample or b"unreadable " in done.stdout, (called, outcome(done))
 
 
 def whole_of(text):

@@ -7,6 +7,7 @@ import re
 import messages
 from poison import WRONG_SIZES
 from support import expect, folder, run, write
+from test_pieces import record_of, torrent_of_record
 from torrents import ABC, hybrid, torrent, torrent_of
 from trees import BLOCK, Tree, blocks_of, root_of
 
@@ -17,11 +18,14 @@ REFUSED = [r"refused (?P<number>\d+) (?P<name>\w+)", r"refused (?P<number>\d+) (
 LINES = {
     "root": [*REFUSED, r"(?P<length>\d+) -", r"(?P<length>\d+) (?P<root>[0-9a-f]{64})"],
     "show": [*REFUSED, r"name: (?P<name>.*)", r"piece length: (?P<bytes>\d+)", r"info hash v[12]: (?P<hash>[0-9a-f]+)",
-             r"files: (?P<count>\d+)", r"(?P<length>\d+) - (?P<path>.*)", r"(?P<length>\d+) (?P<root>[0-9a-f]{64}) (?P<path>.*)"],
-    "check": [*REFUSED, r"(?:good|missing|unreadable|wrong length) (?P<path>.*)", r"bad (?P<piece>\d+) (?P<path>.*)", r"v1 good|v1 not checked",
+             r"files: (?P<count>\d+)", r"(?P<length>\d+) - (?P<path>.*)", r"(?P<length>\d+) (?P<root>[0-9a-f]{64}) (?P<path>.*)",
+             r"total: (?P<bytes>\d+) (?P<size>.*)", r"pieces: (?P<count>\d+) of (?P<size>.*)", r"layers: (?P<count>\d+)"],
+    "check": [*REFUSED, r"(?:extra|good|missing|unreadable|wrong length) (?P<path>.*)", r"bad (?P<piece>\d+) (?P<path>.*)", r"v1 good|v1 not checked",
               r"bad pieces (?P<first>\d+) (?P<last>\d+) bytes (?P<from>\d+)-(?P<to>\d+)",
               r"v1 bad (?P<piece>\d+)", r"yes|no"],
     "replay": [*REFUSED, r"(?P<frame>\d+) stored (?P<count>\d+)", r"(?P<frame>\d+) verified (?P<file>\d+) (?P<block>\d+)",
+               r"(?P<frame>\d+) held (?P<file>\d+) (?P<block>\d+)", r"held (?P<count>\d+)",
+               r"(?P<frame>\d+) (?:proved|false|dropped) (?P<file>\d+) (?P<first>\d+) (?P<last>\d+)",
                r"(?P<frame>\d+) refused (?P<code>[HP]\d) (?P<name>\w+)(?: (?P<file>\d+) (?P<block>\d+))?",
                r"(?P<frame>\d+) (?:answered|rejected|reject noted|keep-alive|sent request|sent)", r"(?P<frame>\d+) skipped (?P<id>\d+)",
                r"(?P<frame>\d+) bad frame (?P<id>\d+) (?P<length>\d+)", r"(?:not )?seeded (?P<path>.*)", r"fault (?P<name>\w+)", r"end"],
@@ -79,11 +83,13 @@ def test_show_and_check():
         contents = [(name, random.Random(name).randbytes(1000 * at)) for at, name in enumerate(sorted(NAMES))]
         path = write(f"{place}/t", torrent_of(contents, 16384))
         agree(0, "show", path)
+        assert {"total", "pieces", "layers"} <= agree(0, "show", path, "--long")
         agree(0, "show", write(f"{place}/h", torrent(hybrid())))
         for name, content in contents:
             os.makedirs(os.path.dirname(f"{place}/all/{name}"), exist_ok=True)
             write(f"{place}/all/{name}", content)
         assert agree(0, "check", path, f"{place}/all") == {"good", "yes"}
+        assert agree(1, "check", path, place, "--extra") == {"extra", "missing", "no"}
         write(f"{place}/all/{NAMES[2]}", b"other")
         os.remove(f"{place}/all/{NAMES[3]}")
         content = dict(contents)[NAMES[4]]
@@ -96,6 +102,18 @@ def test_show_and_check():
         for text in (b"abc", b"", b"d4:info", b"de", b"d4:info0:e", b"d4:infod9:file treed1:a0:eee", ABC + b" "):
             for command in (["show", write(f"{place}/w", text)], ["check", f"{place}/w", place]):
                 assert agree(1, *command) == {"refused"}, text
+
+
+def test_replay_that_holds():
+    """A record in which held blocks are proved, one in which they are false, and one that ends before their piece."""
+    kinds = set()
+    with folder() as place:
+        for name in ("v2-64k-magnet", "v2-64k-turned1-1-file-1", "v2-64k-two-1"):
+            torrent_file, with_layers = torrent_of_record(name)
+            words = [write(f"{place}/t", torrent_file), write(f"{place}/r", record_of(name)), "--pieces", "--padded"]
+            words += [] if with_layers else ["--info-only"]
+            kinds |= agree(run("replay", *words).returncode, "replay", *words)
+    assert {"held", "proved", "false", "end"} <= kinds, kinds
 
 
 def test_replay():

@@ -11,14 +11,15 @@ import subprocess
 import sys
 
 import messages
-from support import TOP, LeftOut, folder, need, run, write
+from support import INCLUDES, TOP, LeftOut, folder, need, run, write
 from torrents import bencoded, file, info, torrent, torrent_of
 from trees import BLOCK, Tree, blocks_of, layer, root_of
 
 LIB = f"{TOP}/build/lib"
-HEADER = f"{TOP}/include/btcheck.h"
+V3 = f"{LIB}/glibc-hwcaps/x86-64-v3"
+HEADER = f"{TOP}/bindings/c/btcheck.h"
 SOURCES = f"{TOP}/tests/library"
-PROGRAMS = ["handles", "refused_memory", "replay", "threads"]
+PROGRAMS = ["each_call", "handles", "refused_memory", "replay", "threads"]
 WARNINGS = ["-Wall", "-Wextra", "-pedantic", "-Werror"]
 OF_MEMORY = ["-Wl,--wrap=malloc,--wrap=realloc"]
 
@@ -46,8 +47,8 @@ def compiled(place, name, *flags, compiler="gcc", standard="c99", library=None):
     """A program of tests/library."""
     made()
     program = f"{place}/{name}-{standard}"
-    more = {"refused_memory": OF_MEMORY, "threads": ["-pthread"]}.get(name, [])
-    subprocess.run([compiler, f"-std={standard}", *WARNINGS, *flags, "-I", f"{TOP}/include", "-x", "c++" if "++" in standard else "c",
+    more = {"refused_memory": OF_MEMORY, "threads": ["-pthread"], "each_call": ["-pthread"]}.get(name, [])
+    subprocess.run([compiler, f"-std={standard}", *WARNINGS, *flags, *INCLUDES, "-x", "c++" if "++" in standard else "c",
                     f"{SOURCES}/{name}.c", "-x", "none", library or f"{LIB}/libbtcheck.a", *more, "-o", program], check=True)
     return program
 
@@ -55,7 +56,7 @@ def compiled(place, name, *flags, compiler="gcc", standard="c99", library=None):
 def arguments(place):
     """What each program but `replay` is run on."""
     torrent = write(f"{place}/t.torrent", TORRENT)
-    return {"handles": [torrent], "refused_memory": [torrent, write(f"{place}/hashes", ROOT + b"".join(LEAVES))],
+    return {"handles": [torrent], "each_call": ["0", write(f"{place}/content", CONTENT), torrent], "refused_memory": [torrent, write(f"{place}/hashes", ROOT + b"".join(LEAVES))],
             "threads": [torrent, write(f"{place}/content", CONTENT)]}
 
 
@@ -77,14 +78,49 @@ def test_the_header_compiles_everywhere():
 
 
 def test_symbols():
-    """Both objects define exactly the calls of the header, and need the C library alone."""
+    """All objects define exactly the calls of the header, and need the C library alone."""
     made()
-    for path, flags in ((f"{LIB}/libbtcheck.so.0", ["-D"]), (f"{LIB}/libbtcheck.a", ["-g"])):
+    for path, flags in ((f"{place}/{name}", flags) for place in (LIB, V3) for name, flags in (("libbtcheck.so.0", ["-D"]), ("libbtcheck.a", ["-g"]))):
         printed = subprocess.run(["nm", *flags, "--defined-only", path], check=True, stdout=subprocess.PIPE, text=True).stdout
         names = set(re.findall(r"^[0-9a-f]+ \w (\w+)$", printed, re.M))
         assert names == declared(), (path, names ^ declared())
-    printed = subprocess.run(["readelf", "-d", f"{LIB}/libbtcheck.so.0"], check=True, stdout=subprocess.PIPE, text=True).stdout
-    assert re.findall(r"NEEDED.*\[(.*)\]", printed) == ["libc.so.6"] and "SONAME" in printed, printed
+    for place in (LIB, V3):
+        printed = subprocess.run(["readelf", "-d", f"{place}/libbtcheck.so.0"], check=True, stdout=subprocess.PIPE, text=True).stdout
+        assert re.findall(r"NEEDED.*\[(.*)\]", printed) == ["libc.so.6"] and "SONAME" in printed, printed
+
+
+ROOTS = """
+import btcheck, random
+source = random.Random(9)
+for size in (1, 16383, 16384, 16385, 131072, 300000, 1048577):
+    content = source.randbytes(size)
+    for part in (1000, 16384, 131072, 1048576):
+        with btcheck.Root() as root:
+            for at in range(0, size, part):
+                root.push(content[at:at + part])
+            print(size, root.finish()[1].hex())
+"""
+
+
+def test_an_object_for_each_processor():
+    """The loader picks the one for this processor, and the other one where it is told to. Both give the same roots."""
+    made()
+    need("python3")
+    if run(program=f"{TOP}/tools/processor", text=True).stdout.strip() != "x86-64-v3":
+        raise LeftOut("this processor has not all of x86-64-v3")
+    with folder() as place:
+        program = compiled(place, "handles", library=f"{LIB}/libbtcheck.so.0")
+        for mask, wanted in (("x86-64-v3", V3), ("x86-64-v2", LIB)):
+            done = run("--library-path", LIB, "--glibc-hwcaps-mask", mask, program, *arguments(place)["handles"],
+                       program="/lib64/ld-linux-x86-64.so.2", env={**os.environ, "LD_DEBUG": "libs"}, text=True)
+            assert (done.returncode, done.stdout) == (0, ""), done
+            assert f"calling init: {wanted}/libbtcheck.so.0" in done.stderr, done.stderr
+    told = [run("-c", ROOTS, program=sys.executable, check=True,
+                env={**os.environ, "PYTHONPATH": f"{TOP}/bindings/python", "LIBBTCHECK": f"{it}/libbtcheck.so.0"}).stdout for it in (LIB, V3)]
+    source, wanted = random.Random(9), []
+    for size in (1, 16383, 16384, 16385, 131072, 300000, 1048577):
+        wanted += 4 * [f"{size} {root_of(source.randbytes(size)).hex()}"]
+    assert told[0] == told[1] == "".join(f"{line}\n" for line in wanted).encode(), told
 
 
 def test_handles_and_memory_under_sanitizers():
@@ -103,13 +139,44 @@ def test_handles_move_between_threads():
         assert (done.returncode, done.stdout, done.stderr) == (0, b"", b""), done
 
 
+def test_a_call_needs_little_stack():
+    """Each call on a stack of 64 KiB: for a common torrent, for one with 122 folders in one another, for lists that are as deep,
+    and for one with many files."""
+    tree = file(SMALL)
+    for _ in range(122):
+        tree = {"d": tree}
+    deep = bencoded([]).replace(b"le", b"l" * 128 + b"e" * 128)
+    many = {f"f{number:05}": file(b"") for number in range(4096)} | {"x": file(SMALL)}
+    with folder() as place:
+        given = [write(f"{place}/{number}.torrent", content) for number, content in enumerate(
+            (TORRENT, torrent(info(tree)), b"d4:info" + deep + b"e", deep, torrent(info(many))))]
+        done = run(str(64 * 1024), write(f"{place}/content", CONTENT), *given, program=compiled(place, "each_call", "-O1"))
+        assert (done.returncode, done.stdout) == (0, b""), done
+
+
+def test_a_large_torrent():
+    """A torrent file above 100,000 bytes, and asks of 512 hashes and more, are no other than small ones."""
+    many = torrent(info({**{f"f{number:05}": file(b"") for number in range(4096)}, "x": file(SMALL)}))
+    assert len(many) > 100_000
+    with module().Session(many) as session:
+        assert (session.file_count(), session.tree_count()) == (4097, 1)
+    long = random.Random(11).randbytes(2000 * BLOCK)
+    tree, root = Tree.of(long), root_of(long)
+    with module().Session(torrent_of([("a", long)], BLOCK)) as session:
+        for length in (512, 1024, 2048):
+            ask = (root, 0, 0, length, 0)
+            assert outcome(session.note, ask) == (0, None)
+            assert outcome(session.answer, ask) == (0, tree.hashes(0, 0, length, 0)), length
+
+
 def test_handles_under_valgrind():
     need("valgrind")
     with folder() as place:
-        program = compiled(place, "handles", "-g")
-        done = run("-q", "--leak-check=full", "--errors-for-leak-kinds=all", "--error-exitcode=9", program,
-                   *arguments(place)["handles"], program="valgrind")
-        assert (done.returncode, done.stdout) == (0, b""), done
+        for name in ("handles", "each_call"):
+            program = compiled(place, name, "-g")
+            done = run("-q", "--leak-check=full", "--errors-for-leak-kinds=all", "--error-exitcode=9", program,
+                       *arguments(place)[name], program="valgrind")
+            assert (done.returncode, done.stdout) == (0, b""), (name, done)
 
 
 @functools.cache
@@ -117,7 +184,7 @@ def module():
     """The Python module over the library."""
     made()
     os.environ["LIBBTCHECK"] = f"{LIB}/libbtcheck.so.0"
-    sys.path.insert(0, f"{TOP}/python")
+    sys.path.insert(0, f"{TOP}/bindings/python")
     import btcheck
     return btcheck
 
@@ -201,7 +268,7 @@ def test_what_is_wanted():
         expected([
             ("no tree", outcome(session.want, 9, 0), (5, None)),
             ("no block", outcome(session.want, 0, len(BLOCKS)), (5, None)),
-            ("all leaves", outcome(session.want, 0, 5), (0, ask)),
+            ("all leaves", outcome(session.want, 0, 5), (0, module().Ask(*ask))),
             ("a leaf that is the root", outcome(session.want, 1, 0), (0, None)),
             ("not to be answered", outcome(session.can_answer, ask), (0, False)),
             ("of no tree", outcome(session.can_answer, (bytes(32), 0, 0, 8, 2)), (0, False)),
@@ -258,13 +325,107 @@ def test_checks_of_files():
     assert outcome(two.finish) == (0, None)
 
 
+def bits_of(content, whole, first, end, size=2 * BLOCK):
+    """Of each piece of a row whether it stands in the content whole, and is that of the whole file."""
+    return [content[n * size:(n + 1) * size] == whole[n * size:(n + 1) * size] for n in range(first, end)]
+
+
+def test_checks_of_pieces():
+    """Each row of pieces of a file, whole, cut at each edge and beside it, and with a bad byte in each piece: the first bad
+    piece, and a bit for each. A file of one piece is a row too."""
+    kinds = module()
+    rows = [(0, CONTENT, first, end) for first in range(3) for end in range(first + 1, 4)] + [(1, SMALL, 0, 1)]
+    dictionary = info({"a": file(CONTENT), "b": file(SMALL), "c": file(b"")}, 2 * BLOCK)
+    with kinds.Session(torrent(dictionary, {ROOT: layer(CONTENT, 2)})) as session:
+        for number, first, end, status in ((0, 1, 1, 5), (0, 2, 1, 5), (0, 0, 4, 5), (1, 0, 2, 5), (1, 1, 2, 5), (2, 0, 1, 4), (3, 0, 1, 5)):
+            assert outcome(kinds.Pieces, session, number, first, end)[0] == status, (number, first, end)
+        for number, content, first, end in rows:
+            at, to = first * 2 * BLOCK, min(end * 2 * BLOCK, len(content))
+            for turned in (None, at, (at + to) // 2, to - 1):
+                read = bytearray(content)
+                if turned is not None:
+                    read[turned] ^= 1
+                for stop in {to, to - 1, at, at + 1, *(n for n in range(at + 2 * BLOCK, to, 2 * BLOCK)), *(n + 1 for n in range(at + 2 * BLOCK, to, 2 * BLOCK))}:
+                    if not at <= stop <= to:
+                        continue
+                    for size in (1 << 20, 1000 if stop < 3 * BLOCK else BLOCK):
+                        with kinds.Pieces(session, number, first, end) as check:
+                            for part in range(at, stop, size):
+                                check.push(bytes(read[part:min(part + size, stop)]))
+                            good = bits_of(bytes(read[:stop]), content, first, end)
+                            bad = next((first + n for n, is_good in enumerate(good) if not is_good), None)
+                            wanted = (0, bad) if stop == to else (9, None)
+                            assert outcome(check.finish) == wanted, (number, first, end, stop, turned)
+                            assert check.good() == good, (number, first, end, stop, turned, check.good(), good)
+
+
+def test_bitmaps():
+    """A bitmap that is too small or too large: bits that it has not are left out, and those past the last piece stay clear."""
+    kinds = module()
+    long = random.Random(10).randbytes(21 * BLOCK)
+    with kinds.Session(torrent_of([("a", long)], BLOCK)) as session:
+        for size, wanted in ((1, b"\xff"), (2, b"\xff\xff"), (3, b"\xff\xff\xf8"), (5, b"\xff\xff\xf8\0\0")):
+            with kinds.Check(session, 0) as check:
+                bits, piece = ctypes.create_string_buffer(size), ctypes.c_uint64(7)
+                for at in range(0, len(long), 5000):
+                    kinds._library.check_push_bits(check._handle, long[at:at + 5000], len(long[at:at + 5000]), bits, size)
+                assert outcome(kinds._library.check_push_bits, check._handle, b"a", 1, bits, size)[0] == 3
+                assert outcome(kinds._library.check_finish_bits, check._handle, piece, bits, size)[0] == 0
+                assert (bits.raw, piece.value) == (wanted, 7)
+
+
+def test_whole_pieces():
+    """The bytes of each piece, in any order, with the layers and without; each refusal; blocks are marked."""
+    pieces = [CONTENT[at:at + 2 * BLOCK] for at in range(0, len(CONTENT), 2 * BLOCK)]
+    with module().Session(TORRENT) as session:
+        expected([
+            ("no such piece", outcome(session.take_piece, 4, pieces[0]), (301, None)),
+            ("too short", outcome(session.take_piece, 0, pieces[0][1:]), (302, None)),
+            ("too long", outcome(session.take_piece, 0, pieces[0] + b"a"), (302, None)),
+            ("another piece", outcome(session.take_piece, 0, pieces[1]), (304, None)),
+            ("nothing changed", outcome(session.counts, 0), (0, (7, 0))),
+            ("the last one", outcome(session.take_piece, 2, pieces[2]), (0, (0, 4))),
+            ("the second", outcome(session.take_piece, 1, pieces[1]), (0, (0, 2))),
+            ("again", outcome(session.take_piece, 1, pieces[1]), (0, (0, 2))),
+            ("its blocks", outcome(session.take_block, 1, BLOCK, BLOCKS[3]), (0, (0, 3))),
+            ("marks", [outcome(session.is_marked, 0, block)[1] for block in range(6)], [False, False, True, True, True, True]),
+            ("the first", outcome(session.take_piece, 0, pieces[0]), (0, (0, 0))),
+            ("all", outcome(session.counts, 0)[1][1], 6),
+            ("a file of one piece", outcome(session.take_piece, 3, SMALL), (0, (1, 0))),
+        ])
+    with module().Session(TORRENT, layers=False) as session:
+        expected([
+            ("unproved", outcome(session.take_piece, 0, pieces[0]), (303, None)),
+            ("a file of one piece", outcome(session.take_piece, 3, SMALL), (0, (1, 0))),
+        ])
+
+
+def test_only_what_is_named_is_written():
+    """Of a room only the places of the hashes; of a verdict only what its kind names; and statuses past the count are no 0."""
+    kinds = module()
+    with kinds.Session(TORRENT) as session:
+        ask, count = kinds._library.laid_out((ROOT, 1, 0, 4, 0)), ctypes.c_uint64()
+        room = ctypes.create_string_buffer(b"?" * (6 * 32), 6 * 32)
+        assert outcome(kinds._library.session_answer, session._handle, ask, room, 6, count)[0] == 0
+        assert (count.value, room.raw) == (4, b"".join(TREE.layers[1]) + b"?" * 64)
+        for body, kind, kept in ((b"", 6, slice(4, None)), (bytes([4, 0]), 7, slice(8, None)),
+                                 (messages.request(ROOT, 1, 0, 4, 0)[4:], 3, slice(4, None)),
+                                 (messages.hashes(ROOT, 1, 0, 4, 0, given=TREE.layers[1])[4:], 1, slice(16, None))):
+            verdict = kinds._library.VerdictInfo.from_buffer_copy(b"?" * ctypes.sizeof(kinds._library.VerdictInfo))
+            kinds._library.session_frame(session._handle, body, len(body), verdict)
+            assert verdict.kind == kind and set(bytes(verdict)[kept]) == {ord("?")}, (kind, bytes(verdict))
+        blocks = kinds._library.BlocksInfo()
+        kinds._library.session_take_blocks(session._handle, 0, 0, BLOCKS[0], BLOCK, blocks)
+        assert list(blocks.statuses) == [303] + 16 * [5]
+
+
 def test_rooms():
     """A room that is too small is left alone; in one that is large enough only the front is written."""
     with module().Session(torrent(info({"ab": {"c": file(SMALL)}}))) as session:
         for size in range(8):
             room, length = ctypes.create_string_buffer(b"........", 8), ctypes.c_uint64()
             status = 0 if size >= 4 else 7
-            assert outcome(module()._path, session._handle, 0, room, size, length)[0] == status
+            assert outcome(module()._library.session_path, session._handle, 0, room, size, length)[0] == status
             assert (length.value, room.raw) == (4, b"ab/c...." if size >= 4 else b"........"), (size, room.raw)
 
 
@@ -324,7 +485,7 @@ def test_version():
 def test_refused_torrents():
     for wrong, status in ((b"abc", 102), (b"de", 103), (b"d4:infod12:meta versioni1eee", 105), (TORRENT[:-1], 102)):
         assert outcome(module().Session, wrong) == (status, None), wrong
-    assert issubclass(module().NotBencode, module().TorrentRefused)
+    assert issubclass(module().TorrentNotBencode, module().TorrentRefused)
 
 
 def a_record(draw):
@@ -358,13 +519,14 @@ def test_records():
     """The program in C prints what `btcheck replay` prints."""
     with folder() as place:
         program, torrent = compiled(place, "replay"), write(f"{place}/t.torrent", TORRENT)
-        lines = 0
-        for seed in range(int(os.environ.get("RECORDS", "30"))):
+        lines, records = 0, int(os.environ.get("RECORDS", "30"))
+        for seed in range(records):
             record = write(f"{place}/record", a_record(random.Random(seed)))
             for flags in ([], ["--info-only"]):
                 ours, theirs = run(*flags, torrent, record, program=program), run("replay", torrent, record, *flags)
                 assert (ours.returncode, ours.stdout) == (theirs.returncode, theirs.stdout), (seed, flags, ours, theirs)
                 lines += ours.stdout.count(b"\n")
+    assert lines > 50 * records, lines
     print(f"compared {lines} lines of the program in C with those of replay")
 
 

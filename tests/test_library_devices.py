@@ -4,15 +4,13 @@ byte a call. It prints how many calls of its devices each call makes, and `wrong
 promised: what went out is a prefix of the text, one fault is counted, and later calls answer as promised. It also prints
 `wrong` if at one byte a call there is a read more than one for each byte and one for the end, or a write of nothing."""
 import hashlib
-import os
 import re
 
 import messages
-from support import TOP, folder, run, write
+from support import device_tests, folder, run, write
 from torrents import TWO, entry, file, hybrid, info, pad, torrent
 from trees import Tree
 
-DEVICES = os.path.join(TOP, "build", "device_tests")
 COUNT = re.compile(r"(.+): (\d+) of (.+)")
 
 # The calls, with each device that they take.
@@ -21,7 +19,12 @@ CALLS = {
     ("flush_after", "the sink"), ("encode", "the sink"), ("write", "the sink"), ("root_line", "the sink"),
     ("show", "the sink"), ("refusal_line", "the sink"), ("fault_line", "the sink"), ("print_report", "the sink"),
     ("print_part", "the sink"), ("check_part", "the shelf"), ("check_part", "a file"),
+    ("check_part_with_bad_pieces", "the sink"), ("check_part_with_bad_pieces", "the shelf"),
+    ("check_part_with_bad_pieces", "a file"), ("print_marked_report", "the sink"),
     ("seed", "the sink"), ("replay", "the sink"), ("replay with answers", "the sink"), ("finish", "the sink"),
+    ("seed_onto", "the sink"), ("seed_onto", "the shelf"), ("seed_onto", "a file"), ("replay_onto", "the sink"),
+    ("replay_onto with answers", "the sink"), ("replay_pieces_onto", "the sink"), ("replay_onto", "the source"),
+    ("replay_pieces_onto", "the source"),
     ("convert", "the sink"), ("root_line", "the source"), ("take_all", "the source"),
     ("FrameReader::advance", "the source"), ("FrameReader::next", "the source"), ("RecordReader::advance", "the source"),
     ("RecordReader::next", "the source"), ("replay", "the source"), ("convert", "the source"), ("check", "the shelf"),
@@ -48,7 +51,7 @@ def test_each_call_of_each_device():
     for name, content, a, at_most in [("large", hybrid(), TWO, 4096), ("small", small_hybrid(b"a file", b"abc"), b"a file", 1)]:
         with folder() as place:
             done = run(write(f"{place}/torrent", torrent(content)), write(f"{place}/record", record_of(a)),
-                       write(f"{place}/a", a), write(f"{place}/c", b"abc"), str(at_most), program=DEVICES)
+                       write(f"{place}/a", a), write(f"{place}/c", b"abc"), str(at_most), program=device_tests())
         assert done.returncode == 0 and not done.stderr, (name, done)
         lines = [COUNT.fullmatch(line) for line in done.stdout.decode().splitlines()]
         assert all(lines), (name, done.stdout)

@@ -2,7 +2,6 @@
 again that failed for memory, and says if it left something behind; so it prints what it prints with ample memory."""
 import collections
 import json
-import os
 import re
 
 import messages
@@ -10,12 +9,11 @@ import record_model
 from record_model import FORM_2
 from session_model import Session
 from shim import shimmed
-from support import TOP, write
+from support import memory_tests, write
 from test_growths import fits
 from torrents import ABC, FIVE, LARGE, TWO, file, hybrid, info, layer, torrent, torrent_of
 from trees import Tree, blocks_of, root_of
 
-MEMORY_TESTS = os.path.join(TOP, "build", "memory_tests")
 CALL = re.compile(r"refused: (.*)")
 OF_RUN = re.compile(r"message (\d+) of run")
 BYTES = re.compile(rb"\[[\d, ]*\]")
@@ -25,7 +23,7 @@ DECODED = re.compile(rb"^decoded .*\n", re.M)
 def calls_refused(shim, name, *arguments, judge=None):
     """Refuses each growth in turn, compares what is printed, and counts the growths of each call. Each run that
     does not end early is judged too."""
-    runs = shim.each("growth", *arguments, program=MEMORY_TESTS)
+    runs = shim.each("growth", *arguments, program=memory_tests())
     ample = next(runs)
     assert ample.returncode == 0 and not ample.stderr, (name, ample)
     if judge:
@@ -50,7 +48,7 @@ def calls_refused(shim, name, *arguments, judge=None):
 
 
 def has_refusal_amid(counts, call, length):
-    """Memory was refused for a message of a run of so many that is neither the first nor the last."""
+    """Memory was refused for a message of a run of `length` messages that is neither the first nor the last."""
     numbers = [int(found[1]) for name in counts if (found := OF_RUN.match(name)) and name.endswith(f" of {call}")]
     return any(1 < number < length for number in numbers)
 
@@ -62,7 +60,7 @@ def printed(text):
 
 def test_decode_and_open():
     whole, layers = info({"five": file(FIVE)}, 32768), {root_of(FIVE): layer(FIVE, 2)}
-    with shimmed(MEMORY_TESTS) as (place, shim):
+    with shimmed(memory_tests()) as (place, shim):
         record = write(f"{place}/record", b"")
         for name, content in [("one file", ABC), ("a hybrid", torrent(hybrid())), ("a piece layer", torrent(whole, layers)),
                               ("a wrong layer", torrent(whole, {root: bytes(96) for root in layers}))]:
@@ -76,23 +74,23 @@ def test_faults_are_answered_without_memory():
     whichever growth is refused, and also if all are from some growth on."""
     texts = [b"li1ex", b"d1:bi1e1:ai1ee", ABC + b"x", ABC[:-1], b"l" * 129, b"d1:ali1ei2e1:be1:ci03ee",
              b"l" + 300 * b"i1e" + b"x", b"d" + b"".join(b"4:%04dle" % key for key in range(300)) + b"4:0000lee"]
-    with shimmed(MEMORY_TESTS) as (place, shim):
+    with shimmed(memory_tests()) as (place, shim):
         for text in texts:
             path = write(f"{place}/torrent", text)
             arguments = [path, path, "flat", "span"]
             name = f"{text[:20]!r} and {len(text)} bytes in all"
             counts = calls_refused(shim, name, *arguments)
             assert set(counts) <= {"of the test itself", "that may be missing"}, (name, counts)
-            count, ample = shim.run("growth", 0, *arguments, program=MEMORY_TESTS)
+            count, ample = shim.run("growth", 0, *arguments, program=memory_tests())
             for at in range(1, count + 1):
-                _, done = shim.run("growth", at, *arguments, onward=True, program=MEMORY_TESTS)
+                _, done = shim.run("growth", at, *arguments, onward=True, program=memory_tests())
                 assert done.stdout == (b"" if done.returncode else ample.stdout), (name, at, done)
 
 
 def test_calls_that_other_calls_make():
     """What a command reaches through another call, called alone."""
     report = b"good five\nbad 3 a\\x0a\\xff\nwrong length b\nmissing c\nv1 not checked\nodd line\nno"
-    with shimmed(MEMORY_TESTS) as (place, shim):
+    with shimmed(memory_tests()) as (place, shim):
         path = write(f"{place}/torrent", torrent_of([("five", FIVE)], 32768))
         five, lines = write(f"{place}/content", FIVE), write(f"{place}/report", report)
         for call, name, given in [("span", "decode_with_span", path), ("layer", "LayerBuilder", five),
@@ -118,7 +116,7 @@ def records():
 
 
 def test_sessions():
-    with shimmed(MEMORY_TESTS) as (place, shim):
+    with shimmed(memory_tests()) as (place, shim):
         for name, files, piece_length, frames in records():
             path = write(f"{place}/torrent", torrent_of(files, piece_length))
             record = write(f"{place}/record", b"".join(frames))
@@ -134,12 +132,23 @@ def test_sessions():
 def test_fill():
     tree = Tree.of(FIVE)
     whole = messages.hashes(tree.root, 0, 0, 8, 0, given=tree.hashes(0, 0, 8, 0)[:5])
-    with shimmed(MEMORY_TESTS) as (place, shim):
+    with shimmed(memory_tests()) as (place, shim):
         path = write(f"{place}/torrent", torrent_of([("five", FIVE)], 32768))
         record = write(f"{place}/record", whole)
         for map_name in ("flat", "paged"):
             counts = calls_refused(shim, f"fill over {map_name}", path, record, map_name, "fill")
             assert counts["fill"] > 0, counts
+
+
+def test_whole_pieces():
+    """A piece for which memory was refused leaves the session as it was; one that is known takes none."""
+    with shimmed(memory_tests()) as (place, shim):
+        for name, content, piece_length in [("five blocks", FIVE, 32768), ("64 blocks", LARGE[:1 << 20], 1 << 18)]:
+            path = write(f"{place}/torrent", torrent_of([("a", content)], piece_length))
+            whole = write(f"{place}/content", content)
+            for map_name in ("flat", "paged"):
+                counts = calls_refused(shim, f"pieces of {name} over {map_name}", path, whole, map_name, "pieces")
+                assert counts["new"] > 0 and counts["take_piece"] > 0, (name, map_name, counts)
 
 
 def test_noted_messages():
@@ -150,7 +159,7 @@ def test_noted_messages():
                for ask, of, uncles in zip(asks, [tree, other], [1, 0])]
     frames = [b"\1" + requests[0], b"\0" + answers[0], b"\0" + messages.piece(1, 0, blocks_of(FIVE)[0]), b"\1" + requests[1],
               b"\1" + requests[1], b"\0" + answers[1], b"\0" + answers[0], b"\1" + requests[0], b"\0" + requests[0]]
-    with shimmed(MEMORY_TESTS) as (place, shim):
+    with shimmed(memory_tests()) as (place, shim):
         path = write(f"{place}/torrent", torrent_of([("a", TWO), ("five", FIVE)], 32768))
         record = write(f"{place}/record", FORM_2 + b"".join(frames))
         for map_name in ("flat", "paged"):
@@ -183,13 +192,37 @@ def test_replay():
         assert answers == answers_of(session, record, lines if last == "end" else lines[:-1]), done
         seen["H7" if b"H7" in report else last] += 1
 
-    with shimmed(MEMORY_TESTS) as (place, shim):
+    with shimmed(memory_tests()) as (place, shim):
         path, record_path = write(f"{place}/torrent", torrent_of(files, piece_length)), write(f"{place}/record", record)
         for map_name in ("flat", "paged"):
             seen.clear()
             counts = calls_refused(shim, f"replay over {map_name}", path, record_path, map_name, "replay", judge=judge)
             assert counts["replay"] > 0 and counts["reserve of replay"] > 0, counts
             assert seen["H7"] > 0 and seen["fault NoMemory"] > 0, seen
+
+
+def test_replays_told_as_objects():
+    """The same of the replays whose lines are objects. Each line is one, and the last says how the record ended."""
+    seen = collections.Counter()
+
+    def judge(done):
+        report = printed(done.stderr if b"refused: replay" in done.stderr else done.stdout)[0]
+        lines = [json.loads(line) for line in report.decode().splitlines()]
+        seen.update(line["kind"] for line in lines)
+        assert lines[-1] in ({"kind": "end"}, {"kind": "fault", "name": "NoMemory"}), done
+        seen[lines[-1].get("name", "whole")] += 1
+
+    _, files, piece_length, frames = next(records())
+    with shimmed(memory_tests()) as (place, shim):
+        path = write(f"{place}/torrent", torrent_of(files, piece_length))
+        for call, record in [("replay_onto", frames), ("replay_pieces_onto", frames[1:3] + frames[:1] + frames[3:])]:
+            record_path = write(f"{place}/record", b"".join(record))
+            for map_name in ("flat", "paged"):
+                seen.clear()
+                counts = calls_refused(shim, f"{call} over {map_name}", path, record_path, map_name, call, judge=judge)
+                assert counts[call] > 0 and counts[f"reserve of {call}"] > 0, counts
+                assert seen["whole"] > 0 and seen["NoMemory"] > 0, seen
+                assert call == "replay_onto" or seen["held"] > 0 and seen["proved"] > 0, seen
 
 
 def test_drafts():
@@ -199,7 +232,7 @@ def test_drafts():
     def judge(done):
         assert printed(done.stdout) == [content], done
 
-    with shimmed(MEMORY_TESTS) as (place, shim):
+    with shimmed(memory_tests()) as (place, shim):
         path = write(f"{place}/torrent", content)
         for call in ("draft", "hybrid draft"):
             counts = calls_refused(shim, call, path, path, "paged", call, judge=judge if call == "draft" else None)
@@ -207,14 +240,15 @@ def test_drafts():
 
 
 def test_folders():
-    with shimmed(MEMORY_TESTS) as (place, shim):
+    with shimmed(memory_tests()) as (place, shim):
         path = write(f"{place}/torrent", torrent_of([("five", FIVE)], 32768))
         whole, bad = write(f"{place}/content", FIVE), write(f"{place}/bad", FIVE[:-1])
         for call, named in [("gather", {"gather"}), ("check", {"check"}), ("check_onto", {"check_onto"}),
                             ("check_with_bad_pieces", {"check_with_bad_pieces"}), ("parts", {"check_part", "join_reports"}),
-                            ("seed", {"new", "seed"})]:
-            for map_name in ("flat", "paged") if call == "seed" else ("paged",):
-                name = f"{call} over {map_name}" if call == "seed" else call
-                content = bad if call == "check_with_bad_pieces" else whole
+                            ("marked parts", {"check_part_with_bad_pieces", "join_marked_reports"}),
+                            ("seed", {"new", "seed"}), ("seed_onto", {"new", "seed_onto"})]:
+            for map_name in ("flat", "paged") if "seed" in call else ("paged",):
+                name = f"{call} over {map_name}" if "seed" in call else call
+                content = bad if call in ("check_with_bad_pieces", "marked parts") else whole
                 counts = calls_refused(shim, name, path, content, map_name, call)
                 assert all(counts[of] > 0 for of in named), (call, counts)

@@ -5,8 +5,7 @@ import subprocess
 
 import messages
 from session_model import Session
-from support import folder, write
-from test_maps import GROWTHS
+from support import folder, memory_tests, write
 from torrents import torrent_of
 from trees import BLOCK, Tree, blocks_of, sha256
 
@@ -21,7 +20,7 @@ def made(place, files, piece_length, frames, over, call):
     """The lines that the program prints of these messages, but the first, which is of the torrent."""
     path = write(f"{place}/torrent", torrent_of(files, piece_length))
     record = write(f"{place}/record", b"".join(frames))
-    done = subprocess.run([GROWTHS, path, record, over, call], stdout=subprocess.PIPE, timeout=600, check=True, text=True)
+    done = subprocess.run([memory_tests(), path, record, over, call], stdout=subprocess.PIPE, timeout=600, check=True, text=True)
     return done.stdout.splitlines()[1:]
 
 

@@ -31,13 +31,13 @@ class World:
         made_by_libtorrent([{"content": f"{place}/content/t", "torrent": self.torrent, "piece_length": piece_length,
                              "hybrid": hybrid}])
 
-    def record(self, info_only=True, lies=False):
-        """The record of its loading, whose loader is our side, and which of the frames that came in are lies. It is
-        tried three times, since a session may give a connection up."""
+    def record(self, info_only=True, lies=False, holders=1):
+        """The record of its loading from `holders` others, whose loader is our side, and which of the frames that came in are
+        lies. It is tried three times, since a session may give a connection up."""
         for number in range(3):
             os.makedirs(f"{self.place}/loaded{number}")
             order = {"content": f"{self.place}/content", "torrent": self.torrent, "loaded": f"{self.place}/loaded{number}",
-                     "info_only": info_only, "record": f"{self.place}/record", "lies": lies}
+                     "info_only": info_only, "record": f"{self.place}/record", "lies": lies, "holders": holders}
             done = subprocess.run([python_with_libtorrent(), f"{TOP}/tests/loopback.py"], input=json.dumps(order),
                                   stdout=subprocess.PIPE, stderr=subprocess.PIPE, text=True, timeout=300)
             if done.returncode == 0:
@@ -190,3 +190,18 @@ def test_a_liar_between_them():
             verdicts[line.rstrip("0123456789 ")] += 1
         assert lost == {"refused H6 Mismatch", "refused H8 Unasked"}, lost
         assert verdicts["verified"] > 100 and verdicts["refused P4 BadBlock"] > 5 and verdicts["refused P1 BadPlace"] > 5, verdicts
+
+
+def test_padded_blocks_are_verified():
+    """libtorrent asks for 16,384 bytes at each place, and sends as many, if fewer are left of the file too."""
+    for hybrid, lengths, holders in ((False, FILES, 1), (True, FILES, 1), (False, [("a", 150 * BLOCK + 5), ("b", 10)], 2)):
+        with folder() as place:
+            world = World(place, lengths, BLOCK, hybrid, 13)
+            record, _ = world.record(info_only=False, holders=holders)
+            whole = {f"verified {file} {block}" for file, (_, length) in enumerate(lengths)
+                     for block in range(-(-length // BLOCK))}
+            for flags, status, lost in ((["--padded"], 0, 0), ([], 1, sum(length % BLOCK > 0 for _, length in lengths))):
+                done = run("replay", world.torrent, write(f"{place}/replayed", record), *flags)
+                lines = [line.split(" ", 1)[-1] for line in done.stdout.decode().splitlines()]
+                assert done.returncode == status and len(whole - set(lines)) == lost, (done.returncode, whole - set(lines))
+                assert lines[-1] == "end" and not any(line.startswith(("refused H", "refused P4")) for line in lines), lines

@@ -1,13 +1,14 @@
 """The manual page and the completions name what the program's own help names, and what it prints; the examples of the
 manual run; all of it is installed."""
 import glob
+import hashlib
 import os
 import re
 import shutil
 import subprocess
 
 import torrents
-from support import BTCHECK, TOP, folder, need, run, write
+from support import BTCHECK, TOP, folder, need, python_with_libtorrent, run, write
 from trees import root_of
 
 MANUAL = f"{TOP}/man/btcheck.1"
@@ -47,7 +48,7 @@ def test_help_is_read():
     """The reading of the help above is not empty."""
     assert {"root", "show", "check", "create", "replay", "convert", "help"} <= set(Helped().commands)
     assert Helped("check").arguments == ["TORRENT", "DIR"]
-    assert Helped("replay").options == {"-h", "--help", "--info-only", "--seed", "--answers", "--json"}
+    assert Helped("replay").options == {"-h", "--help", "--info-only", "--seed", "-o", "--answers", "--padded", "--pieces", "-j", "--json", "--reasons"}
 
 
 def flags(text):
@@ -78,16 +79,17 @@ def test_manual_names_every_command_and_option():
 PRINTED = {
     "Output of root": ["LENGTH ROOT", "0 -", "refused 10 Length"],
     "Output of show": ["name: NAME", "piece length: K", "info hash v2: HEX", "info hash v1: HEX", "files: COUNT",
-                       "LENGTH ROOT PATH"],
-    "Output of check": ["good PATH", "missing PATH", "unreadable PATH", "wrong length PATH", "bad PIECE PATH",
+                       "LENGTH ROOT PATH", "total: BYTES SIZE", "pieces: COUNT of SIZE", "layers: COUNT"],
+    "Output of check": ["extra PATH", "good PATH", "missing PATH", "unreadable PATH", "wrong length PATH", "bad PIECE PATH",
                         "bad pieces FIRST LAST bytes FROM-TO", "v1 good",
                         "v1 bad PIECE", "v1 not checked", "yes", "no"],
-    "Output of a part of a check": ["part I/N HASH", "part yes", "part no"],
+    "Output of a part of a check": ["part I/N HASH", "part I/N HASH bad", "part yes", "part no"],
     "Output of create": ["refused 6 PieceLength", "refused NUMBER NAME PATH", "refused 13 NoFiles", "refused 1 TooLarge"],
     "Output of convert": ["refused 3 AlreadyForm2"],
     "Output of replay": ["seeded PATH", "not seeded PATH", "N verified FILE BLOCK", "N stored COUNT", "N refused NUMBER NAME",
                          "N refused NUMBER NAME FILE BLOCK", "N answered", "N rejected", "N reject noted", "N keep-alive",
-                         "N skipped ID", "N sent request", "N sent", "N bad frame ID LENGTH", "end", "fault Truncated",
+                         "N skipped ID", "N sent request", "N held FILE BLOCK", "N refused P5 NoMemory", "N proved FILE FIRST LAST", "N false FILE FIRST LAST",
+                         "N dropped FILE FIRST LAST", "held COUNT", "N sent", "N bad frame ID LENGTH", "end", "fault Truncated",
                          "fault BadDirection", "fault Read", "fault NoMemory"],
     "Faults on standard error": ["fault: cannot read PATH", "fault: cannot write PATH", "fault: name is not UTF-8",
                                  "fault: not a file or folder: PATH", "fault: record is truncated: PATH",
@@ -141,7 +143,7 @@ def names_of_refusals():
 def texts_of_the_definitions():
     """The texts of which the definitions put printed lines together."""
     for crate in ["printing", "folders", "seeding", "replays", "commands"]:
-        for path in glob.glob(f"{TOP}/crates/{crate}/**/*.antt", recursive=True) + glob.glob(f"{TOP}/crates/{crate}/src/*.rt"):
+        for path in glob.glob(f"{TOP}/crates/{crate}/specs/**/*.antt", recursive=True) + glob.glob(f"{TOP}/crates/{crate}/src/*.rt"):
             for text in re.findall(r'codes "((?:[^"\\]|\\.)*)"', text_of(path)):
                 yield from (piece.strip() for piece in text.split("\\n"))
 
@@ -153,7 +155,7 @@ def test_no_printed_line_is_forgotten():
     found = set(texts_of_the_definitions()) - NO_LINES
     assert len(found) >= 40, found
     for text in found:
-        assert text in lines or f"fault: {text}" in lines, text
+        assert {text, f"fault {text}", f"fault: {text}"} & lines, text
     refusals = [refusal for refusal in names_of_refusals() if refusal[1] not in NOT_PRINTED]
     assert len(refusals) >= 40, refusals
     for family, name, number in refusals:
@@ -183,6 +185,7 @@ EXAMPLES = [
     "      1 bad\n      1 good\n      1 missing\n      1 no\nbad 1 b\nmissing c d\nno\n",
     "other.torrent:40000 {root} film\nsome.torrent:40000 {root} a\n",
     "40000 {root}\n",
+    "info hash v2: {info}\n",
     "./old.torrent:refused 3 Missing meta version\n./web.torrent:refused 2 NotBencode BadStart 0\n",
     "torrents/bad.torrent\n",
 ]
@@ -222,13 +225,38 @@ def examples():
 def test_examples_of_the_manual():
     with folder() as place:
         root = root_of(example_folder(place)).hex()
+        with open(f"{place}/some.torrent", "rb") as file:
+            spelled = file.read().removeprefix(b"d4:info").split(b"12:piece layers")[0]
+            info = hashlib.sha256(spelled).hexdigest()
         found = list(examples())
         assert len(found) == len(EXAMPLES), found
         for typed, wanted in zip(found, EXAMPLES):
             done = subprocess.run(["bash", "-c", typed], cwd=place, capture_output=True, text=True,
                                   env={**os.environ, "HOME": place, "PATH": f"{place}/bin:{os.environ['PATH']}"})
             seen = "".join(sorted(done.stdout.splitlines(True))) if "find" in typed else done.stdout
-            assert (seen, done.stderr) == (wanted.format(root=root), ""), (typed, done)
+            assert (seen, done.stderr) == (wanted.format(root=root, info=info), ""), (typed, done)
+
+
+def test_a_tracker_of_the_manual():
+    """A torrent that `create` made and that got a tracker by the manual's lines is read by libtorrent, with the same info-hashes."""
+    python = python_with_libtorrent()
+    lines = next(text for text in examples() if "announce" in text)
+    read = ("import libtorrent as lt, sys\n"
+            "for path in sys.argv[1:]:\n"
+            "    it = lt.torrent_info(path); print(it.info_hashes().v2, it.info_hashes().v1, [each.url for each in it.trackers()])")
+    with folder() as place:
+        os.makedirs(f"{place}/bin")
+        os.symlink(BTCHECK, f"{place}/bin/btcheck")
+        os.mkdir(f"{place}/made")
+        write(f"{place}/made/a", bytes(100000))
+        for kind in ([], ["--hybrid"]):
+            done = run("create", "--name", "made", "--piece-length", "16384", *kind, f"{place}/made", f"{place}/some.torrent")
+            assert done.returncode == 0, done
+            subprocess.run(["bash", "-ec", lines], cwd=place, check=True, stdout=subprocess.DEVNULL,
+                           env={**os.environ, "PATH": f"{place}/bin:{os.environ['PATH']}"})
+            said = subprocess.run([python, "-c", read, "some.torrent", "announced"], cwd=place, check=True, stdout=subprocess.PIPE, text=True)
+            before, after = said.stdout.splitlines()
+            assert before.endswith(" []") and after == before.replace("[]", "['http://tracker.example/announce']"), said.stdout
 
 
 # Completes the last of its arguments, and prints what it can be.
@@ -254,7 +282,7 @@ FILES_FOR = {
 }
 
 # The options that take a value, and what it can be.
-VALUES = {"--seed": "DIR", "--answers": "RECORD"}
+VALUES = {"--seed": "DIR", "-o": "RECORD", "--answers": "RECORD"}
 
 
 def test_completion_by_bash():
@@ -314,7 +342,16 @@ INSTALLED = {
     "share/bash-completion/completions/btcheck": "completions/btcheck.bash",
     "share/zsh/site-functions/_btcheck": "completions/_btcheck",
     "share/fish/vendor_completions.d/btcheck.fish": "completions/btcheck.fish",
+    "bin/btcheck-many": "tools/btcheck-many",
+    "share/man/man1/btcheck-many.1": "man/btcheck-many.1",
+    "share/bash-completion/completions/btcheck-many": "completions/btcheck-many.bash",
+    "share/zsh/site-functions/_btcheck-many": "completions/_btcheck-many",
+    "share/fish/vendor_completions.d/btcheck-many.fish": "completions/btcheck-many.fish",
 }
+
+
+# What other builds leave among sources.
+OF_BUILDS = re.compile(r"(^|/)(target/|__pycache__/|Cargo\.lock$|\.)")
 
 
 def files_below(place):
@@ -323,9 +360,9 @@ def files_below(place):
 
 def installed():
     """What `make install` puts there: documents, examples and the relay as they lie here."""
-    documents = ["README.md", "CHANGELOG.md", "LICENSE-MIT", "LICENSE-APACHE", "tools/record"]
-    for kind in ("docs", "examples"):
-        documents += [f"{kind}/{name}" for name in files_below(f"{TOP}/{kind}")]
+    documents = ["README.md", "CHANGELOG.md", "CONTRIBUTING.md", "SECURITY.md", "LICENSE-MIT", "LICENSE-APACHE", "tools/record"]
+    for kind in ("docs", "examples", "bindings"):
+        documents += [f"{kind}/{name}" for name in files_below(f"{TOP}/{kind}") if not OF_BUILDS.search(name)]
     return INSTALLED | {f"share/doc/btcheck/{name}": name for name in documents}
 
 
@@ -341,7 +378,10 @@ def test_install_and_uninstall():
         for there, here in installed().items():
             with open(f"{below}/{there}", "rb") as one, open(f"{TOP}/{here}", "rb") as other:
                 assert one.read() == other.read(), there
-            assert os.access(f"{below}/{there}", os.X_OK) == (here in ("build/btcheck", "tools/record")), there
+            assert os.access(f"{below}/{there}", os.X_OK) == (here in ("build/btcheck", "tools/record", "tools/btcheck-many")), there
+        for page in glob.glob(f"{below}/share/doc/btcheck/**/*.md", recursive=True):
+            for link in re.findall(r"\]\(([\w./-]+)(?:#[\w-]+)?\)", text_of(page)):
+                assert os.path.exists(os.path.join(os.path.dirname(page), link)), (page, link)
         write(f"{below}/share/man/man1/other.1", b"")
         make("uninstall")
         assert files_below(below) == {"share/man/man1/other.1"}, files_below(below)

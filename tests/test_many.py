@@ -16,11 +16,13 @@ from support import BTCHECK, TOP, folder, need, write, written
 GOOD = 17
 NOT_GOOD = {
     "changed": ["bad 0 changed", "no"],
+    "barred": ["unreadable barred", "no"],
     "lost": ["missing lost", "no"],
     "short": ["wrong length short", "no"],
     "version 1": ["refused 3 Missing meta version"],
 }
-FAULTS = {"gone": "fault: cannot read torrents/gone.torrent"}
+FAULTS = {"gone": ["fault: cannot read torrents/gone.torrent", "reason: no such file or folder"]}
+REASONS = {"barred": ["reason: content/barred/barred: it is no regular file"]}
 
 # In the place of ssh: runs the command here, in an environment that has no more than a login needs. The machine `beta`
 # never answers.
@@ -32,11 +34,16 @@ shift
 exec env -i HOME="$HOME" PATH="$PATH" sh -c "$*"
 """
 
-# In the place of the program: takes a while, and notes each torrent that it checks.
+# In the place of the program: takes a while, and notes each torrent that it checks. While there is a file `halt`, no run
+# goes on once six have ended, so that what is stopped then is in the middle of its work however slow the machine is.
 SLOW = """#!/bin/sh
-echo "$2" >> checked
+echo "$2" >> {place}/checked
+while [ -e {place}/halt ] && [ "$(wc -l < {place}/ended)" -ge 6 ]; do sleep 0.05; done
 sleep 0.05
-exec {program} "$@"
+{program} "$@"
+status=$?
+echo >> {place}/ended
+exit $status
 """
 
 
@@ -63,7 +70,8 @@ class Archive:
         for name in ["bin", "user/.parallel", "torrents", "content"]:
             os.makedirs(f"{place}/{name}")
         write(f"{place}/user/.parallel/will-cite", b"")
-        self.script("bin/btcheck", SLOW.format(program=BTCHECK) if slow else f'#!/bin/sh\nexec {BTCHECK} "$@"\n')
+        self.script("bin/btcheck", SLOW.format(program=BTCHECK, place=place) if slow else f'#!/bin/sh\nexec {BTCHECK} "$@"\n')
+        write(f"{place}/ended", b"")
         self.script("bin/ssh", SSH)
         for name in ["check-one", "check-all", "create-one"]:
             self.script(name, block(f"\n# {name}"))
@@ -83,7 +91,9 @@ class Archive:
         whole = torrents.bencoded(old) if name == "version 1" else torrents.torrent(value)
         write(f"{self.place}/torrents/{name}.torrent", whole)
         os.mkdir(f"{self.place}/content/{name}")
-        if name != "lost":
+        if name == "barred":
+            os.mkdir(f"{self.place}/content/{name}/{name}")
+        elif name != "lost":
             write(f"{self.place}/content/{name}/{name}", {"changed": b"abd", "short": b"ab"}.get(name, b"abc"))
 
     def start(self, code):
@@ -114,6 +124,14 @@ class Archive:
         with open(f"{self.place}/checked", encoding="utf-8") as file:
             return file.read().splitlines()
 
+    def halt(self):
+        """From now on no more than some runs of the slow program end."""
+        write(f"{self.place}/ended", b"")
+        write(f"{self.place}/halt", b"")
+
+    def go_on(self):
+        os.remove(f"{self.place}/halt")
+
     def logged(self):
         """The log's lines: number, machine and status of each torrent."""
         with open(f"{self.place}/log", encoding="utf-8") as log:
@@ -124,13 +142,14 @@ def whole_reports():
     """What is to be kept of each torrent of the archive."""
     good = {f"good {number}.report": [f"good good {number}", "yes"] for number in range(GOOD)}
     return good | {f"{name}.report": lines for name, lines in NOT_GOOD.items()} | {
-        f"{name}.error": [line] for name, line in FAULTS.items()}
+        f"{name}.error": lines for name, lines in FAULTS.items()} | {f"{name}.reasons": lines for name, lines in REASONS.items()}
 
 
 # What the recipes print that find what is not good.
 LISTED = sorted(f"reports/{name}.report" for name in NOT_GOOD)
 LINES = sorted(f"reports/{name}.report:{line}" for name, lines in NOT_GOOD.items() for line in lines)
-ERRORS = [f"reports/{name}.error:{line}" for name, line in FAULTS.items()]
+ERRORS = sorted(f"reports/{name}.{kind}:{line}" for kind, of in (("error", FAULTS), ("reasons", REASONS)) for name, lines in of.items()
+                for line in lines)
 EVERY = GOOD + len(NOT_GOOD) + len(FAULTS)
 
 BY_XARGS, BY_PARALLEL = block("xargs -0"), block("| sort > list\nparallel")
@@ -144,7 +163,7 @@ def test_one_after_the_other_and_what_is_not_good():
         assert archive.reports() == whole_reports()
         assert archive.run(block("grep -rLx")) == (0, LISTED)
         for recipe, wanted in [("grep -rvxE 'good .*|v1 good|yes' --include='[!.]*.report' reports\n", LINES),
-                               ("grep -r . --include='[!.]*.error' reports\n", ERRORS)]:
+                               ("grep -r . --include='[!.]*.error' --include='[!.]*.reasons' reports\n", ERRORS)]:
             assert ("sh", recipe) in blocks(), recipe
             assert archive.run(recipe) == (0, wanted)
 
@@ -166,11 +185,13 @@ def test_by_parallel_and_again():
 def stopped(archive, code, how):
     """Starts a recipe that becomes its last command, stops it when some torrents are done, and gives how many the log
     names then. A request to end goes to that command alone, as from `kill`, all else to what it started too."""
+    archive.halt()
     program, end = archive.start(code), time.monotonic() + 60
     while not (os.path.exists(f"{archive.place}/log") and len(archive.logged()) >= 4):
         assert time.monotonic() < end, "nothing is logged"
         time.sleep(0.01)
     (os.kill if how == signal.SIGTERM else os.killpg)(program.pid, how)
+    archive.go_on()
     program.communicate(timeout=60)
     return archive.logged()
 

@@ -1,25 +1,23 @@
 """Both maps of known nodes. The program of crates/memory_tests takes messages over flat rows or over pages, and prints after
 each what it came to and how much is known and marked, and how many pages are held."""
-import os
 import re
 import subprocess
 
 import messages
 from poison import Peers
-from support import TOP, folder, write
+from support import folder, memory_tests, write
 from test_library_growths import records
 from test_pages import LONGEST, pair
 from torrents import LARGE, torrent_of
 from trees import Tree
 
-GROWTHS = os.path.join(TOP, "build", "memory_tests")
 PAGES = re.compile(rb", pages: (\d+) }")
 
 
 def taken(place, content, frames, over, call="step"):
     """What the messages of a record come to over a map."""
     path, record = write(f"{place}/torrent", content), write(f"{place}/record", b"".join(frames))
-    done = subprocess.run([GROWTHS, path, record, over, call], stdout=subprocess.PIPE, timeout=600, check=True)
+    done = subprocess.run([memory_tests(), path, record, over, call], stdout=subprocess.PIPE, timeout=600, check=True)
     return done.stdout
 
 

@@ -8,9 +8,8 @@ import random
 import re
 import subprocess
 
-from support import BTCHECK, TOP, expect, folder, need, run, write
+from support import BTCHECK, device_tests, expect, folder, need, run, write
 
-DEVICES = os.path.join(TOP, "build", "device_tests")
 ROUNDS = 300
 
 
@@ -58,7 +57,7 @@ def test_the_join_of_parts_is_the_report_of_check():
                 if found is not None:
                     write(f"{place}/found/{name}", found)
             whole = run("check", f"{place}/torrent", f"{place}/found")
-            parts = run("parts", f"{place}/torrent", f"{place}/found/a", f"{place}/found/c", "0", program=DEVICES)
+            parts = run("parts", f"{place}/torrent", f"{place}/found/a", f"{place}/found/c", "0", program=device_tests())
             assert parts.returncode == 0 and not parts.stderr, (at, parts)
             assert parts.stdout == whole.stdout, (at, whole.stdout, parts.stdout)
             seen.update(line.split()[0] for line in whole.stdout.decode().splitlines())
@@ -99,17 +98,17 @@ class Case:
         if found is not None:
             write(f"{self.found}/{name}", found)
 
-    def part(self, number, count):
+    def part(self, number, count, *more):
         """Runs a part, keeps its report, and gives the report's path."""
         path = f"{self.reports}/{number}"
-        done = run("check", self.torrent, self.found, "--part", f"{number}/{count}")
+        done = run("check", self.torrent, self.found, "--part", f"{number}/{count}", *more)
         last = {0: b"part yes\n", 1: b"part no\n"}[done.returncode]
         assert not done.stderr and done.stdout.startswith(f"part {number}/{count} ".encode()), done
         assert done.stdout.endswith(b"\n" + last), done
         return write(path, done.stdout)
 
-    def parts(self, count):
-        return [self.part(number, count) for number in range(1, count + 1)]
+    def parts(self, count, *more):
+        return [self.part(number, count, *more) for number in range(1, count + 1)]
 
 
 def outcome(done):
@@ -132,6 +131,26 @@ def test_the_join_of_what_the_program_prints():
             assert outcome(run("join", case.torrent, *reports)) == outcome(whole), (at, whole)
             seen.update(line.split()[0] for line in whole.stdout.decode().splitlines())
     assert seen >= {"good", "bad", "missing", "unreadable", "wrong", "v1", "yes", "no"}, seen
+
+
+def test_the_join_of_marked_reports():
+    """Byte for byte what `check --bad` prints, and its status: of the same folders, in one to nine parts or many, in any
+    order. Runs of two parts that touch at a cut are one."""
+    draw = random.Random(54)
+    seen, cuts = set(), 0
+    for at in range(FOLDERS // 2):
+        with folder() as place:
+            case = Case(place, draw)
+            if not case.made:
+                continue
+            whole = run("check", case.torrent, case.found, "--bad")
+            reports = case.parts(draw.randrange(1, 10) if at % 25 else 40, "--bad")
+            runs = sum(open(path, "rb").read().count(b"bad pieces ") for path in reports)
+            cuts += runs > whole.stdout.count(b"bad pieces ")
+            draw.shuffle(reports)
+            assert outcome(run("join", case.torrent, *reports)) == outcome(whole), (at, whole)
+            seen.update(line.split()[0] for line in whole.stdout.decode().splitlines())
+    assert seen >= {"good", "bad", "missing", "unreadable", "wrong", "v1", "yes", "no"} and cuts > 10, (seen, cuts)
 
 
 def joined(case, *reports):
@@ -169,12 +188,14 @@ def test_reports_that_are_refused():
             for changed in [text[:-1], text[:-5], text.splitlines(True)[0], text + b"\n", text + b"x" * 100_000, text + text, b"", b"\0", b"\xff",
                             text.replace(b"part yes", b"part no") if b"part yes" in text else text.replace(b"part no", b"part yes"),
                             text.replace(b"a\n", b"b\n", 1), text.replace(b"\n", b"\r\n").replace(b"\r", b"", 1), text.upper(), b"part " + text,
+                            text.replace(b"\n", b"\r\n"), text[:9], text[:40], text.split(b"\n")[0], text.replace(b" ", b"  ", 2),
+                            text.replace(text.split()[2], text.split()[2].upper()), text.replace(text.split()[2], b"0" * 63),
+                            text.replace(text.split()[2], b"0" * 65), text.replace(text.split()[2], b"0" * 63 + b"g"),
                             b"".join(text.splitlines(True)[::-1])]:
                 write(odd, changed)
                 expect(joined(case, odd, *others), 2, b"", f"fault: no whole report of a part: {place}/{named}\n")
-            for changed in [text.replace(text.split()[2], b"0" * 64), text.replace(b"\n", b"\r\n")]:
-                write(odd, changed)
-                expect(joined(case, *others, odd), 2, b"", f"fault: a part of another torrent: {place}/{named}\n")
+            write(odd, text.replace(text.split()[2], b"0" * 64))
+            expect(joined(case, *others, odd), 2, b"", f"fault: a part of another torrent: {place}/{named}\n")
             write(odd, text.replace(b"/4 ", b"/5 "))
             expect(joined(case, *others, odd), 2, b"", f"fault: a report of another number of parts: {place}/{named}\n")
             write(odd, text.replace(b"part %d/4 " % (number + 1), b"part 5/4 "))
@@ -190,6 +211,133 @@ def test_reports_that_are_refused():
         with open("/dev/full", "wb") as full:
             expect(run("join", case.torrent, *reports, stdout=full), 2, None, "fault: cannot write -\n")
             expect(run("check", case.torrent, case.found, "--part", "1/4", stdout=full), 2, None, "fault: cannot write -\n")
+
+
+def test_lines_that_no_part_can_print():
+    """Of a bad piece that is not the file's or not the part's, of an empty file, and of version 1 pieces that were compared
+    though a file is not whole, or were not though all are: no whole report."""
+    with folder() as place:
+        for name, length in (("a", 40_000), ("b", 0), ("c", 16_384)):
+            os.makedirs(f"{place}/found", exist_ok=True)
+            write(f"{place}/found/{name}", name.encode() * length)
+        expect(run("create", f"{place}/found", f"{place}/torrent", "--name", "x", "--piece-length", "16384", "--hybrid"), 0)
+        one, two = (run("check", f"{place}/torrent", f"{place}/found", "--part", f"{number}/2").stdout for number in (1, 2))
+        assert [line.split(b" ")[0] for line in two.splitlines()] == [b"part", b"good", b"good", b"good", b"v1", b"part"], two
+        for line, others, is_said in [
+            ("bad 0 a", "v1 good", False), ("bad 1 a", "v1 good", True), ("bad 2 a", "v1 good", True), ("bad 3 a", "v1 good", False),
+            ("bad 18446744073709551615 a", "v1 good", False), ("bad 3 b", "v1 good", False), ("bad 3 c", "v1 good", True),
+            ("bad 4 c", "v1 good", False), ("missing a", "v1 good", False), ("missing a", "v1 not checked", True),
+            ("bad 1 a", "v1 not checked", False), ("bad 1 a", "v1 bad 0", False), ("bad 1 a", "v1 bad 3", True),
+            ("bad 1 a", "v1 bad 4", False), ("wrong length b", "v1 bad 1", False), ("wrong length b", "v1 not checked", True),
+        ]:
+            name = line[-1]
+            text = two.replace(f"good {name}\n".encode(), f"{line}\n".encode()).replace(b"v1 good", others.encode())
+            write(f"{place}/two", text.replace(b"part yes", b"part no"))
+            write(f"{place}/one", one)
+            done = run("join", f"{place}/torrent", f"{place}/two", f"{place}/one")
+            if is_said:
+                assert done.returncode == 1 and f"{line}\n".encode() in done.stdout and not done.stderr, (line, others, done)
+            else:
+                expect(done, 2, b"", f"fault: no whole report of a part: {place}/two\n")
+
+
+# What stands behind the first line of the second of two marked reports, of a file of five pieces of which the first two are
+# the first part's, and whether a part can print it.
+SAID = [
+    ("bad 3 a|bad pieces 3 4 bytes 49152-79999", True),
+    ("bad 3 a|bad pieces 3 3 bytes 49152-65535", True),
+    ("bad 4 a|bad pieces 4 4 bytes 65536-79999", True),
+    ("wrong length a|bad pieces 4 4 bytes 65536-79999", True),
+    ("wrong length a", True),
+    ("bad 3 a", False),
+    ("bad 3 a|bad pieces 4 4 bytes 65536-79999", False),
+    ("bad 4 a|bad pieces 3 4 bytes 49152-79999", False),
+    ("bad 3 a|bad pieces 3 3 bytes 49152-65535|bad pieces 4 4 bytes 65536-79999", False),
+    ("bad 3 a|bad pieces 3 3 bytes 49152-65535|bad pieces 3 3 bytes 49152-65535", False),
+    ("bad 2 a|bad pieces 2 4 bytes 32768-79999", True),
+    ("bad 2 a|bad pieces 2 2 bytes 32768-49151|bad pieces 4 4 bytes 65536-79999", True),
+    ("wrong length a|bad pieces 2 2 bytes 32768-49151", True),
+    ("bad 2 a|bad pieces 4 4 bytes 65536-79999|bad pieces 2 2 bytes 32768-49151", False),
+    ("bad 1 a|bad pieces 1 4 bytes 16384-79999", False),
+    ("wrong length a|bad pieces 1 1 bytes 16384-32767", False),
+    ("wrong length a|bad pieces 1 3 bytes 16384-65535", False),
+    ("bad 4 a|bad pieces 4 5 bytes 65536-98303", False),
+    ("bad 4 a|bad pieces 4 4 bytes 65536-80000", False),
+    ("bad 4 a|bad pieces 4 4 bytes 65535-79999", False),
+    ("bad 4 a|bad pieces 4 4 bytes 65536-079999", False),
+    ("bad 4 a|bad pieces 04 4 bytes 65536-79999", False),
+    ("bad 4 a|bad pieces 4 3 bytes 65536-65535", False),
+    ("bad 4 a|bad pieces 18446744073709551615 4 bytes 65536-79999", False),
+    ("bad 4 a|bad pieces 4 18446744073709551616 bytes 65536-79999", False),
+    ("good a|bad pieces 4 4 bytes 65536-79999", False),
+    ("missing a|bad pieces 4 4 bytes 65536-79999", False),
+    ("missing a", True),
+    ("unreadable a|bad pieces 4 4 bytes 65536-79999", False),
+    ("bad pieces 4 4 bytes 65536-79999|bad 4 a", False),
+]
+
+
+def test_runs_that_no_part_can_print():
+    """Runs that touch, fall, are not the part's, are not the file's, or stand behind a file that has none, and a bad file
+    without them: no whole report."""
+    with folder() as place:
+        write(f"{place}/content", bytes(80_000))
+        os.mkdir(f"{place}/found")
+        os.rename(f"{place}/content", f"{place}/found/a")
+        expect(run("create", f"{place}/found", f"{place}/torrent", "--name", "x", "--piece-length", "16384"), 0)
+        names = [f"{number}/2" for number in (1, 2)]
+        one, two = (run("check", f"{place}/torrent", f"{place}/found", "--part", name, "--bad").stdout for name in names)
+        assert two.endswith(b" bad\ngood a\npart yes\n"), two
+        write(f"{place}/one", one)
+        for lines, is_said in SAID:
+            text = two.replace(b"good a\npart yes\n", lines.replace("|", "\n").encode() + b"\npart no\n")
+            done = run("join", f"{place}/torrent", write(f"{place}/two", text), f"{place}/one")
+            if is_said:
+                expect(done, 1, lines.replace("|", "\n") + "\nno\n", b"")
+            else:
+                expect(done, 2, b"", f"fault: no whole report of a part: {place}/two\n")
+
+
+def test_reports_of_two_kinds():
+    """One of another kind than the first is no whole report, and the first such one is named."""
+    with folder() as place:
+        case = Four(place, None)
+        plain = [write(f"{path} plain", open(path, "rb").read()) for path in case.parts(4)]
+        marked = [write(f"{path} marked", open(path, "rb").read()) for path in case.parts(4, "--bad")]
+        assert outcome(joined(case, *marked)) == outcome(run("check", case.torrent, case.found, "--bad"))
+        assert joined(case, *marked).stdout == b"bad 9 a\nbad pieces 9 9 bytes 147456-163839\ngood b\nno\n"
+        for given, named in [
+            (marked[:3] + plain[3:], plain[3]), (plain[:3] + marked[3:], marked[3]), (plain[:1] + marked[1:], marked[1]),
+            (marked[:1] + plain[1:], plain[1]), (plain + marked[:1], marked[0]), (marked + plain[:1], plain[0]),
+        ]:
+            expect(joined(case, *given), 2, b"", f"fault: no whole report of a part: {named}\n")
+        text = open(marked[0], "rb").read()
+        for word in (b" bad bad\n", b" bad \n", b"  bad\n", b" Bad\n", b" bad\r\n", b" ba\n", b"bad\n"):
+            write(f"{place}/odd", text.replace(b" bad\n", word, 1))
+            expect(joined(case, *marked[1:], f"{place}/odd"), 2, b"", f"fault: no whole report of a part: {place}/odd\n")
+
+
+def test_many_parts_of_many_files():
+    """A join looks at the files once, however many parts there are: 400 parts of 20,000 files take hardly more time than
+    one."""
+    with folder() as place:
+        os.mkdir(f"{place}/found")
+        for number in range(20_000):
+            write(f"{place}/found/{number:05}", b"x" * (number % 3))
+        expect(run("create", f"{place}/found", f"{place}/torrent", "--name", "x", "--piece-length", "16384"), 0)
+        os.remove(f"{place}/found/10000")
+        whole = run("check", f"{place}/torrent", f"{place}/found")
+        taken = {}
+        for count in (1, 400):
+            reports = []
+            for number in range(1, count + 1):
+                done = run("check", f"{place}/torrent", f"{place}/found", "--part", f"{number}/{count}")
+                reports.append(write(f"{place}/{count}-{number}", done.stdout))
+            begun = os.times().children_user
+            assert outcome(run("join", f"{place}/torrent", *reports)) == outcome(whole)
+            taken[count] = os.times().children_user - begun
+        print(f"a join of 1 and of 400 parts of 20,000 files: {taken[1]:.3f} s and {taken[400]:.3f} s of the processor")
+        assert taken[400] < 3 * taken[1] + 0.2, taken
 
 
 def test_reports_of_any_length():
@@ -250,12 +398,14 @@ def instructions(*arguments):
 def test_parts_do_no_more_than_a_check():
     """Four parts take hardly more instructions than one check and three more openings of the torrent, and each about a
     fourth of them, however long the pieces are; so on four cores that share nothing they take little more than a fourth of
-    the time. `bench/run parts` measures what this machine makes of it."""
+    the time. `bench/run parts` measures what this machine makes of it. Each part of a hybrid has eight pieces at least: the
+    SHA-1 of fewer takes as long as that of eight; and each fills a buffer for eight pieces with zeros, an instruction a byte
+    at most."""
     need("valgrind")
     with folder() as place:
         os.mkdir(f"{place}/files")
         write(f"{place}/files/content", random.Random(1).randbytes(1 << 24))
-        for length, kind in ((1 << 20, []), (1 << 20, ["--hybrid"]), (1 << 16, []), (1 << 15, ["--hybrid"]), (1 << 14, [])):
+        for length, kind in ((1 << 20, []), (1 << 19, ["--hybrid"]), (1 << 16, []), (1 << 15, ["--hybrid"]), (1 << 14, [])):
             expect(run("create", f"{place}/files", f"{place}/torrent", "--name", "x", "--piece-length", str(length), *kind), 0)
             whole, done = instructions("check", f"{place}/torrent", f"{place}/files")
             assert done.returncode == 0 and done.stdout.endswith(b"yes\n"), done
@@ -265,8 +415,9 @@ def test_parts_do_no_more_than_a_check():
                 count, done = instructions("check", f"{place}/torrent", f"{place}/files", "--part", f"{number}/4")
                 assert done.returncode == 0 and done.stdout.endswith(b"part yes\n"), done
                 parts.append(count)
+            once = opening + (8 * length if kind else 0)
             print(
                 f"pieces of {length} bytes {kind}: instructions of four parts {sum(parts) / whole:.3f} of one check's,"
                 f" of the largest {max(parts) / whole:.3f}, of an opening {opening / whole:.3f}"
             )
-            assert sum(parts) <= min(1.05 * whole, 1.02 * whole + 3 * opening) and max(parts) <= 0.3 * whole, (whole, opening, parts)
+            assert sum(parts) <= min(1.05 * whole, 1.02 * whole + 3 * once) and max(parts) <= 0.3 * whole, (whole, once, parts)

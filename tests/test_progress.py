@@ -35,7 +35,7 @@ def zeros(place, name, length):
 
 
 def root_of_zeros(length):
-    """The root of so many zeros, which are a power of two of whole blocks."""
+    """The root of `length` zeros: a power of two of whole blocks."""
     node = sha256(bytes(16384))
     while length > 16384:
         node, length = sha256(node + node), length // 2
@@ -51,8 +51,8 @@ def torrent_of_zeros(lengths):
 
 @functools.cache
 def read_in(seconds, command="root", *behind):
-    """A power of two of bytes. The fastest of three runs of this command would take so many seconds for them, and no
-    more than twice as many."""
+    """A power of two of bytes. The fastest of three runs of this command would take `seconds` for them, and no more
+    than twice as long."""
     with folder() as place:
         path, times = zeros(place, "sample", SAMPLE), []
         for _ in range(3):

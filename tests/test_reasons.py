@@ -44,10 +44,11 @@ def test_a_terminal_shows_the_reason():
             assert shown == f"fault: {fault}\nreason: {reason}\n", (arguments, shown)
 
 
-def test_nothing_else_shows_it():
+def test_nothing_else_shows_it_unless_asked():
     with folder() as place:
-        for arguments, fault, _ in reasons(place):
+        for arguments, fault, reason in reasons(place):
             expect(run(*arguments), 2, b"", f"fault: {fault}\n")
+            expect(run(*arguments, "--reasons"), 2, b"", f"fault: {fault}\nreason: {reason}\n")
 
 
 def test_a_folder_that_may_not_be_read():

@@ -22,14 +22,19 @@ SECONDS = 20
 
 
 class Relay:
-    """The tool with a peer at its target. Leaving the `with` ends it if it still runs."""
+    """The tool with a peer at each of its targets. Leaving the `with` ends it if it still runs."""
 
-    def __init__(self, out, listen="127.0.0.1:0", **options):
-        self.door = socket.create_server(("127.0.0.1", 0))
-        self.door.settimeout(SECONDS)
-        target = f"127.0.0.1:{self.door.getsockname()[1]}"
-        self.program = subprocess.Popen([RECORD, listen, target, out], stderr=subprocess.PIPE, text=True, **options)
-        self.port = int(self.heard().rsplit(":", 1)[1])
+    def __init__(self, out, listen="127.0.0.1:0", count=1, **options):
+        self.doors = [socket.create_server(("127.0.0.1", 0)) for _ in range(count)]
+        for door in self.doors:
+            door.settimeout(SECONDS)
+        self.targets = [f"127.0.0.1:{door.getsockname()[1]}" for door in self.doors]
+        words = [word for target in self.targets for word in (listen, target)]
+        self.program = subprocess.Popen([RECORD, *words, out], stderr=subprocess.PIPE, text=True, **options)
+        self.greetings = [self.heard() for _ in self.doors]
+        self.ports = [int(line.removesuffix(f" for {target}").rsplit(":", 1)[1])
+                      for line, target in zip(self.greetings, self.targets)]
+        self.door, self.port = self.doors[0], self.ports[0]
 
     def __enter__(self):
         return self
@@ -38,16 +43,17 @@ class Relay:
         self.program.kill()
         self.program.wait()
         self.program.stderr.close()
-        self.door.close()
+        for door in self.doors:
+            door.close()
 
     def heard(self):
         """The next line that the tool says."""
         return self.program.stderr.readline().rstrip("\n")
 
-    def connect(self):
+    def connect(self, peer=0):
         """Both ends of a new connection: our side, and the target's."""
-        ours = socket.create_connection(("127.0.0.1", self.port), SECONDS)
-        theirs, _ = self.door.accept()
+        ours = socket.create_connection(("127.0.0.1", self.ports[peer]), SECONDS)
+        theirs, _ = self.doors[peer].accept()
         theirs.settimeout(SECONDS)
         return ours, theirs
 
@@ -62,10 +68,12 @@ class Relay:
 
 
 class Talk:
-    """What two ends say one after the other. Each part has arrived before the next one is sent."""
+    """What two ends say one after the other. Each part has arrived before the next one is sent. With a list it is one of
+    several talks, which all go on in that list."""
 
-    def __init__(self, ours, theirs):
+    def __init__(self, ours, theirs, whole=None):
         self.ways, self.said = {WENT_OUT: (ours, theirs), CAME_IN: (theirs, ours)}, []
+        self.whole = [] if whole is None else whole
 
     def say(self, direction, part):
         source, sink = self.ways[direction]
@@ -77,6 +85,7 @@ class Talk:
             got += more
         assert got == part
         self.said.append((direction, part))
+        self.whole.append((self, direction, part))
 
     def greet(self):
         self.say(WENT_OUT, HANDSHAKE)
@@ -85,16 +94,29 @@ class Talk:
 
     def record(self):
         """What the record holds now: each frame where its last byte was said, but none before both handshakes."""
-        streams, frames = {CAME_IN: b"", WENT_OUT: b""}, []
-        for direction, part in self.said:
-            for byte in part:
-                streams[direction] += bytes([byte])
-                whole = streams[direction][68:]
-                if len(whole) >= 4 and len(whole) == 4 + int.from_bytes(whole[:4], "big"):
-                    frames.append(bytes([direction]) + whole)
-                    streams[direction] = streams[direction][:68]
-        greeted = all(len(stream) >= 68 for stream in streams.values())
-        return FORM_2 + b"".join(frames if greeted else [])
+        return recorded(self.whole)
+
+    def close(self):
+        for end in self.ways[WENT_OUT]:
+            end.close()
+
+
+def recorded(said):
+    """The record of what was said in several connections."""
+    streams, early, record = {}, {}, FORM_2
+    for talk, direction, part in said:
+        held = early.setdefault(talk, [])
+        for byte in part:
+            stream = streams.setdefault((talk, direction), bytearray())
+            stream.append(byte)
+            whole = bytes(stream[68:])
+            if len(whole) >= 4 and len(whole) == 4 + int.from_bytes(whole[:4], "big"):
+                held.append(bytes([direction]) + whole)
+                del stream[68:]
+        if all(len(streams.get((talk, way), b"")) >= 68 for way in (CAME_IN, WENT_OUT)):
+            record += b"".join(held)
+            held.clear()
+    return record
 
 
 def wait_for(path, content):
@@ -301,6 +323,70 @@ def test_a_record_is_one_connection():
         assert content_of(f"{place}/record") == talk.record()
 
 
+def test_several_peers():
+    """One record of all connections, whose frames come in parts that are mixed with each other."""
+    chance = random.Random(56)
+    for _ in range(6):
+        whole = []
+        with folder() as place, Relay(f"{place}/record", count=3) as relay:
+            assert all(line.endswith(f" for {target}") for line, target in zip(relay.greetings, relay.targets))
+            talks = [Talk(*relay.connect(peer), whole) for peer in range(3)]
+            parts = {(talk, way): list(cut(chance, some_stream(chance))) for talk in talks for way in (CAME_IN, WENT_OUT)}
+            while any(parts.values()):
+                talk, way = chance.choice([key for key in parts if parts[key]])
+                talk.say(way, parts[talk, way].pop(0))
+                wait_for(f"{place}/record", recorded(whole))
+                if chance.random() < 0.02:  # one peer breaks off in mid-frame
+                    break_off(talk.ways[way][0])
+                    for left in (CAME_IN, WENT_OUT):
+                        parts[talk, left] = []
+            for talk in talks:
+                talk.close()
+            have_greeted = all(recorded([part for part in whole if part[0] is talk]) != FORM_2 for talk in talks)
+            status, said = relay.ended() if have_greeted else relay.stop()
+            assert status == (0 if have_greeted else 1) and f"frames recorded in {place}/record: " in said, (status, said)
+            assert content_of(f"{place}/record") == recorded(whole)
+
+
+def test_one_of_several_peers_ends():
+    """The others go on, and each LISTEN has one connection that is recorded."""
+    whole = []
+    with folder() as place, Relay(f"{place}/record", count=2) as relay:
+        first, second = [Talk(*relay.connect(peer), whole).greet() for peer in (0, 1)]
+        first.say(CAME_IN, messages.piece(0, 0, b"abd") + b"\x00\x00")
+        wait_for(f"{place}/record", recorded(whole))
+        other = Talk(*relay.connect(1)).greet()
+        while "another connection is recorded" not in relay.heard():
+            pass
+        other.say(CAME_IN, messages.frame(b"\x00"))
+        first.close()
+        second.say(CAME_IN, b"\x00\x00\x00")
+        second.say(WENT_OUT, messages.frame(b"\x02"))
+        second.say(CAME_IN, b"\x01\x01" + messages.piece(0, 0, b"abc"))
+        wait_for(f"{place}/record", recorded(whole))
+        second.close()
+        assert relay.heard() == f"record: frames recorded in {place}/record: 4"
+        other.close()
+        assert relay.ended() == (0, "")
+        assert content_of(f"{place}/record") == recorded(whole)
+        expect(run("replay", write(f"{place}/torrent", ABC), f"{place}/record"), 1,
+               "1 refused P4 BadBlock\n2 sent\n3 skipped 1\n4 verified 0 0\nend\n")
+
+
+def test_a_peer_that_is_never_reached():
+    """Stopped, it has recorded one of two; nothing of the other has come."""
+    with folder() as place, Relay(f"{place}/record", count=2) as relay:
+        talk = Talk(*relay.connect()).greet()
+        talk.say(CAME_IN, messages.KEEP_ALIVE)
+        wait_for(f"{place}/record", talk.record())
+        talk.close()
+        liar = Talk(*relay.connect(1))
+        liar.say(CAME_IN, b"no handshake")
+        status, said = relay.stop()
+        assert status == 1 and "is not recorded, only passed on" in said and said.endswith(": 1\n"), (status, said)
+        assert content_of(f"{place}/record") == talk.record()
+
+
 def test_much_at_once_in_both_directions():
     """Neither side waits for the other, and each reads slowly."""
     chance = random.Random(3)
@@ -429,6 +515,22 @@ def test_addresses():
         for wrong in ("6881", "::1:6881", "localhost:", ":6881", "[::1]", "localhost:65536", "localhost:-1", "localhost:x"):
             done = run(wrong, "127.0.0.1:1", f"{place}/none", program=RECORD)
             assert done.returncode == 2 and wrong.encode() in done.stderr and not done.stdout, (wrong, done)
+        assert not os.path.exists(f"{place}/none")
+
+
+def test_pairs():
+    with folder() as place:
+        for words in ([], ["127.0.0.1:0"], ["127.0.0.1:0", "127.0.0.1:1"],
+                      ["127.0.0.1:0", "127.0.0.1:1", "127.0.0.1:0", f"{place}/none"],
+                      ["127.0.0.1:0", "127.0.0.1:1", f"{place}/none", f"{place}/none", f"{place}/none"]):
+            done = run(*words, program=RECORD)
+            assert done.returncode == 2 and not done.stdout, done
+            assert words[3:] == [] or b"LISTEN" in done.stderr or b"is not HOST:PORT" in done.stderr, done
+        assert not os.path.exists(f"{place}/none")
+        with socket.create_server(("127.0.0.1", 0)) as taken:
+            where = f"127.0.0.1:{taken.getsockname()[1]}"
+            expect(run("127.0.0.1:0", where, where, where, f"{place}/none", program=RECORD), 2, "",
+                   f"record: cannot listen at {where}: Address already in use\n")
         assert not os.path.exists(f"{place}/none")
 
 

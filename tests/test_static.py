@@ -29,7 +29,8 @@ DOCUMENTS = ["README.md", "CHANGELOG.md", "LICENSE-MIT", "LICENSE-APACHE", "docs
 
 
 def make(target):
-    """Makes this target. It needs the kit, and what `make both lib` leaves."""
+    """Makes this target. It needs a C compiler, the kit, and what `make both lib` leaves."""
+    need("make", "gcc", "ld", "objcopy")
     proved = [*OBJECTS, ARCHIVE]
     lacking = [it for it in proved if not os.path.exists(f"{TOP}/{it}")]
     if lacking or not shutil.which("rt"):
@@ -205,8 +206,9 @@ def test_dist():
         there = {f"{at.replace(below, '.', 1)}/{file}" for at, _, files in os.walk(below) for file in files}
         assert there - listed == {"./SHA256SUMS"} and listed < there, there ^ listed
         documents = {f"./share/doc/btcheck/{file}" for file in DOCUMENTS}
-        assert documents | {"./bin/btcheck", "./share/man/man1/btcheck.1"} < listed, listed
-        assert {"./include/btcheck.h", "./lib/libbtcheck.a", "./lib/libbtcheck.so.0", "./lib/pkgconfig/btcheck.pc"} < listed, listed
+        assert documents | {"./bin/btcheck", "./bin/btcheck-many", "./share/man/man1/btcheck.1"} < listed, listed
+        objects = {f"./lib/{it}libbtcheck.{kind}" for it in ("", "glibc-hwcaps/x86-64-v3/") for kind in ("a", "so.0")}
+        assert objects | {"./include/btcheck.h", "./lib/pkgconfig/btcheck.pc"} < listed, listed
         for env in ({}, LESSER):
             expect(run("root", "/dev/null", program=f"{below}/bin/btcheck", env=env), 0, "0 -\n")
         subprocess.run([f"{below}/share/doc/btcheck/tools/record", "--help"], stdout=subprocess.DEVNULL, check=True)
@@ -242,6 +244,13 @@ def files_of(package, place):
     return {f"{at.replace(f'{place}/{package}', '', 1)}/{file}" for at, _, files in os.walk(f"{place}/{package}") for file in files}
 
 
+def see_links(place):
+    """Each link of the documents below this folder leads to a file that is there."""
+    for page in glob.glob(f"{place}/**/*.md", recursive=True):
+        for link in re.findall(r"\]\(([\w./-]+)(?:#[\w-]+)?\)", written(page).decode()):
+            assert os.path.exists(os.path.join(os.path.dirname(page), link)), (page, link)
+
+
 def see_program(place):
     there, below = files_of("btcheck", place), f"{place}/btcheck/usr"
     for env in ({}, LESSER):
@@ -249,9 +258,12 @@ def see_program(place):
     subprocess.run([f"{below}/share/btcheck/record", "--help"], stdout=subprocess.DEVNULL, check=True)
     documents = {f"/usr/share/doc/btcheck/{file}" for file in
                  ("README.md", "copyright", "changelog.gz", "changelog.Debian.gz", "docs/RECORDING.md", "examples/pair.torrent")}
-    assert documents | {"/usr/share/man/man1/btcheck.1.gz", "/usr/share/bash-completion/completions/btcheck",
+    assert documents | {"/usr/bin/btcheck-many", "/usr/share/man/man1/btcheck-many.1.gz",
+                        "/usr/share/man/man1/btcheck.1.gz", "/usr/share/bash-completion/completions/btcheck",
                         "/usr/share/fish/vendor_completions.d/btcheck.fish",
-                        "/usr/share/zsh/vendor-completions/_btcheck"} <= there, there
+                        "/usr/share/zsh/vendor-completions/_btcheck",
+                        "/usr/share/zsh/vendor-completions/_btcheck-many"} <= there, there
+    see_links(f"{below}/share/doc/btcheck")
 
 
 def see_library(place):
@@ -259,6 +271,11 @@ def see_library(place):
     for package in ("libbtcheck0", "libbtcheck-dev"):
         subprocess.run(["dpkg-deb", "-x", path_of(package), f"{place}/library"], check=True)
     below = f"{place}/library/usr"
+    packed = f"{below}/share/doc/libbtcheck-dev"
+    for name in ("examples/keep/keeper.cpp", "bindings/go/btcheck.go", "bindings/rust/btcheck/src/lib.rs", "bindings/rust/btcheck-sys/build.rs",
+                 "bindings/python/backend/wheels.py", "bindings/python/btcheck/__init__.py"):
+        assert written(f"{packed}/{name}") == written(f"{TOP}/{name}"), name
+    see_links(packed)
     write(f"{place}/client.c", b"""#include <btcheck.h>
         int main(void) { btcheck_root root = BTCHECK_INIT; btcheck_status status = btcheck_root_new(&root);
                          btcheck_root_free(&root); return status != BTCHECK_OK; }""")
@@ -268,15 +285,25 @@ def see_library(place):
     expect(run(program=f"{place}/client", env=paths), 0)
 
 
+def see_module(place):
+    """The module finds the library that is unpacked beside it."""
+    subprocess.run(["dpkg-deb", "-x", path_of("python3-btcheck"), f"{place}/library"], check=True)
+    below = f"{place}/library/usr/lib"
+    paths = {**os.environ, "PYTHONPATH": f"{below}/python3/dist-packages", "LD_LIBRARY_PATH": below}
+    done = run("-c", "import btcheck; print(btcheck.__file__, btcheck.version() == btcheck.__version__)", program=sys.executable, env=paths)
+    expect(done, 0, f"{below}/python3/dist-packages/btcheck/__init__.py True\n")
+
+
 def test_deb():
     """The package is installed and runs on both kinds of processors, has what is installed elsewhere, and is the same when
-    it is packed again; so are those of the library, with which a client is built."""
+    it is packed again; so are those of the library, with which a client is built, and of its Python module."""
     need("dpkg-deb", "strip", "gcc", "pkg-config")
     make("deb")
     first = packages()
     with folder() as place:
         see_program(place)
         see_library(place)
+        see_module(place)
     make("deb")
     assert packages() == first
     need("lintian")

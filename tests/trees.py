@@ -36,7 +36,7 @@ class Tree:
         return self.layers[layer][:-(-self.leaf_count // 2 ** layer)]
 
     def hashes(self, base, index, length, uncles):
-        """The hashes of a range and of so many uncles, the one nearest the root last."""
+        """The hashes of a range and of `uncles` uncles, the one nearest the root last."""
         found = self.layers[base][index:index + length]
         layer, at = base + length.bit_length() - 1, index // length
         for _ in range(uncles):
@@ -64,5 +64,5 @@ def root_line(content):
 
 
 def layer(content, blocks):
-    """The hashes that cover so many blocks each, a power of two, joined."""
+    """The hashes that cover `blocks` blocks each, a power of two, joined."""
     return b"".join(Tree.of(content).whole_layer(blocks.bit_length() - 1))

@@ -2,6 +2,7 @@
 import os
 import shutil
 import subprocess
+import sys
 
 TOP = os.path.dirname(os.path.dirname(os.path.abspath(__file__)))
 KIT = os.path.dirname(os.path.dirname(os.path.realpath(shutil.which(os.environ.get("RT", "rt")) or "rt")))
@@ -31,7 +32,11 @@ def rlib(name):
 
 def command(name, *more):
     """The command that proves a crate over the libraries below it, and compiles it."""
-    uses = crates()
+    return command_over(name, crates(), *more)
+
+
+def command_over(name, uses, *more):
+    """The same for a crate that these list, with what each uses."""
     found = {it: rlib(it) if it in uses else f"{KIT}/rlibs/{it}.rlib" for it in ["std", *uses[name]]}
     places = [f"{KIT}/rlibs", *(os.path.dirname(rlib(it)) for it in below(name, uses))]
     return [f"{KIT}/bin/rattle", "build", "--crate-name", name, *(f"--extern={it}={at}" for it, at in found.items()),
@@ -41,6 +46,27 @@ def command(name, *more):
 def run(words, name, **how):
     """Runs a command in a crate's folder."""
     return subprocess.run(words, cwd=f"{TOP}/crates/{name}", stdin=subprocess.DEVNULL, **how)
+
+
+def linking(program):
+    """The command that links a program from its object, program.o."""
+    c_code = [f"{KIT}/c/{it}.a" for it in ("libos_c", "liblibc_c")]
+    return [f"{KIT}/bin/rattle-link", "--target", "x86_64-unknown-linux-gnu", "--toolchain", f"{KIT}/toolchain",
+            "-o", program, f"{program}.o", *c_code]
+
+
+def logged(words, name, log):
+    """Runs a command in a crate's folder, with all that it prints in build/proofs/LOG. If it fails, prints the end of that.
+    Gives whether it went well."""
+    os.makedirs(f"{TOP}/build/proofs", exist_ok=True)
+    path = f"{TOP}/build/proofs/{log}"
+    with open(path, "wb") as out:
+        if not run(words, name, stdout=out, stderr=subprocess.STDOUT).returncode:
+            return True
+    with open(path, encoding="utf-8", errors="replace") as file:
+        sys.stderr.write("".join(file.readlines()[-20:]))
+    print(f"{name} is not proved: {path} says why", file=sys.stderr, flush=True)
+    return False
 
 
 def lanes():

@@ -9,6 +9,8 @@ static btcheck_ask ask;
 static btcheck_file file;
 static btcheck_blocks blocks;
 static btcheck_verdict verdict;
+static btcheck_held held;
+static btcheck_run run;
 static uint8_t hash[1][32], small[20], bytes[1 << 20];
 static uint64_t one, other;
 
@@ -28,7 +30,12 @@ static void want_of_session(btcheck_session *session, btcheck_status status) {
   WANT(btcheck_session_file(session, 0, &file), status);
   WANT(btcheck_session_path(session, 0, hash[0], 32, &one), status);
   WANT(btcheck_session_info_hashes(session, hash[0], small), status);
+  WANT(btcheck_session_name(session, hash[0], 32, &one), status);
+  WANT(btcheck_session_piece_length(session, &one), status);
+  WANT(btcheck_session_pieces(session, &one), status);
+  WANT(btcheck_session_is_hybrid(session), status);
   WANT(btcheck_session_take_blocks(session, 0, 0, hash[0], 32, &blocks), status);
+  WANT(btcheck_session_take_piece(session, 0, hash[0], 32, &one, &other), status);
   WANT(btcheck_session_frame(session, hash[0], 32, &verdict), status);
   CHECK(one == 7 && other == 7 && ask.length == 0 && file.length == 0 && blocks.count == 0 && verdict.kind == 0);
   CHECK(hash[0][0] == 0 && small[0] == 0);
@@ -39,7 +46,19 @@ static void want_of_check(btcheck_check *check, btcheck_status status) {
   one = 7;
   WANT(btcheck_check_push(check, hash[0], 1), status);
   WANT(btcheck_check_finish(check, &one), status);
-  CHECK(one == 7);
+  WANT(btcheck_check_push_bits(check, hash[0], 1, small, sizeof small), status);
+  WANT(btcheck_check_finish_bits(check, &one, small, sizeof small), status);
+  CHECK(one == 7 && small[0] == 0);
+}
+
+/* Every call on holdings but new, with a session that is one or is not. */
+static void want_of_holdings(btcheck_session *session, btcheck_holdings *holdings, btcheck_status alone, btcheck_status both) {
+  one = 7;
+  WANT(btcheck_session_held(holdings, &one), alone);
+  WANT(btcheck_holdings_look_at(holdings, 0), alone);
+  WANT(btcheck_session_hold(session, holdings, 0, 0, hash[0], 32, &held), both);
+  WANT(btcheck_session_settle(session, holdings, &run), both);
+  CHECK((one == 7) == (alone != BTCHECK_OK) && held.blocks.count == 0 && run.last == 0);
 }
 
 /* Every call on a builder but new. */
@@ -58,9 +77,12 @@ int main(int argc, char **argv) {
   btcheck_root root = BTCHECK_INIT;
   btcheck_check check = BTCHECK_INIT;
   btcheck_session session = BTCHECK_INIT, second = BTCHECK_INIT;
+  btcheck_holdings holdings = BTCHECK_INIT;
   CHECK(btcheck_version() == BTCHECK_VERSION);
   want_of_root(&root, BTCHECK_WRONG_HANDLE);
   want_of_session(&session, BTCHECK_WRONG_HANDLE);
+  want_of_holdings(&session, &holdings, BTCHECK_WRONG_HANDLE, BTCHECK_WRONG_HANDLE);
+  WANT(btcheck_holdings_new(&holdings, &session, 1), BTCHECK_WRONG_HANDLE);
   for (int round = 0; round < 3; round++) {
     WANT(btcheck_root_new(&root), BTCHECK_OK);
     WANT(btcheck_root_new(&root), BTCHECK_WRONG_HANDLE);
@@ -76,6 +98,14 @@ int main(int argc, char **argv) {
     want_of_check(&check, BTCHECK_WRONG_HANDLE);
     WANT(btcheck_check_new(&check, &session, 1000), BTCHECK_NO_SUCH);
     WANT(btcheck_check_new(&check, (btcheck_session *)(void *)&root, 0), BTCHECK_WRONG_HANDLE);
+    WANT(btcheck_check_new_pieces(&check, (btcheck_session *)(void *)&root, 0, 0, 1), BTCHECK_WRONG_HANDLE);
+    WANT(btcheck_check_new_pieces(&check, &session, 1000, 0, 1), BTCHECK_NO_SUCH);
+    WANT(btcheck_check_new_pieces(&check, &session, 0, 1, 1), BTCHECK_NO_SUCH);
+    WANT(btcheck_check_new_pieces(&check, &session, 0, 0, UINT64_MAX), BTCHECK_NO_SUCH);
+    WANT(btcheck_check_new_pieces(&check, &session, 0, 0, 1), BTCHECK_OK);
+    WANT(btcheck_check_new_pieces(&check, &session, 0, 0, 1), BTCHECK_WRONG_HANDLE);
+    WANT(btcheck_check_finish_bits(&check, &one, small, sizeof small), BTCHECK_TOO_SHORT);
+    btcheck_check_free(&check);
     WANT(btcheck_check_new(&check, &session, 0), BTCHECK_OK);
     WANT(btcheck_check_new(&check, &session, 0), BTCHECK_WRONG_HANDLE);
     WANT(btcheck_check_finish(&check, &one), BTCHECK_TOO_SHORT);
@@ -85,6 +115,21 @@ int main(int argc, char **argv) {
     want_of_check((btcheck_check *)(void *)&session, BTCHECK_WRONG_HANDLE);
     btcheck_check_free(&check);
     btcheck_check_free(&check);
+    want_of_holdings(&session, &holdings, BTCHECK_WRONG_HANDLE, BTCHECK_WRONG_HANDLE);
+    WANT(btcheck_holdings_new(&holdings, (btcheck_session *)(void *)&root, 1), BTCHECK_WRONG_HANDLE);
+    WANT(btcheck_holdings_new(&holdings, &session, 1), BTCHECK_OK);
+    WANT(btcheck_holdings_new(&holdings, &session, 1), BTCHECK_WRONG_HANDLE);
+    WANT(btcheck_session_settle(&session, &holdings, &run), BTCHECK_NOTHING);
+    want_of_holdings((btcheck_session *)(void *)&root, &holdings, BTCHECK_OK, BTCHECK_WRONG_HANDLE);
+    want_of_holdings(&session, (btcheck_holdings *)(void *)&root, BTCHECK_WRONG_HANDLE, BTCHECK_WRONG_HANDLE);
+    want_of_holdings(&session, (btcheck_holdings *)(void *)&second, BTCHECK_WRONG_HANDLE, BTCHECK_WRONG_HANDLE);
+    want_of_session((btcheck_session *)(void *)&holdings, BTCHECK_WRONG_HANDLE);
+    want_of_root((btcheck_root *)(void *)&holdings, BTCHECK_WRONG_HANDLE);
+    want_of_check((btcheck_check *)(void *)&holdings, BTCHECK_WRONG_HANDLE);
+    WANT(btcheck_holdings_look_at(&holdings, 1000), BTCHECK_OK);
+    WANT(btcheck_session_settle(&session, &holdings, &run), BTCHECK_NO_SUCH);
+    btcheck_holdings_free(&holdings);
+    btcheck_holdings_free(&holdings);
     /* A handle of the other kind, as a cast gives it. */
     want_of_session((btcheck_session *)(void *)&root, BTCHECK_WRONG_HANDLE);
     want_of_root((btcheck_root *)(void *)&session, BTCHECK_WRONG_HANDLE);

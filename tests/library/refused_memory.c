@@ -27,7 +27,7 @@ void *__wrap_malloc(size_t size) { return is_refused() ? NULL : __real_malloc(si
 
 void *__wrap_realloc(void *block, size_t size) { return is_refused() ? NULL : __real_realloc(block, size); }
 
-/* The status of a call that has only so many blocks. */
+/* The status of a call that has `blocks` blocks of memory and no more. */
 #define WITH(blocks, call) (left = (blocks), status = (call), left = -1, status)
 
 static uint8_t torrent[1 << 20], hashes[9][32], room[8][32], body[1 + 32 + 16 + 8 * 32];
@@ -111,6 +111,37 @@ int main(int argc, char **argv) {
   WANT(btcheck_session_answer(&session, &ask, room, 8, &count), BTCHECK_OK);
   CHECK(count == 8 && !memcmp(room, hashes + 1, sizeof room));
 
+  /* What is held stays as it is too. A file's blocks are the bytes 0 of each here, so they are false. */
+  static uint8_t zeros[2 * BTCHECK_BLOCK];
+  static btcheck_held held;
+  btcheck_holdings holdings = BTCHECK_INIT;
+  btcheck_run run;
+  reopen();
+  WANT(WITH(0, btcheck_holdings_new(&holdings, &session, 100)), BTCHECK_NO_MEMORY);
+  WANT(btcheck_session_held(&holdings, &count), BTCHECK_WRONG_HANDLE);
+  WANT(btcheck_holdings_new(&holdings, &session, 100), BTCHECK_OK);
+  for (long blocks = 0; WITH(blocks, btcheck_session_hold(&session, &holdings, 0, 0, zeros, sizeof zeros, &held)) == BTCHECK_OK; blocks++) {
+    if (held.blocks.statuses[0] == BTCHECK_HELD && held.blocks.statuses[1] == BTCHECK_HELD) break;
+    CHECK(held.blocks.statuses[1] == BTCHECK_NO_MEMORY && held.dropped[0].tree == UINT64_MAX);
+    WANT(btcheck_session_held(&holdings, &count), BTCHECK_OK);
+    CHECK(count == (held.blocks.statuses[0] == BTCHECK_HELD));
+    want_unchanged();
+    refused++;
+  }
+  CHECK(refused > 0);
+  refused = 0;
+  WANT(WITH(0, btcheck_session_settle(&session, &holdings, &run)), BTCHECK_NOTHING);
+  WANT(WITH(0, btcheck_session_held(&holdings, &count)), BTCHECK_OK);
+  CHECK(count == 2);
+  WANT(btcheck_session_take_hashes(&session, ask.root, 0, 0, 8, 0, given, 8, &count), BTCHECK_OK);
+  WANT(WITH(0, btcheck_holdings_look_at(&holdings, 0)), BTCHECK_OK);
+  for (int block = 0; block < 2; block++) {
+    WANT(WITH(0, btcheck_session_settle(&session, &holdings, &run)), BTCHECK_BAD_PIECE);
+    CHECK(run.first == (uint64_t)block && run.last == (uint64_t)block);
+  }
+  WANT(WITH(0, btcheck_session_settle(&session, &holdings, &run)), BTCHECK_NOTHING);
+  btcheck_holdings_free(&holdings);
+
   /* These take no memory. */
   btcheck_file file;
   WANT(WITH(0, btcheck_session_can_answer(&session, &ask)), BTCHECK_OK);
@@ -119,6 +150,10 @@ int main(int argc, char **argv) {
   WANT(WITH(0, btcheck_session_take_block(&session, 0, 0, body, 1, &known, &marked)), BTCHECK_P2_BAD_SIZE);
   WANT(WITH(0, btcheck_session_file(&session, 0, &file)), BTCHECK_OK);
   WANT(WITH(0, btcheck_session_path(&session, 0, body, sizeof body, &count)), BTCHECK_OK);
+  WANT(WITH(0, btcheck_session_name(&session, body, sizeof body, &count)), BTCHECK_OK);
+  WANT(WITH(0, btcheck_session_piece_length(&session, &count)), BTCHECK_OK);
+  WANT(WITH(0, btcheck_session_pieces(&session, &count)), BTCHECK_OK);
+  WANT(WITH(0, btcheck_session_is_hybrid(&session)), BTCHECK_NOTHING);
   btcheck_session_free(&session);
   return 0;
 }

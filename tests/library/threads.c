@@ -12,6 +12,7 @@ typedef struct set {
   btcheck_root root;
   btcheck_session session;
   btcheck_check check;
+  btcheck_holdings holdings;
   int step;
 } set;
 
@@ -24,6 +25,7 @@ static void fill(set *s) {
   WANT(btcheck_root_new(&s->root), BTCHECK_OK);
   WANT(btcheck_session_open(&s->session, torrent, torrent_len, false), BTCHECK_OK);
   WANT(btcheck_check_new(&s->check, &s->session, 0), BTCHECK_OK);
+  WANT(btcheck_holdings_new(&s->holdings, &s->session, 100), BTCHECK_OK);
 }
 
 static void push(set *s, size_t from, size_t to) {
@@ -35,6 +37,10 @@ static void note(set *s) {
   btcheck_ask ask;
   WANT(btcheck_session_want(&s->session, 0, 0, &ask), BTCHECK_OK);
   WANT(btcheck_session_note(&s->session, &ask), BTCHECK_OK);
+  btcheck_held held;
+  btcheck_run run;
+  WANT(btcheck_session_hold(&s->session, &s->holdings, 0, 0, content, BTCHECK_BLOCK, &held), BTCHECK_OK);
+  WANT(btcheck_session_settle(&s->session, &s->holdings, &run), BTCHECK_NOTHING);
 }
 
 static void finish(set *s) {
@@ -48,6 +54,7 @@ static void finish(set *s) {
 }
 
 static void empty(set *s) {
+  btcheck_holdings_free(&s->holdings);
   btcheck_check_free(&s->check);
   btcheck_session_free(&s->session);
   btcheck_root_free(&s->root);

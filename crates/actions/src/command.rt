@@ -1,7 +1,18 @@
 //! What the program can be asked for.
 ghost use Rattle.std.specs.Prelude.{◌≤◌};
 
+use crate::creation::NewTorrent;
+
 /// What the command line asks for.
+#[derive(Drop)]
+pub struct Asked<'a> {
+    /// What is to be done.
+    pub action: Action<'a>,
+    /// Whether the system's reasons are printed on standard error, whatever that is.
+    pub reasons: bool,
+}
+
+/// What is to be done.
 #[derive(Drop)]
 pub enum Action<'a> {
     /// Print a file's length and pieces root.
@@ -17,6 +28,8 @@ pub enum Action<'a> {
         torrent: &'a str,
         /// Whether its lines are printed as JSON objects.
         json: bool,
+        /// Whether sums and sizes are printed too.
+        long: bool,
     },
     /// Check that a folder holds a torrent's files.
     Check(Check<'a>),
@@ -25,7 +38,7 @@ pub enum Action<'a> {
     /// Join what all parts of a check reported.
     Join(Join<'a>),
     /// Make a torrent of a folder.
-    Create(Create<'a>),
+    Create(NewTorrent<'a>),
     /// Replay the messages that peers sent.
     Replay(Replay<'a>),
     /// Make a record of form 2 of one of form 1.
@@ -45,6 +58,10 @@ pub struct Check<'a> {
     pub json: bool,
     /// Whether the runs of bad pieces of a file are printed after its line.
     pub bad: bool,
+    /// Whether the files are printed that the torrent does not name.
+    pub extra: bool,
+    /// Whether a summary is printed on standard error.
+    pub summary: bool,
 }
 
 /// Which part of a check is made.
@@ -56,6 +73,8 @@ pub struct CheckPart<'a> {
     pub dir: &'a str,
     /// The part.
     pub part: Part,
+    /// Whether the runs of bad pieces of a file are printed after its line.
+    pub bad: bool,
 }
 
 /// One of so many parts of a check. The number is at least 1 and at most the count.
@@ -78,21 +97,17 @@ pub struct Join<'a> {
     pub reports: Vec<&'a str>,
 }
 
-/// Of what a torrent is made, and how.
+/// Of what a torrent is made once its piece length is known.
 #[derive(Drop)]
 pub struct Create<'a> {
     /// The folder's path.
     pub dir: &'a str,
-    /// The path of the file that takes the torrent.
-    pub out: &'a str,
     /// The display name.
     pub name: &'a str,
     /// The piece length in bytes.
     pub piece_length: u64,
     /// Whether it is to serve clients of version 1 too.
     pub hybrid: bool,
-    /// The globs of what is left out.
-    pub exclude: Vec<&'a str>,
 }
 
 /// What is replayed, and how.
@@ -108,6 +123,10 @@ pub struct Replay<'a> {
     pub seed: Option<&'a str>,
     /// The path of the file that takes the answers, if they are wanted.
     pub answers: Option<&'a str>,
+    /// Whether the zeros behind the end of a file are cut away.
+    pub padded: bool,
+    /// Whether blocks that cannot be proved yet are held until their piece is whole.
+    pub pieces: bool,
     /// Whether its lines are printed as JSON objects.
     pub json: bool,
 }

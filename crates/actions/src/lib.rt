@@ -2,5 +2,7 @@
 #![tactic(auto)]
 
 mod command;
+mod creation;
 
-pub use command::{Action, Check, CheckPart, Convert, Create, Join, Part, Replay};
+pub use command::{Action, Asked, Check, CheckPart, Convert, Create, Join, Part, Replay};
+pub use creation::{NewTorrent, PieceLength, auto_length};

@@ -3,6 +3,7 @@ pub mod Digits
 pub mod Turns
 pub mod Scanned
 pub mod Values
+pub mod Thrifty
 pub mod Out
 pub mod SoundItems
 pub mod Sound

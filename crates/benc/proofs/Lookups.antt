@@ -35,6 +35,11 @@ pub map_if : (f : Bencode → List ℕ) (b : Bool) (v : Bencode) (t : List ℕ) 
 map_if f true v t e = ap (λ x. Some x) (sym e)
 map_if f false v t e = refl
 
+-- there are none yet of the value under a key that is asked for
+pub none_yet : (asked : Option (List ℕ)) → IfSome asked (λ key. ◌≡◌ {A = Option (List ℕ)} None (option_map spelling (under key (pairs_of []))))
+none_yet None = tt
+none_yet (Some key) = refl
+
 -- the bytes of the value under a key that is asked for, where a pair comes at the end
 pub span_push : (asked : Option (List ℕ)) (old known new : Option (Bor (List ℕ))) (ps : List Seen) (k : List ℕ) (v : Bencode) (t : List ℕ)
     → IfSome asked (λ key. option_copied old ≡ option_map spelling (under key (pairs_of ps)))

@@ -12,6 +12,10 @@ use Rattle.benc.specs.declared.value.Value.{Value, Int, Bytes, List as ListOf, D
 use Rattle.benc.specs.declared.value.Pair.{Pair}
 use Rattle.benc.proofs.Turns.{is_other}
 
+-- bytes whose first one is known begin with it
+pub at_front : {b first : ℕ} {bytes rest : List ℕ} → bytes ≡ first ∷ rest → first ≡ b → bytes ≡ b ∷ rest
+at_front {rest = rest} is same = is ∙ ap (λ x. x ∷ rest) same
+
 -- a list and a dictionary, by how many may be open
 abbrev pub lists : ℕ → List ℕ → List ℕ → Parsed Items
 lists zero start rest = Err (TooDeep, start)

@@ -5,6 +5,7 @@ pub mod MemDevices
 pub mod Ascii
 pub mod Value
 pub mod View
+pub mod Thrift
 pub mod Spelling
 pub mod Text
 pub mod Lookup

@@ -9,6 +9,7 @@ ghost use Rattle.benc.specs.Parser.{IsSpanOf, StandsIn};
 ghost use Rattle.benc.specs.Spelling.{Spells, max_open};
 ghost use Rattle.benc.specs.Storing.{Keeps};
 ghost use Rattle.benc.specs.Text.{spelling, IsCanonical};
+ghost use Rattle.benc.specs.Thrift.{IsThrifty};
 ghost use Rattle.benc.specs.Value.{Bencode};
 ghost use Rattle.benc.specs.View.{view};
 ghost use Rattle.benc.specs.declared.fault.FaultKind.{FaultKind};
@@ -39,6 +40,7 @@ pub fn decode<'a>(alloc: Global, input: &'a [u8]) -> Result<Value<'a>, Fault>
     // What `encode` writes of a value gives that value.
     ensures encoded { (v : Bencode) → IsCanonical v → input.now ≡ spelling v
         → UnlessNoMemory result (λ w. view w ≡ v) }
+    ensures room { IfOk result IsThrifty }
 {
     let (v, _) = parse_whole(alloc, input, None)?;
     Ok(v)
@@ -58,6 +60,7 @@ pub fn decode_front<'a>(alloc: Global, input: &'a [u8]) -> Result<(Value<'a>, us
     // It answers the one fault that the input has.
     ensures first { (kind : FaultKind) (offset : ℕ) → Stops input.now kind offset
         → AnswersFault result kind offset }
+    ensures room { IfOk result (λ x. IsThrifty x.0) }
 {
     let mut store = Store::new(alloc);
     let (v, _, used) = parse_front(&mut store, input, None)?;
@@ -85,6 +88,7 @@ pub fn decode_with_span<'a>(
     // It answers the one fault that the input has.
     ensures first { (kind : FaultKind) (offset : ℕ) → Fails input.now kind offset
         → AnswersFault result kind offset }
+    ensures room { IfOk result (λ x. IsThrifty x.0) }
 {
     parse_whole(alloc, input, Some(key))
 }
@@ -129,6 +133,7 @@ fn parse_whole<'a>(
         → UnlessNoMemory result (λ x. view x.0 ≡ v) }
     ensures first { (kind : FaultKind) (offset : ℕ) → Fails input.now kind offset
         → AnswersFault result kind offset }
+    ensures room { IfOk result (λ x. IsThrifty x.0) }
 {
     let mut store = Store::new(alloc);
     let (v, span, used) = parse_front(&mut store, input, asked)?;
@@ -156,6 +161,7 @@ fn parse_front<'a>(
     ensures span { Keeps store.new → IfOk result (λ x. IsSpanOf asked.entry (view x.0) x.1) }
     ensures memory { IfOk result (λ _. IfSome (option_copied store.new.refused)
         (Reaches max_open input.now)) }
+    ensures room { IfOk result (λ x. IsThrifty x.0) }
     ensures fault { IfErr result
         (λ f. (f.kind ≢ FaultKind.NoMemory) × Stops input.now f.kind f.offset) }
 {

@@ -1,5 +1,5 @@
 //! From bytes to a value.
-ghost use Rattle.std.specs.Prelude.{◌≡◌, ◌<◌, length, IfOk, IfSome, Ok};
+ghost use Rattle.std.specs.Prelude.{◌≡◌, ◌<◌, length, IfOk, IfSome, Ok, vec_capacity};
 ghost use Rattle.std.specs.Option.{option_copied};
 ghost use Rattle.benc.specs.Lookup.{if_key};
 ghost use Rattle.benc.specs.Value.{dict};
@@ -7,6 +7,7 @@ ghost use Rattle.benc.specs.View.{view, items_view, pairs_view};
 ghost use Rattle.benc.specs.Fails.{Reaches};
 ghost use Rattle.benc.specs.Parser.{GrowsForItem, GrowsForPair, IsSpanOf, ReadsOn, items_behind, pairs_behind, value_at};
 ghost use Rattle.benc.specs.Storing.{Keeps, Refused};
+ghost use Rattle.benc.specs.Thrift.{AreThrifty, ArePairsThrifty, IsSmallRoom, IsThrifty};
 
 use crate::fault::FaultKind;
 use crate::scan::{integer, key, split_front, string};
@@ -30,6 +31,7 @@ pub(crate) fn value<'a>(
     ensures shorter { IfOk result (λ x. length x.2.now < length bytes.now) }
     ensures memory { IfOk result (λ _. Refused store.old store.new (Reaches room bytes.now)) }
     ensures span { Keeps store.new → IfOk result (λ x. IsSpanOf asked.entry (view x.0) x.1) }
+    ensures room { IfOk result (λ x. IsThrifty x.0) }
 {
     let Some((first, rest)) = split_front(bytes) else {
         return Err(Stop {
@@ -87,6 +89,8 @@ fn items<'a>(
     ensures shorter { IfOk result (λ x. length x.1.now < length bytes.now) }
     ensures memory { IfOk result
         (λ _. Refused store.old store.new (GrowsForItem room start.now bytes.now)) }
+    ensures room { IfOk result (λ x. IsSmallRoom (vec_capacity x.0) (length x.0.items)
+        × AreThrifty x.0.items) }
 {
     let mut found = Vec::new(store.alloc);
     let mut rest = bytes;
@@ -125,6 +129,8 @@ fn pairs<'a>(
         (λ _. Refused store.old store.new (GrowsForPair room start.now bytes.now)) }
     ensures span { Keeps store.new
         → IfOk result (λ x. IsSpanOf asked.entry (dict (pairs_view x.0.items)) x.1) }
+    ensures room { IfOk result (λ x. IsSmallRoom (vec_capacity x.0) (length x.0.items)
+        × ArePairsThrifty x.0.items) }
 {
     let mut found = Vec::new(store.alloc);
     let mut span = None;

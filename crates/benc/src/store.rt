@@ -1,9 +1,10 @@
 //! Memory for what is decoded.
-ghost use Rattle.std.specs.Prelude.{◌≡◌, ◌++◌, ◌∷◌, [], IfSome, MatchResult, OnOk};
+ghost use Rattle.std.specs.Prelude.{◌≡◌, ◌⊎◌, ◌++◌, ◌∷◌, [], IfSome, MatchResult, length, vec_capacity};
 ghost use Rattle.std.specs.Option.{option_copied};
 ghost use Rattle.benc.specs.Fails.{Opens, Reaches};
 ghost use Rattle.benc.specs.Spelling.{max_open};
 ghost use Rattle.benc.specs.Storing.{Keeps, Refused};
+ghost use Rattle.benc.specs.Thrift.{IsSmallRoom};
 ghost use Rattle.benc.specs.declared.fault.FaultKind.{FaultKind};
 
 use crate::fault::{Fault, FaultKind};
@@ -32,7 +33,11 @@ impl<'a> Store<'a> {
     /// Puts one more at the end of the list or dictionary that begins at `start`.
     pub(crate) fn push<T: Drop>(&mut self, start: &'a [u8], found: &mut Vec<T>, item: T)
         ensures kept { Keeps self.new → found.new.items ≡ found.old.items ++ item ∷ [] }
+        ensures lost { (found.new.items ≡ found.old.items ++ item ∷ [])
+            ⊎ (found.new.items ≡ found.old.items) }
         ensures refused { Refused self.old self.new (λ s. s ≡ start.now) }
+        ensures room { IsSmallRoom (vec_capacity found.old) (length found.old.items)
+            → IsSmallRoom (vec_capacity found.new) (length found.new.items) }
     {
         if self.refused.is_none() && push(found, item).is_err() {
             self.refused = Some(start);
@@ -57,7 +62,10 @@ impl<'a> Store<'a> {
 
 // Puts one more at the end. The room doubles from one on: most lists and dictionaries are short.
 fn push<T: Drop>(found: &mut Vec<T>, item: T) -> Result<(), AllocError>
-    ensures { OnOk result (found.new.items ≡ found.old.items ++ item ∷ []) }
+    ensures items { MatchResult result (λ _. found.new.items ≡ found.old.items ++ item ∷ [])
+        (λ _. found.new.items ≡ found.old.items) }
+    ensures room { IsSmallRoom (vec_capacity found.old) (length found.old.items)
+        → IsSmallRoom (vec_capacity found.new) (length found.new.items) }
 {
     if found.len() == found.capacity() {
         found.reserve_exact(found.len().max(1))?;

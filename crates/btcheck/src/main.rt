@@ -20,7 +20,7 @@ fn all_arguments(rt: &HostRuntime) -> Result<Vec<String>, Fault<'static>> {
 // Does what the arguments ask for, or says why they were refused. Gives the exit status.
 fn run<'a>(system: &System, rt: &HostRuntime, line: &'a [&'a str]) -> Result<u8, Fault<'a>> {
     match action(rt.alloc(), line) {
-        Ok(action) => perform(system, &action),
+        Ok(asked) => perform(system, &asked),
         Err(error) => match explain(rt, &error) {
             Ok(status) => Ok(status),
             Err(ExplainFault::NoMemory) => Err(Fault::NoMemory),

@@ -1,114 +1,194 @@
--- What the check of a file takes, and what it finds at the end.
-use Rattle.std.proofs.Common.{◌≡◌, ◌≢◌, ℕ, ◌+◌, ◌-◌, ◌≤◌, List, [], Option, Some, None, refl, sym, ap, ◌∙◌, subst, subst₂, arith}
-use Rattle.hashtree.specs.Difference.{IsComparison}
-use Rattle.hashtree.specs.PieceCheck.{BeginsCheck, FeedsCheck, IsFedCheck, IsFirstBadNode}
+-- What the check of a file's pieces takes, and what it finds at the end.
+use Rattle.std.proofs.Common.{inl, inr, ◌≡◌, ◌≢◌, ◌↔◌, ℕ, ◌+◌, ◌-◌, ◌*◌, ◌^◌, ◌<◌, ◌≤◌, min, List, [], length, slice_range}
+use Rattle.std.proofs.Common.{Option, Some, None, refl, sym, ap, ◌∙◌, subst, subst₂, arith}
+use Rattle.std.specs.Prelude.{option_map}
+use Rattle.std.proofs.lemmas.Bool.{cases_lt}
+use Rattle.std.proofs.lemmas.List.{take_all}
+use Rattle.std.proofs.lemmas.Option.{none-some, same_Some, slice_get_past}
+use Rattle.hashtree.specs.Bits.{bit_of}
+use Rattle.hashtree.specs.Difference.{IsComparison, IsFirstDifference}
+use Rattle.hashtree.specs.Judging.{IsJudgedRow}
+use Rattle.hashtree.specs.PieceCheck.{BeginsRow, IsFedRow}
 use Rattle.hashtree.specs.PieceCheck as pieces
-use Rattle.hashtree.specs.RootBuilder.{EndsWith, Feeds, IsFed, byte_count}
-use Rattle.hashtree.specs.Tree.{layer_of, root_of}
+use Rattle.hashtree.specs.Pieces.{piece_nodes}
+use Rattle.hashtree.specs.Tree.{block_count, first_pad, height, root_of}
 use Rattle.hashtree.specs.declared.piece_check.PieceCheck.{PieceCheck}
-use Rattle.hashtree.specs.declared.root.RootBuilder.{RootBuilder}
+use Rattle.hashtree.proofs.Complete.{length-complete_nodes}
+use Rattle.hashtree.proofs.Marking.{length-piece_nodes}
+use Rattle.hashtree.proofs.PieceNodes.{layer_is_pieces}
 use Rattle.opening.specs.Description.{TreeEntry}
-use Rattle.btcheck_c.specs.FileChecks.{BeginsAnew, FeedsFile, IsFileVerdict, IsRootVerdict, bytes_left}
+use Rattle.opening.specs.PieceLayers.{piece_layer}
+use Rattle.btcheck_c.specs.FileChecks.{BeginsAnew, IsAgainst, IsFileVerdict, IsFirstFrom, IsRootVerdict, IsSameRow}
+use Rattle.btcheck_c.specs.FileChecks.{bytes_left, row_length}
 use Rattle.btcheck_c.specs.declared.file_check.FileCheck.{FileCheck}
-use Rattle.btcheck_c.specs.declared.file_check.FileCheck.TheVariants as check
-use Rattle.btcheck_c.specs.declared.file_check.ManyPieces.{ManyPieces}
-use Rattle.btcheck_c.specs.declared.file_check.OnePiece.{OnePiece}
+use Rattle.btcheck_c.proofs.FilePieces.{layer_inside, not_complete, one_node, one_whole, only_piece, range_whole, some_length, whole_file}
 
--- ---- further bytes
+-- ---- beginning anew
 
--- bytes that are no more than are still to come fit into the file
-pub fits_one : (old : FileCheck) (o : OnePiece) (n : ℕ) → old ≡ check.One o → n ≤ bytes_left old → byte_count o.builder + n ≤ o.length
-fits_one old o n is low =
-    let left : n ≤ o.length - byte_count o.builder = subst (λ w. n ≤ bytes_left w) is low in
-    let given : byte_count o.builder ≤ o.length = o.given in
-    omega arith
+-- the same pieces are compared with the same hashes
+against_as : (p : ℕ) (e : TreeEntry) (from to : ℕ) (c d : FileCheck) → IsSameRow c d → IsAgainst p e from to c → IsAgainst p e from to d
+against_as p e from to c d same a = record {
+  order = a.order;
+  within = a.within;
+  first = same.first ∙ a.first;
+  size = same.shape ∙ a.size;
+  layer = same.layer ∙ a.layer;
+  one = λ short. let o = a.one short in (same.root ∙ o.0, ap length same.hashes ∙ o.1);
+  many = λ longer. let m = a.many longer in record { root = same.root ∙ m.root; listed = m.listed; hashes = same.hashes ∙ m.hashes };
+}
 
-pub fits_many : (old : FileCheck) (m : ManyPieces) (n : ℕ) → old ≡ check.Many m → n ≤ bytes_left old → pieces.byte_count m.check + n ≤ m.shape
-fits_many old m n is low =
-    let left : n ≤ m.shape - pieces.byte_count m.check = subst (λ w. n ≤ bytes_left w) is low in
-    let given : pieces.byte_count m.check ≤ m.shape = m.given in
-    omega arith
-
-pub feeds_one : (old : FileCheck) (o n : OnePiece) (bytes : List ℕ) → old ≡ check.One o → Feeds o.builder bytes n.builder → n.root ≡ o.root
-    → n.length ≡ o.length → FeedsFile old bytes (check.One n)
-feeds_one old o n bytes is feeds root long = subst (λ w. FeedsFile w bytes (check.One n)) (sym is) (record {
-  count = feeds.count;
-  against = λ p e against. (against.0, (long ∙ against.1.0, root ∙ against.1.1));
-  given = feeds.fed;
-})
-
-pub feeds_many : (old : FileCheck) (m n : ManyPieces) (bytes : List ℕ) → old ≡ check.Many m → FeedsCheck m.check bytes n.check → n.shape ≡ m.shape
-    → n.layer ≡ m.layer → n.hashes.now ≡ m.hashes.now → FeedsFile old bytes (check.Many n)
-feeds_many old m n bytes is feeds shape layer hashes = subst (λ w. FeedsFile w bytes (check.Many n)) (sym is) (record {
-  count = feeds.count;
-  against = λ p e against. (against.0, (shape ∙ against.1.0, (layer ∙ against.1.1.0, hashes ∙ against.1.1.1)));
-  given = feeds.fed;
-})
+-- the same pieces, and nothing was given yet
+pub anew : (c d : FileCheck) (fresh : PieceCheck) → d.check ≡ fresh → BeginsRow c.shape c.layer c.hashes.now fresh → IsSameRow c d → BeginsAnew c d
+anew c d fresh made begun same = λ p e from to a. record {
+  against = against_as p e from to c d same a;
+  count = ap pieces.byte_count made ∙ begun.count;
+  given = λ good clear. subst (λ k. IsFedRow k good []) (sym made) (begun.fed good clear);
+}
 
 -- ---- the end
 
 -- nothing is still to come
-pub whole_one : (old : FileCheck) (o : OnePiece) → old ≡ check.One o → bytes_left old ≡ 0 → byte_count o.builder ≡ o.length
-whole_one old o is none =
-    let left : o.length - byte_count o.builder ≡ 0 = subst (λ w. bytes_left w ≡ 0) is none in
-    let given : byte_count o.builder ≤ o.length = o.given in
-    omega arith
+pub whole_of : (c : FileCheck) → bytes_left c ≡ 0 → pieces.byte_count c.check ≡ c.shape
+whole_of c none = let given : pieces.byte_count c.check ≤ c.shape = c.given in omega (arith, none, given)
 
-pub whole_many : (old : FileCheck) (m : ManyPieces) → old ≡ check.Many m → bytes_left old ≡ 0 → pieces.byte_count m.check ≡ m.shape
-whole_many old m is none =
-    let left : m.shape - pieces.byte_count m.check ≡ 0 = subst (λ w. bytes_left w ≡ 0) is none in
-    let given : pieces.byte_count m.check ≤ m.shape = m.given in
-    omega arith
+-- a check by a root is of the only piece of a file, and any other is of a longer file
+by_which : (p : ℕ) (e : TreeEntry) (from to : ℕ) (c : FileCheck) (r : List ℕ) → IsAgainst p e from to c → c.root ≡ Some r → (e.length ≤ p) × (r ≡ e.root)
+by_which p e from to c r a is = elim (cases_lt p e.length) [
+  | inl longer ↦ absurd (none-some r (sym (a.many longer).root ∙ is))
+  | inr short ↦ (short, same_Some r e.root (sym is ∙ (a.one short).0))
+]
 
--- what the root says of the one piece is the verdict
-judged_one : (o : OnePiece) (ended : RootBuilder) (len : ℕ) (root : List ℕ) (bad : Option ℕ) → byte_count o.builder ≡ o.length → ended ≡ o.builder
-    → len ≡ byte_count ended → EndsWith ended len root
-    → ((e : TreeEntry) (content : List ℕ) → o.root ≡ e.root → root ≡ root_of content → IsRootVerdict e content bad) → IsFileVerdict (check.One o) bad
-judged_one o ended len root bad all same long ends judged = λ p e content against fed.
-    let end = ends content (subst (λ b. IsFed b content) (sym same) fed) in record {
-      whole = sym end.0 ∙ long ∙ ap byte_count same ∙ all ∙ against.1.0;
-      one = λ short. judged e content against.1.1 end.1;
-      many = λ longer. absurd (omega (arith, longer, against.0));
+is_longer : (p : ℕ) (e : TreeEntry) (from to : ℕ) (c : FileCheck) → IsAgainst p e from to c → c.root ≡ None → p < e.length
+is_longer p e from to c a is = elim (cases_lt p e.length) [ inl longer ↦ longer | inr short ↦ absurd (none-some e.root (sym is ∙ (a.one short).0)) ]
+
+-- no bit is set before the end of an only piece
+none_marked : (c : FileCheck) (marked content : List ℕ) → length c.hashes.now ≡ 1 → length content ≤ c.shape → IsFedRow c.check marked content
+    → (k : ℕ) → k < 8 * length marked → bit_of marked k ≡ 1 → ⊥
+none_marked c marked content lone few given k lt is =
+    let one : c.shape ≤ 16384 * 2 ^ c.layer = one_node c.shape c.layer (sym c.whole ∙ lone) in
+    let at = ((given.marked k lt).0 is).0 in
+    let count = length-complete_nodes content (pieces.chosen_layer c.check) in
+    not_complete (length content) (pieces.chosen_layer c.check) k
+    (subst (λ l. length content ≤ 16384 * 2 ^ l) (sym c.layer_is) (omega (arith, one, few))) (omega (arith, at, count))
+
+-- what the root says of the only piece is the verdict
+pub by_root : (c : FileCheck) (r : List ℕ) (ended : PieceCheck) (n : ℕ) (root lent marked good : List ℕ) (place bad : Option ℕ) → c.root ≡ Some r
+    → bytes_left c ≡ 0 → ended ≡ c.check
+    → ((content : List ℕ) → IsFedRow ended [] content → (n ≡ length content) × (root ≡ root_of content)
+    × IsJudgedRow (pieces.chosen_layer ended) (pieces.given_hashes ended) content lent place)
+    → ((e : TreeEntry) (content : List ℕ) → r ≡ e.root → root ≡ root_of content → IsRootVerdict e content bad)
+    → (((k : ℕ) → k < 8 * length marked → bit_of marked k ≡ 1 → ⊥) → (k : ℕ) → k < 8 * length good → (bit_of good k ≡ 1) ↔ ((k ≡ 0) × (root ≡ r)))
+    → IsFileVerdict c marked good bad
+by_root c r ended n root lent marked good place bad is none same ends judged bits = λ p e from to content a given.
+    let which = by_which p e from to c r a is in let short : e.length ≤ p = which.0 in
+    let lone = only_piece p e.length from to (some_length p e.length (omega (arith, a.order, a.within))) short a.order a.within in
+    let fed : IsFedRow c.check [] content = record { fed = given.fed; whole = given.whole; nodes = given.nodes; marked = λ k lt. absurd (omega (arith, lt)) } in
+    let end = ends content (subst (λ k. IsFedRow k [] content) (sym same) fed) in
+    let size : length content ≡ c.shape = sym given.fed.at.length_is ∙ whole_of c none in
+    let all : row_length p e.length from to ≡ e.length =
+    subst₂ (λ x y. row_length p e.length x y ≡ e.length) (sym lone.0) (sym lone.1) (one_whole p e.length short) in
+    let blank = none_marked c marked content (a.one short).1 (omega (arith, size)) given in
+    record {
+      whole = size ∙ a.size;
+      bits = record {
+        one = λ _ k lt. let b = bits blank k lt in (λ i. let h = b.0 i in (h.0, sym end.1 ∙ h.1 ∙ which.1), λ i. b.1 (i.0, end.1 ∙ i.1 ∙ sym which.1));
+        many = λ longer. absurd (omega (arith, longer, short));
+      };
+      first = λ longer. absurd (omega (arith, longer, short));
+      file = λ none all_pieces. record {
+        whole = size ∙ a.size ∙ all;
+        one = λ _. judged e content which.1 end.1;
+        many = λ longer. absurd (omega (arith, longer, short));
+      };
     }
 
-pub good_one : (old : FileCheck) (o : OnePiece) (ended : RootBuilder) (len : ℕ) (root : List ℕ) → old ≡ check.One o → bytes_left old ≡ 0
-    → ended ≡ o.builder → len ≡ byte_count ended → EndsWith ended len root → root ≡ o.root → IsFileVerdict old None
-good_one old o ended len root is none same long ends equal = subst (λ w. IsFileVerdict w None) (sym is)
-    (judged_one o ended len root None (whole_one old o is none) same long ends (λ e content trees found. sym found ∙ equal ∙ trees))
+-- the root is the tree's, and the first bit is set
+pub good_root : (c : FileCheck) (r : List ℕ) (ended : PieceCheck) (n : ℕ) (root lent marked good : List ℕ) (place : Option ℕ) → c.root ≡ Some r
+    → bytes_left c ≡ 0 → ended ≡ c.check
+    → ((content : List ℕ) → IsFedRow ended [] content → (n ≡ length content) × (root ≡ root_of content)
+    × IsJudgedRow (pieces.chosen_layer ended) (pieces.given_hashes ended) content lent place)
+    → root ≡ r → length good ≡ length marked → (0 < length marked → bit_of good 0 ≡ 1) → ((k : ℕ) → k ≢ 0 → bit_of good k ≡ bit_of marked k)
+    → IsFileVerdict c marked good None
+good_root c r ended n root lent marked good place is none same ends equal size set others =
+    by_root c r ended n root lent marked good place None is none same ends (λ e content trees found. sym found ∙ equal ∙ trees)
+    (λ blank k lt. elim (cases_lt 0 k) [
+      | inl more ↦ (
+        λ i. absurd (blank k (omega (arith, lt, size)) (sym (others k (λ zero. absurd (omega (arith, more, zero)))) ∙ i)),
+        λ i. absurd (omega (arith, more, i.0)),
+      )
+      | inr first ↦
+          let is_first : k ≡ 0 = omega (arith, first) in (
+            λ i. (is_first, equal),
+            λ i. subst (λ j. bit_of good j ≡ 1) (sym is_first) (set (omega (arith, lt, size))),
+          )
+    ])
 
-pub bad_one : (old : FileCheck) (o : OnePiece) (ended : RootBuilder) (len : ℕ) (root : List ℕ) → old ≡ check.One o → bytes_left old ≡ 0
-    → ended ≡ o.builder → len ≡ byte_count ended → EndsWith ended len root → root ≢ o.root → IsFileVerdict old (Some 0)
-bad_one old o ended len root is none same long ends differs = subst (λ w. IsFileVerdict w (Some 0)) (sym is)
-    (judged_one o ended len root (Some 0) (whole_one old o is none) same long ends
-    (λ e content trees found. (refl, λ equal. differs (found ∙ equal ∙ sym trees))))
+-- it is another, and the bits stay
+pub bad_root : (c : FileCheck) (r : List ℕ) (ended : PieceCheck) (n : ℕ) (root lent good : List ℕ) (place : Option ℕ) → c.root ≡ Some r → bytes_left c ≡ 0
+    → ended ≡ c.check
+    → ((content : List ℕ) → IsFedRow ended [] content → (n ≡ length content) × (root ≡ root_of content)
+    × IsJudgedRow (pieces.chosen_layer ended) (pieces.given_hashes ended) content lent place)
+    → root ≢ r → IsFileVerdict c good good (Some 0)
+bad_root c r ended n root lent good place is none same ends differs = by_root c r ended n root lent good good place (Some 0) is none same ends
+    (λ e content trees found. (refl, λ equal. differs (found ∙ equal ∙ sym trees)))
+    (λ blank k lt. (λ i. absurd (blank k lt i), λ i. absurd (differs i.1)))
 
--- and so is what the nodes say of more pieces
-pub judged_many : (old : FileCheck) (m : ManyPieces) (ended : PieceCheck) (bad : Option ℕ) → old ≡ check.Many m → bytes_left old ≡ 0 → ended ≡ m.check
-    → ((content : List ℕ) → IsFedCheck ended content → IsFirstBadNode ended content bad) → IsFileVerdict old bad
-judged_many old m ended bad is none same ends = subst (λ w. IsFileVerdict w bad) (sym is) (λ p e content against fed.
-    let found : IsFirstBadNode m.check content bad = subst (λ k. IsFirstBadNode k content bad) same
-    (ends content (subst (λ k. IsFedCheck k content) (sym same) fed)) in record {
-      whole = sym fed.fed.at.length_is ∙ whole_many old m is none ∙ against.1.0;
-      one = λ short. absurd (omega (arith, short, against.0));
-      many = λ longer. subst₂ (λ layer hashes. IsComparison (layer_of content layer) hashes bad) (m.layer_is ∙ against.1.1.0)
-          (m.hashes_are ∙ against.1.1.1) found.compared;
-    })
+-- a place at which two lists of one length differ is one of theirs
+difference_within : (xs ys : List (List ℕ)) (i : ℕ) → length xs ≡ length ys → IsFirstDifference xs ys i → i < length ys
+difference_within xs ys i same first = elim (cases_lt i (length ys)) [
+  | inl lt ↦ lt
+  | inr past ↦ absurd (first.differs (slice_get_past xs i (omega (arith, past, same)) ∙ sym (slice_get_past ys i past)))
+]
 
--- ---- beginning anew
+-- the place in a row is the number in the file
+first_from : (first from : ℕ) (nodes hashes : List (List ℕ)) (place bad : Option ℕ) → first ≡ from → first + length hashes ≤ 2 ^ 47
+    → length nodes ≡ length hashes → IsComparison nodes hashes place → bad ≡ option_map (λ n. min (first + n) (2 ^ 64 - 1)) place
+    → IsFirstFrom from nodes hashes bad
+first_from first from nodes hashes None bad same few count compared is = subst (IsFirstFrom from nodes hashes) (sym is) compared
+first_from first from nodes hashes (Some i) bad same few count compared is =
+    let inside : i < length hashes = difference_within nodes hashes i count compared in
+    subst (IsFirstFrom from nodes hashes) (sym is) (i, omega (arith, inside, few, same), compared)
 
-pub anew_one : (old : FileCheck) (o n : OnePiece) (fresh : RootBuilder) → old ≡ check.One o → n.builder ≡ fresh → byte_count fresh ≡ 0 → IsFed fresh []
-    → n.root ≡ o.root → n.length ≡ o.length → BeginsAnew old (check.One n)
-anew_one old o n fresh is made count fed root long = subst (λ w. BeginsAnew w (check.One n)) (sym is) (λ p e against. record {
-  against = (against.0, (long ∙ against.1.0, root ∙ against.1.1));
-  count = ap byte_count made ∙ count;
-  given = subst (λ b. IsFed b []) (sym made) fed;
-})
+comparison_from : (nodes hashes : List (List ℕ)) (bad : Option ℕ) → IsFirstFrom 0 nodes hashes bad → IsComparison nodes hashes bad
+comparison_from nodes hashes None found = found
+comparison_from nodes hashes (Some i) found =
+    let same : found.0 ≡ i = omega (arith, found.1) in
+    subst (IsFirstDifference nodes hashes) same found.2
 
-pub anew_many : (old : FileCheck) (m n : ManyPieces) (fresh : PieceCheck) → old ≡ check.Many m → n.check ≡ fresh
-    → BeginsCheck m.shape m.layer m.hashes.now fresh → n.shape ≡ m.shape → n.layer ≡ m.layer → n.hashes.now ≡ m.hashes.now
-    → BeginsAnew old (check.Many n)
-anew_many old m n fresh is made begun shape layer hashes = subst (λ w. BeginsAnew w (check.Many n)) (sym is) (λ p e against. record {
-  against = (against.0, (shape ∙ against.1.0, (layer ∙ against.1.1.0, hashes ∙ against.1.1.1)));
-  count = ap pieces.byte_count made ∙ begun.count;
-  given = subst (λ k. IsFedCheck k []) (sym made) begun.fed;
-})
+-- what the nodes say of pieces of a longer file is the verdict
+pub by_layer : (c : FileCheck) (ended : PieceCheck) (n : ℕ) (root marked good : List ℕ) (place bad : Option ℕ) → c.root ≡ None → bytes_left c ≡ 0
+    → ended ≡ c.check
+    → ((content : List ℕ) → IsFedRow ended marked content → (n ≡ length content) × (root ≡ root_of content)
+    × IsJudgedRow (pieces.chosen_layer ended) (pieces.given_hashes ended) content good place)
+    → bad ≡ option_map (λ k. min (c.first + k) (2 ^ 64 - 1)) place → IsFileVerdict c marked good bad
+by_layer c ended n root marked good place bad is none same ends numbered = λ p e from to content a given.
+    let longer : p < e.length = is_longer p e from to c a is in let m = a.many longer in
+    let hashes : List (List ℕ) = slice_range e.layer from to in
+    let layer : ℕ = piece_layer p in
+    let layer_is : pieces.chosen_layer ended ≡ layer = ap pieces.chosen_layer same ∙ c.layer_is ∙ a.layer in
+    let hashes_are : pieces.given_hashes ended ≡ hashes = ap pieces.given_hashes same ∙ c.hashes_are ∙ m.hashes in
+    let found : IsJudgedRow layer hashes content good place = subst₂ (λ l h. IsJudgedRow l h content good place) layer_is hashes_are
+    (ends content (subst (λ k. IsFedRow k marked content) (sym same) given)).2 in
+    let size : length content ≡ c.shape = sym given.fed.at.length_is ∙ whole_of c none in
+    let count : length (piece_nodes layer content) ≡ length hashes = length-piece_nodes layer content
+    ∙ ap (λ k. first_pad (block_count k) layer) size ∙ ap (first_pad (block_count c.shape)) (sym a.layer) ∙ sym c.whole ∙ ap length m.hashes in
+    let compared : IsComparison (piece_nodes layer content) hashes place = subst (λ h. IsComparison (piece_nodes layer content) h place)
+    (take_all (length (piece_nodes layer content)) hashes (omega (arith, count))) found.compared in
+    let first : IsFirstFrom from (piece_nodes layer content) hashes bad = first_from c.first from (piece_nodes layer content) hashes place bad a.first
+    (omega (arith, c.few, ap length m.hashes)) count compared numbered in record {
+      whole = size ∙ a.size;
+      bits = record { one = λ short. absurd (omega (arith, short, longer)); many = λ _. found.marked };
+      first = λ _. first;
+      file = λ begins ends_there.
+          let all : length content ≡ e.length = size ∙ a.size ∙ subst₂ (λ x y. row_length p e.length x y ≡ e.length) (sym begins) (sym ends_there)
+          (whole_file p e.length (some_length p e.length (omega (arith, a.order, a.within)))) in
+          let low : layer ≤ height (block_count (length content)) = layer_inside p e.length p (length content) layer longer refl all refl in
+          let listed : hashes ≡ e.layer = ap (λ x. slice_range e.layer x to) begins ∙ ap (slice_range e.layer 0) (ends_there ∙ sym m.listed)
+          ∙ range_whole e.layer in
+          record {
+            whole = all;
+            one = λ short. absurd (omega (arith, short, longer));
+            many = λ _. subst₂ (λ xs ys. IsComparison xs ys bad) (sym (layer_is_pieces content layer low)) listed
+                (comparison_from (piece_nodes layer content) hashes bad (subst (λ x. IsFirstFrom x (piece_nodes layer content) hashes bad) begins first));
+          };
+    }

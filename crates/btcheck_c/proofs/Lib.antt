@@ -1,7 +1,10 @@
 -- What proofs share.
 pub mod TwoFields
 pub mod Throughs
+pub mod HeldBlocks
+pub mod Placing
 pub mod FilePieces
 pub mod FileVerdicts
+pub mod EarlyEnds
 pub mod Starting
 pub mod Moving

@@ -8,23 +8,24 @@ use Rattle.opening.specs.Seen.{tree_entry}
 use Rattle.opening.specs.Sound.{IsSound, IsSoundFile, IsSoundTree}
 use Rattle.opening.specs.declared.torrent.TreeInfo.{TreeInfo}
 use Rattle.owned_sessions.proofs.Trees.{tree_at}
-use Rattle.btcheck_c.specs.CheckCalls.{CheckKept, CheckStarted, StartsCheck}
-use Rattle.btcheck_c.specs.declared.file_check.FileCheck.{FileCheck}
+use Rattle.btcheck_c.specs.Holds.{Kept, Started}
+use Rattle.btcheck_c.specs.declared.thing.Kind.{Kind}
 use Rattle.btcheck_c.specs.declared.thing.Thing.{Thing}
 
 -- the other handle holds nothing
-pub start_none : (n : ℕ) (o h o' : Option Thing) → h ≡ None → o ≡ None → o' ≡ None → CheckStarted n o h 1 h o'
-start_none n None None o' free none left = (Err 1, (refl, left), (refl, refl))
-start_none n (Some t) None o' free none left = absurd (none-some t (sym none))
-start_none n o (Some t) o' free none left = absurd (none-some t (sym free))
+pub start_none : {A : Type 0} (wrap : A → Kind) (P : Kind → Result A ℕ → Kind → Type 0) (o h o' : Option Thing) → h ≡ None → o ≡ None → o' ≡ None
+    → Started wrap P o h 1 h o'
+start_none wrap P None None o' free none left = (Err 1, ((refl, left), (refl, refl)))
+start_none wrap P (Some t) None o' free none left = absurd (none-some t (sym none))
+start_none wrap P o (Some t) o' free none left = absurd (none-some t (sym free))
 
 -- the thing that was taken out of the other handle is lent to the call, and goes back
-pub start_done : (n : ℕ) (o h h' o' : Option Thing) (t lent t' : Thing) (made : Result FileCheck ℕ) (status : ℕ) → h ≡ None → Some t ≡ o
-    → o' ≡ Some t' → lent ≡ t → StartsCheck n lent.kind made t'.kind → CheckKept made status h' → CheckStarted n o h status h' o'
-start_done n o None h' o' t lent t' made status free is is' same starts kept =
-    subst (λ w. CheckStarted n w None status h' o') is
-    (made, (t', is', subst (λ (s : Thing). StartsCheck n s.kind made t'.kind) same starts), kept)
-start_done n o (Some u) h' o' t lent t' made status free is is' same starts kept = absurd (none-some u (sym free))
+pub start_done : {A : Type 0} (wrap : A → Kind) (P : Kind → Result A ℕ → Kind → Type 0) (o h h' o' : Option Thing) (t lent t' : Thing) (made : Result A ℕ)
+    (status : ℕ) → h ≡ None → Some t ≡ o → o' ≡ Some t' → lent ≡ t → P lent.kind made t'.kind → Kept wrap made status h' → Started wrap P o h status h' o'
+start_done wrap P o None h' o' t lent t' made status free is is' same starts kept =
+    subst (λ w. Started wrap P w None status h' o') is
+    (made, ((t', is', subst (λ (s : Thing). P s.kind made t'.kind) same starts), kept))
+start_done wrap P o (Some u) h' o' t lent t' made status free is is' same starts kept = absurd (none-some u (sym free))
 
 -- the tree of a file is there, and sound
 pub info_inside : (d : Description) (infos : List TreeInfo) (f : FileEntry) (n : ℕ) → map tree_entry infos ≡ d.trees → IsSoundFile d f → f.tree ≡ Some n

@@ -1,6 +1,6 @@
 -- What the calls about hash requests do: what to ask for, noting it, taking its answer, answering
 -- one.
-use Rattle.std.specs.Prelude.{◌≡◌, ◌⊎◌, ◌↔◌, IsTrue, ℕ, ◌<◌, Bool, true, false, List, length, take, Option, Some, None, Result}
+use Rattle.std.specs.Prelude.{◌≡◌, ◌⊎◌, ◌↔◌, IsTrue, ℕ, ◌<◌, Bool, true, false, List, ◌++◌, drop, length, Option, Some, None, Result}
 use Rattle.partial_tree.specs.declared.refusal.HashRefusal.{HashRefusal}
 use Rattle.partial_tree.specs.declared.answer.Answer.{Answer}
 use Rattle.partial_tree.specs.declared.answer.Answer.TheVariants as answer
@@ -52,20 +52,20 @@ TakesAnswer ask hashes places k status k' = IsWrongKind k status k'
 
 -- ---- a request of a peer
 
--- the hashes at the front of the room; or how much room they need; or that there are none; or
--- memory was refused
-abbrev pub HasAnswer : Option Answer → ℕ → List Hash → ℕ → Type 0
-HasAnswer (Some (answer.Hashes hashes)) status room count = (count ≡ length hashes.items)
-    × (((status ≡ 0) × (take count room ≡ hashes.items))
+-- the hashes at the front of the room, whose other places stay; or how much room they need; or that
+-- there are none; or memory was refused
+abbrev pub HasAnswer : Option Answer → ℕ → List Hash → List Hash → ℕ → Type 0
+HasAnswer (Some (answer.Hashes hashes)) status room room' count = (count ≡ length hashes.items)
+    × (((status ≡ 0) × (room' ≡ hashes.items ++ drop count room))
     ⊎ ((status ≡ 7) × (length room < count)))
-HasAnswer (Some answer.Reject) status room count = status ≡ 6
-HasAnswer None status room count = status ≡ 2
+HasAnswer (Some answer.Reject) status room room' count = status ≡ 6
+HasAnswer None status room room' count = status ≡ 2
 
 -- the session answers a request, and stays as it is
-abbrev pub Answers : Ask → List Hash → ℕ → Kind → ℕ → Kind → Type 0
-Answers ask room count (kind.Session S) status k' = (k' ≡ kind.Session S)
-    × ((given : Option Answer) × HasAnswer given status room count × AnswerGiven S ask given)
-Answers ask room count k status k' = IsWrongKind k status k'
+abbrev pub Answers : Ask → List Hash → List Hash → ℕ → Kind → ℕ → Kind → Type 0
+Answers ask room room' count (kind.Session S) status k' = (k' ≡ kind.Session S)
+    × ((given : Option Answer) × HasAnswer given status room room' count × AnswerGiven S ask given)
+Answers ask room room' count k status k' = IsWrongKind k status k'
 
 -- whether the session can answer a request, and it stays as it is
 abbrev pub AnswersIfAnswered : Ask → Kind → ℕ → Kind → Type 0

@@ -1,8 +1,14 @@
--- What the calls for the check of one file's bytes do (BEP 52, "pieces root" and "piece layers").
-use Rattle.std.specs.Prelude.{◌≡◌, ◌⊎◌, ℕ, ◌<◌, ◌≤◌, List, length, slice_get, Option, Some, None, Result, Ok, Err}
+-- What the calls for the check of a file's bytes do, of all its pieces or of some in a row (BEP 52,
+-- "pieces root" and "piece layers").
+use Rattle.std.specs.Prelude.{◌≡◌, ◌⊎◌, ℕ, ◌<◌, ◌≤◌, List, [], length, slice_get, Option, Some, None, Result, Ok, Err}
+use Rattle.std.specs.Borrow.{Bor}
 use Rattle.opening.specs.Description.{Description, FileEntry, TreeEntry}
-use Rattle.btcheck_c.specs.FileChecks.{BeginsAnew, BeginsFile, FeedsFile, IsFileVerdict, bytes_left}
-use Rattle.btcheck_c.specs.Holds.{IsWrongKind, IsFilled}
+use Rattle.opening.specs.Seen.{tree_entry}
+use Rattle.opening.specs.Sound.{IsSoundTree}
+use Rattle.opening.specs.declared.torrent.TreeInfo.{TreeInfo}
+use Rattle.pieces.specs.Pieces.{pieces_of}
+use Rattle.btcheck_c.specs.FileChecks.{BeginsAnew, BeginsFile, FeedsFile, IsFileVerdict, IsShortFile, bytes_left}
+use Rattle.btcheck_c.specs.Holds.{IsWrongKind, Started}
 use Rattle.btcheck_c.specs.declared.file_check.FileCheck.{FileCheck}
 use Rattle.btcheck_c.specs.declared.thing.Thing.{Thing}
 use Rattle.btcheck_c.specs.declared.thing.Kind.{Kind}
@@ -18,44 +24,64 @@ pub record IsFileTree (d : Description) (n : ℕ) (e : TreeEntry) : Type 0 where
   pub tree_is : file.tree ≡ Some tree
   pub entry_is : slice_get d.trees tree ≡ Some e
 
--- a check of file n that was given nothing; or the file has no tree, or there is none
-abbrev pub ChecksFile : Description → ℕ → Result FileCheck ℕ → Type 0
-ChecksFile d n (Ok c) = (e : TreeEntry) × IsFileTree d n e × BeginsFile d.piece_length e c
-ChecksFile d n (Err status) = ((status ≡ 5) × (length d.files ≤ n))
+-- file n has no tree, or there is none
+abbrev pub HasNoTree : Description → ℕ → ℕ → Type 0
+HasNoTree d n status = ((status ≡ 5) × (length d.files ≤ n))
     ⊎ ((status ≡ 4) × ((f : FileEntry) × (slice_get d.files n ≡ Some f) × (f.tree ≡ None)))
+
+-- the tree of file n, which is sound; or there is none
+abbrev pub FindsTree : Description → ℕ → Result (Bor TreeInfo) ℕ → Type 0
+FindsTree d n (Ok tree) = IsFileTree d n (tree_entry tree.now)
+    × IsSoundTree d.piece_length (tree_entry tree.now)
+FindsTree d n (Err status) = HasNoTree d n status
+
+-- a check of file n that was given nothing; or there is none
+abbrev pub ChecksFile : Description → ℕ → Result FileCheck ℕ → Type 0
+ChecksFile d n (Ok c) = (e : TreeEntry) × IsFileTree d n e
+    × BeginsFile d.piece_length e 0 (pieces_of d.piece_length e.length) c
+ChecksFile d n (Err status) = HasNoTree d n status
+
+-- the file has these pieces, from one number up to another, at least one
+abbrev pub HasPieces : Description → TreeEntry → ℕ → ℕ → Type 0
+HasPieces d e from to = (from < to) × (to ≤ pieces_of d.piece_length e.length)
+
+-- a check of these pieces of file n that was given nothing; or there is none, or it has not these
+-- pieces
+abbrev pub ChecksPieces : Description → ℕ → ℕ → ℕ → Result FileCheck ℕ → Type 0
+ChecksPieces d n from to (Ok c) = (e : TreeEntry) × IsFileTree d n e × HasPieces d e from to
+    × BeginsFile d.piece_length e from to c
+ChecksPieces d n from to (Err status) = HasNoTree d n status
+    ⊎ ((status ≡ 5) × ((e : TreeEntry) × IsFileTree d n e × ¬ HasPieces d e from to))
 
 -- so the session's torrent has it, and the session stays as it is
 abbrev pub StartsCheck : ℕ → Kind → Result FileCheck ℕ → Kind → Type 0
 StartsCheck n (kind.Session S) made k' = (k' ≡ kind.Session S) × ChecksFile S.torrent n made
 StartsCheck n k made k' = (made ≡ Err 1) × (k' ≡ k)
 
--- what a check was begun from: the handle that held it holds it again
-abbrev pub CheckBegun : ℕ → Option Thing → Result FileCheck ℕ → Option Thing → Type 0
-CheckBegun n None made o' = (made ≡ Err 1) × (o' ≡ None)
-CheckBegun n (Some t) made o' = (t' : Thing) × (o' ≡ Some t') × StartsCheck n t.kind made t'.kind
+abbrev pub StartsPieces : ℕ → ℕ → ℕ → Kind → Result FileCheck ℕ → Kind → Type 0
+StartsPieces n from to (kind.Session S) made k' =
+    (k' ≡ kind.Session S) × ChecksPieces S.torrent n from to made
+StartsPieces n from to k made k' = (made ≡ Err 1) × (k' ≡ k)
 
--- a check that was begun is in the handle, or memory was refused; or the status says why there is
--- none. Then the handle is empty as before
-abbrev pub CheckKept : Result FileCheck ℕ → ℕ → Option Thing → Type 0
-CheckKept (Ok c) status o' = IsFilled (kind.Check c) None status o'
-CheckKept (Err s) status o' = (status ≡ s) × (o' ≡ None)
-
--- a check of file n of the session's torrent is in the empty handle, or is not; one that is full
--- stays as it is, and so does the session
-abbrev pub CheckStarted : ℕ → Option Thing → Option Thing → ℕ → Option Thing → Option Thing
-    → Type 0
-CheckStarted n o (Some t) status h' o' = (status ≡ 1) × ((h' ≡ Some t) × (o' ≡ o))
-CheckStarted n o None status h' o' =
-    (made : Result FileCheck ℕ) × CheckBegun n o made o' × CheckKept made status h'
+-- a check that P says of the session is in the empty handle, or is not; one that is full stays as
+-- it is, and so does the session
+abbrev pub CheckStarted : (Kind → Result FileCheck ℕ → Kind → Type 0) → Option Thing
+    → Option Thing → ℕ → Option Thing → Option Thing → Type 0
+CheckStarted P = Started kind.Check P
 
 -- ---- the file's bytes
 
--- the check takes the bytes; or they are more than are still to come, and it stays as it is
-abbrev pub PushesFile : List ℕ → Kind → ℕ → Kind → Type 0
-PushesFile bytes (kind.Check c) status k' =
-    ((status ≡ 0) × ((c' : FileCheck) × (k' ≡ kind.Check c') × FeedsFile c bytes c'))
+-- the check takes the bytes, and marks the bits; or they are more than are still to come, and check
+-- and bits stay as they are
+abbrev pub PushesBits : List ℕ → List ℕ → List ℕ → Kind → ℕ → Kind → Type 0
+PushesBits bytes marked marks (kind.Check c) status k' =
+    ((status ≡ 0) × ((c' : FileCheck) × (k' ≡ kind.Check c') × FeedsFile c marked bytes c' marks))
     ⊎ ((status ≡ 3) × ((bytes_left c < length bytes) × (k' ≡ kind.Check c)))
-PushesFile bytes k status k' = IsWrongKind k status k'
+PushesBits bytes marked marks k status k' = IsWrongKind k status k'
+
+-- so it is where no bits are lent
+abbrev pub PushesFile : List ℕ → Kind → ℕ → Kind → Type 0
+PushesFile bytes = PushesBits bytes [] []
 
 -- ---- the end
 
@@ -64,11 +90,22 @@ abbrev pub HasBadPiece : Option ℕ → ℕ → ℕ → Type 0
 HasBadPiece None status piece = status ≡ 0
 HasBadPiece (Some i) status piece = (status ≡ 10) × (piece ≡ i)
 
--- the check of the whole file has this verdict, and begins anew; or bytes are still to come, and it
--- stays as it is
+-- the check has this verdict, and begins anew
+abbrev pub HasEnded : List ℕ → List ℕ → ℕ → FileCheck → ℕ → Kind → Type 0
+HasEnded marked good piece c status k' = (bytes_left c ≡ 0) × ((bad : Option ℕ)
+    × HasBadPiece bad status piece × (IsFileVerdict c marked good bad
+    × ((c' : FileCheck) × (k' ≡ kind.Check c') × BeginsAnew c c')))
+
+-- the check has a verdict; or bytes are still to come, and it stays as it is
 abbrev pub EndsCheck : ℕ → Kind → ℕ → Kind → Type 0
-EndsCheck piece (kind.Check c) status k' =
-    ((bytes_left c ≡ 0) × ((bad : Option ℕ) × HasBadPiece bad status piece × (IsFileVerdict c bad
-    × ((c' : FileCheck) × (k' ≡ kind.Check c') × BeginsAnew c c'))))
+EndsCheck piece (kind.Check c) status k' = HasEnded [] [] piece c status k'
     ⊎ ((status ≡ 9) × ((0 < bytes_left c) × (k' ≡ kind.Check c)))
 EndsCheck piece k status k' = IsWrongKind k status k'
+
+-- the check has a verdict; or bytes are still to come, the bits tell which pieces are whole and
+-- good, and it begins anew
+abbrev pub EndsBits : List ℕ → List ℕ → ℕ → Kind → ℕ → Kind → Type 0
+EndsBits marked good piece (kind.Check c) status k' = HasEnded marked good piece c status k'
+    ⊎ ((status ≡ 9) × ((0 < bytes_left c) × (IsShortFile c marked good
+    × ((c' : FileCheck) × (k' ≡ kind.Check c') × BeginsAnew c c'))))
+EndsBits marked good piece k status k' = IsWrongKind k status k'

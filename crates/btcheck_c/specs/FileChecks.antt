@@ -1,56 +1,84 @@
--- What a check of one file's bytes was given, and what it finds (BEP 52, "pieces root" and "piece
--- layers").
-use Rattle.std.specs.Prelude.{◌≡◌, ◌≢◌, ℕ, ◌+◌, ◌-◌, ◌<◌, ◌≤◌, List, [], ◌++◌, length, Option, MatchOption}
-use Rattle.hashtree.specs.Difference.{IsComparison}
-use Rattle.hashtree.specs.PieceCheck.{IsFedCheck}
+-- What a check of some of a file's pieces in a row was given, and what it finds (BEP 52, "pieces
+-- root" and "piece layers"). A file of one piece is compared by its root.
+use Rattle.std.specs.Prelude.{◌≡◌, ◌≢◌, ◌↔◌, ℕ, ◌+◌, ◌-◌, ◌*◌, ◌<◌, ◌≤◌, List, [], ◌++◌, length, min}
+use Rattle.std.specs.Prelude.{slice_range, Option, Some, None, MatchOption}
+use Rattle.hashtree.specs.Bits.{AreClear, AreMarked, bit_of}
+use Rattle.hashtree.specs.Difference.{IsComparison, IsFirstDifference}
+use Rattle.hashtree.specs.PieceCheck.{IsFedRow}
 use Rattle.hashtree.specs.PieceCheck as pieces
-use Rattle.hashtree.specs.RootBuilder.{IsFed}
-use Rattle.hashtree.specs.RootBuilder as root
+use Rattle.hashtree.specs.Pieces.{piece_nodes}
 use Rattle.hashtree.specs.Tree.{layer_of, root_of}
 use Rattle.opening.specs.Description.{TreeEntry}
 use Rattle.opening.specs.PieceLayers.{piece_layer}
+use Rattle.piece_marks.specs.Marks.{AreMarkedWhole}
+use Rattle.pieces.specs.Pieces.{pieces_of}
 use Rattle.btcheck_c.specs.declared.file_check.FileCheck.{FileCheck}
-use Rattle.btcheck_c.specs.declared.file_check.FileCheck.TheVariants as check
 
 -- how many bytes the check was given
 abbrev pub bytes_given : FileCheck → ℕ
-bytes_given (check.One o) = root.byte_count o.builder
-bytes_given (check.Many m) = pieces.byte_count m.check
-
--- the length of the file
-abbrev pub whole_length : FileCheck → ℕ
-whole_length (check.One o) = o.length
-whole_length (check.Many m) = m.shape
+bytes_given c = pieces.byte_count c.check
 
 -- how many bytes are still to come
 abbrev pub bytes_left : FileCheck → ℕ
-bytes_left c = whole_length c - bytes_given c
+bytes_left c = c.shape - bytes_given c
 
--- the check was given this content
-abbrev pub IsGiven : FileCheck → List ℕ → Type 0
-IsGiven (check.One o) content = IsFed o.builder content
-IsGiven (check.Many m) content = IsFedCheck m.check content
+-- how many bytes the pieces from one number up to another have, of a file of n bytes
+abbrev pub row_length : ℕ → ℕ → ℕ → ℕ → ℕ
+row_length piece_length n from to = min (piece_length * to) n - piece_length * from
 
--- the check compares a file with this tree of a torrent with this piece length: by its root if it
--- has one piece, else by the nodes of its pieces
-abbrev pub IsAgainst : ℕ → TreeEntry → FileCheck → Type 0
-IsAgainst piece_length e (check.One o) =
-    (e.length ≤ piece_length) × ((o.length ≡ e.length) × (o.root ≡ e.root))
-IsAgainst piece_length e (check.Many m) = (piece_length < e.length) × ((m.shape ≡ e.length)
-    × ((m.layer ≡ piece_layer piece_length) × (m.hashes.now ≡ e.layer)))
+-- the check was given this content, and these bits tell which of its pieces are complete and good
+abbrev pub IsGiven : FileCheck → List ℕ → List ℕ → Type 0
+IsGiven c good content = IsFedRow c.check good content
 
--- nothing was given yet to the check of a file with this tree
-pub record BeginsFile (piece_length : ℕ) (e : TreeEntry) (c : FileCheck) : Type 0 where
-  pub against : IsAgainst piece_length e c
+-- the check compares with this root the one piece of the row, whose hash it does not look at
+abbrev pub IsByRoot : TreeEntry → FileCheck → Type 0
+IsByRoot e c = (c.root ≡ Some e.root) × (length c.hashes.now ≡ 1)
+
+-- the check compares these pieces of a file with their hashes in the piece layer
+pub record IsByLayer (piece_length : ℕ) (e : TreeEntry) (from to : ℕ) (c : FileCheck)
+    : Type 0 where
+  pub root : c.root ≡ None
+  pub listed : length e.layer ≡ pieces_of piece_length e.length
+  pub hashes : c.hashes.now ≡ slice_range e.layer from to
+
+-- the check compares these pieces of a file with this tree, of a torrent with this piece length:
+-- the only one by its root, else each by its node
+pub record IsAgainst (piece_length : ℕ) (e : TreeEntry) (from to : ℕ) (c : FileCheck)
+    : Type 0 where
+  pub order : from < to
+  pub within : to ≤ pieces_of piece_length e.length
+  pub first : c.first ≡ from
+  pub size : c.shape ≡ row_length piece_length e.length from to
+  pub layer : c.layer ≡ piece_layer piece_length
+  pub one : e.length ≤ piece_length → IsByRoot e c
+  pub many : piece_length < e.length → IsByLayer piece_length e from to c
+
+-- another check is of the same pieces
+pub record IsSameRow (old new : FileCheck) : Type 0 where
+  pub first : new.first ≡ old.first
+  pub shape : new.shape ≡ old.shape
+  pub layer : new.layer ≡ old.layer
+  pub hashes : new.hashes.now ≡ old.hashes.now
+  pub root : new.root ≡ old.root
+
+-- nothing was given yet to the check of these pieces of a file with this tree
+pub record BeginsFile (piece_length : ℕ) (e : TreeEntry) (from to : ℕ) (c : FileCheck)
+    : Type 0 where
+  pub against : IsAgainst piece_length e from to c
   pub count : bytes_given c ≡ 0
-  pub given : IsGiven c []
+  pub given : (good : List ℕ) → AreClear good → IsGiven c good []
 
--- the check was given these further bytes
-pub record FeedsFile (old : FileCheck) (bytes : List ℕ) (new : FileCheck) : Type 0 where
+-- the check was given these further bytes, and marked the bits
+pub record FeedsFile (old : FileCheck) (marked : List ℕ) (bytes : List ℕ) (new : FileCheck)
+    (marks : List ℕ) : Type 0 where
   pub count : bytes_given new ≡ bytes_given old + length bytes
-  pub against : (piece_length : ℕ) (e : TreeEntry) → IsAgainst piece_length e old
-      → IsAgainst piece_length e new
-  pub given : (content : List ℕ) → IsGiven old content → IsGiven new (content ++ bytes)
+  pub against : (piece_length : ℕ) (e : TreeEntry) (from to : ℕ)
+      → IsAgainst piece_length e from to old → IsAgainst piece_length e from to new
+  pub bits : length marks ≡ length marked
+  pub given : (content : List ℕ) → IsGiven old marked content
+      → IsGiven new marks (content ++ bytes)
+
+-- ---- the end
 
 -- the content has the tree's root, or its only piece is bad
 abbrev pub IsRootVerdict : TreeEntry → List ℕ → Option ℕ → Type 0
@@ -69,12 +97,57 @@ pub record IsContentVerdict (piece_length : ℕ) (e : TreeEntry) (content : List
   pub one : e.length ≤ piece_length → IsRootVerdict e content bad
   pub many : piece_length < e.length → IsPieceVerdict piece_length e content bad
 
--- so it is of each content that the check was given
-abbrev pub IsFileVerdict : FileCheck → Option ℕ → Type 0
-IsFileVerdict c bad = (piece_length : ℕ) (e : TreeEntry) (content : List ℕ)
-    → IsAgainst piece_length e c → IsGiven c content → IsContentVerdict piece_length e content bad
+-- the nodes of a row are these hashes, or this is the number in the file of the first that is not
+abbrev pub IsFirstFrom : ℕ → List (List ℕ) → List (List ℕ) → Option ℕ → Type 0
+IsFirstFrom from nodes hashes None = nodes ≡ hashes
+IsFirstFrom from nodes hashes (Some i) =
+    (place : ℕ) × (i ≡ from + place) × IsFirstDifference nodes hashes place
 
--- the check of the same file, which was given nothing
+-- bit k tells whether piece k of the row is the torrent's, as a bitfield has it (BEP 3); those past
+-- the last piece are clear
+pub record AreBitsOf (piece_length : ℕ) (e : TreeEntry) (from to : ℕ) (content good : List ℕ)
+    : Type 0 where
+  pub one : e.length ≤ piece_length → (k : ℕ) → k < 8 * length good
+      → (bit_of good k ≡ 1) ↔ ((k ≡ 0) × (root_of content ≡ e.root))
+  pub many : piece_length < e.length → AreMarked good (slice_range e.layer from to)
+      (piece_nodes (piece_layer piece_length) content)
+
+-- The content is these pieces of a file: this is the first bad one, if there is one, and the bits
+-- tell which are good. All pieces of the file are the file.
+pub record IsRowVerdict (piece_length : ℕ) (e : TreeEntry) (from to : ℕ) (content good : List ℕ)
+    (bad : Option ℕ) : Type 0 where
+  pub whole : length content ≡ row_length piece_length e.length from to
+  pub bits : AreBitsOf piece_length e from to content good
+  pub first : piece_length < e.length
+      → IsFirstFrom from (piece_nodes (piece_layer piece_length) content)
+      (slice_range e.layer from to) bad
+  pub file : from ≡ 0 → to ≡ pieces_of piece_length e.length
+      → IsContentVerdict piece_length e content bad
+
+-- so it is of each content that the check was given
+abbrev pub IsFileVerdict : FileCheck → List ℕ → List ℕ → Option ℕ → Type 0
+IsFileVerdict c marked good bad = (piece_length : ℕ) (e : TreeEntry) (from to : ℕ)
+    (content : List ℕ) → IsAgainst piece_length e from to c → IsGiven c marked content
+    → IsRowVerdict piece_length e from to content good bad
+
+-- ---- an early end
+
+-- the content ends before these pieces do; the only piece of a file is then not there, and of more
+-- pieces the bits tell which are whole and have their hash
+pub record IsShortRow (piece_length : ℕ) (e : TreeEntry) (from to : ℕ) (content good : List ℕ)
+    : Type 0 where
+  pub short : length content < row_length piece_length e.length from to
+  pub one : e.length ≤ piece_length → AreClear good
+  pub many : piece_length < e.length
+      → AreMarkedWhole good (slice_range e.layer from to) (piece_layer piece_length) content
+
+-- so it is of each content that the check was given
+abbrev pub IsShortFile : FileCheck → List ℕ → List ℕ → Type 0
+IsShortFile c marked good = (piece_length : ℕ) (e : TreeEntry) (from to : ℕ) (content : List ℕ)
+    → IsAgainst piece_length e from to c → IsGiven c marked content
+    → IsShortRow piece_length e from to content good
+
+-- the check of the same pieces, which was given nothing
 abbrev pub BeginsAnew : FileCheck → FileCheck → Type 0
-BeginsAnew old new = (piece_length : ℕ) (e : TreeEntry) → IsAgainst piece_length e old
-    → BeginsFile piece_length e new
+BeginsAnew old new = (piece_length : ℕ) (e : TreeEntry) (from to : ℕ)
+    → IsAgainst piece_length e from to old → BeginsFile piece_length e from to new

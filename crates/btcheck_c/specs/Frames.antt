@@ -12,13 +12,13 @@ use Rattle.btcheck_c.specs.Holds.{IsWrongKind}
 use Rattle.btcheck_c.specs.declared.thing.Kind.{Kind}
 use Rattle.btcheck_c.specs.declared.thing.Kind.TheVariants as kind
 
--- the body means a message of which the session makes this
-pub record MessageTaken (body : List ℕ) (out : VerdictInfo) (S : SessionSeen) (status : ℕ)
+-- the body means a message of which the session makes this; what its kind does not name stays
+pub record MessageTaken (body : List ℕ) (old out : VerdictInfo) (S : SessionSeen) (status : ℕ)
     (S' : SessionSeen) : Type 0 where
   pub message : Message
   pub means : MeansMessage body message
   pub verdict : Verdict
-  pub is : HasVerdict verdict status out
+  pub is : HasVerdict verdict status old out
   pub step : IsSafeStep S message verdict S'
 
 -- a message of a known kind has a wrong size
@@ -26,13 +26,13 @@ abbrev pub HasWrongSize : List ℕ → Type 0
 HasWrongSize body = (id : ℕ) × (len : ℕ) × Means body (frame.BadSize id len)
 
 -- the session takes the message of a body; or it is none, and the session stays as it is
-abbrev pub FrameTaken : List ℕ → VerdictInfo → SessionSeen → ℕ → SessionSeen → Type 0
-FrameTaken body out S status S' = MessageTaken body out S status S'
+abbrev pub FrameTaken : List ℕ → VerdictInfo → VerdictInfo → SessionSeen → ℕ → SessionSeen → Type 0
+FrameTaken body old out S status S' = MessageTaken body old out S status S'
     ⊎ (((status ≡ 8) × (HasWrongSize body × (S' ≡ S)))
     ⊎ ((status ≡ 3) × ((2 ^ 32 ≤ length body) × (S' ≡ S))))
 
 -- so does the session of a handle
-abbrev pub TakesFrame : List ℕ → VerdictInfo → Kind → ℕ → Kind → Type 0
-TakesFrame body out (kind.Session S) status k' =
-    (S' : SessionSeen) × (k' ≡ kind.Session S') × FrameTaken body out S status S'
-TakesFrame body out k status k' = IsWrongKind k status k'
+abbrev pub TakesFrame : List ℕ → VerdictInfo → VerdictInfo → Kind → ℕ → Kind → Type 0
+TakesFrame body old out (kind.Session S) status k' =
+    (S' : SessionSeen) × (k' ≡ kind.Session S') × FrameTaken body old out S status S'
+TakesFrame body old out k status k' = IsWrongKind k status k'

@@ -1,5 +1,5 @@
 -- What a call does to what a handle of C holds.
-use Rattle.std.specs.Prelude.{◌≡◌, ◌⊎◌, ℕ, Option, Some, None}
+use Rattle.std.specs.Prelude.{◌≡◌, ◌⊎◌, ℕ, Option, Some, None, Result, Ok, Err}
 use Rattle.btcheck_c.specs.declared.thing.Thing.{Thing}
 use Rattle.btcheck_c.specs.declared.thing.Kind.{Kind}
 
@@ -23,3 +23,34 @@ IsFilled k o status o' =
 -- a thing of another kind than the call is for: it stays as it is, and the status is 1
 abbrev pub IsWrongKind : Kind → ℕ → Kind → Type 0
 IsWrongKind k status k' = (status ≡ 1) × (k' ≡ k)
+
+-- ---- two handles
+
+-- a call on two handles: one of them holds nothing, both stay as they are, and the status is 1; or
+-- each holds a thing, before and after, and P says what the status is and what they are then
+abbrev pub ThroughBoth : (Kind → Kind → ℕ → Kind → Kind → Type 0) → Option Thing → Option Thing
+    → ℕ → Option Thing → Option Thing → Type 0
+ThroughBoth P None q status o' q' = (status ≡ 1) × ((o' ≡ None) × (q' ≡ q))
+ThroughBoth P (Some t) None status o' q' = (status ≡ 1) × ((o' ≡ Some t) × (q' ≡ None))
+ThroughBoth P (Some t) (Some u) status o' q' = (t' : Thing) × ((u' : Thing) × ((o' ≡ Some t')
+    × ((q' ≡ Some u') × P t.kind u.kind status t'.kind u'.kind)))
+
+-- what a thing was begun from: the handle that held it holds it again
+abbrev pub Begun : {A : Type 0} → (Kind → Result A ℕ → Kind → Type 0) → Option Thing → Result A ℕ
+    → Option Thing → Type 0
+Begun P None made o' = (made ≡ Err 1) × (o' ≡ None)
+Begun P (Some t) made o' = (t' : Thing) × (o' ≡ Some t') × P t.kind made t'.kind
+
+-- a thing that was begun is in the handle, or memory was refused; or the status says why there is
+-- none. Then the handle is empty as before
+abbrev pub Kept : {A : Type 0} → (A → Kind) → Result A ℕ → ℕ → Option Thing → Type 0
+Kept wrap (Ok a) status o' = IsFilled (wrap a) None status o'
+Kept wrap (Err s) status o' = (status ≡ s) × (o' ≡ None)
+
+-- a thing that P says of what another handle holds is in the empty handle, or is not; one that is
+-- full stays as it is, and so does the other one
+abbrev pub Started : {A : Type 0} → (A → Kind) → (Kind → Result A ℕ → Kind → Type 0)
+    → Option Thing → Option Thing → ℕ → Option Thing → Option Thing → Type 0
+Started wrap P o (Some t) status h' o' = (status ≡ 1) × ((h' ≡ Some t) × (o' ≡ o))
+Started {A} wrap P o None status h' o' =
+    (made : Result A ℕ) × (Begun P o made o' × Kept wrap made status h')

@@ -5,8 +5,10 @@ pub mod RootCalls
 pub mod SessionCalls
 pub mod AskCalls
 pub mod Files
+pub mod Torrents
 pub mod Blocks
 pub mod Frames
 pub mod FileChecks
 pub mod CheckCalls
+pub mod Held
 pub mod Version

@@ -11,13 +11,14 @@ use Rattle.opening.specs.Refusals.{RefusesTorrent}
 use Rattle.node_maps.specs.Digest.{Hash}
 use Rattle.partial_tree.specs.declared.refusal.HashRefusal.{HashRefusal}
 use Rattle.partial_tree.specs.declared.refusal.BlockRefusal.{BlockRefusal}
+use Rattle.partial_tree.specs.declared.refusal.PieceRefusal.{PieceRefusal}
 use Rattle.session.specs.Session.{SessionSeen}
 use Rattle.session.specs.Fresh.{IsFresh}
 use Rattle.wire.specs.declared.message.Ask.{Ask}
-use Rattle.owned_sessions.specs.Taken.{HashesTaken, BlockTaken, HasTreeBlock}
+use Rattle.owned_sessions.specs.Taken.{HashesTaken, BlockTaken, HasTreeBlock, PieceTaken}
 use Rattle.owned_sessions.specs.TreeStates.{HasState}
 use Rattle.btcheck_c.specs.Holds.{IsWrongKind}
-use Rattle.c_layouts.specs.Statuses.{HasHashes, HasBlock, IsAnswer}
+use Rattle.c_layouts.specs.Statuses.{HasHashes, HasBlock, HasPiece, IsAnswer}
 use Rattle.btcheck_c.specs.declared.thing.Thing.{Thing}
 use Rattle.btcheck_c.specs.declared.thing.Kind.{Kind}
 use Rattle.btcheck_c.specs.declared.thing.Kind.TheVariants as kind
@@ -77,3 +78,10 @@ TakesBlock index begin bytes file block (kind.Session S) status k' =
     × ((S' : SessionSeen) × (k' ≡ kind.Session S') × BlockTaken S index begin bytes answer S')
 TakesBlock index begin bytes file block k status k' =
     IsWrongKind k status k'
+
+-- the session takes the bytes of a whole piece; status, file and block are its answer
+abbrev pub TakesPiece : ℕ → List ℕ → ℕ → ℕ → Kind → ℕ → Kind → Type 0
+TakesPiece index bytes file block (kind.Session S) status k' =
+    (answer : Result (ℕ × ℕ) PieceRefusal) × HasPiece answer status file block
+    × ((S' : SessionSeen) × (k' ≡ kind.Session S') × PieceTaken S index bytes answer S')
+TakesPiece index bytes file block k status k' = IsWrongKind k status k'

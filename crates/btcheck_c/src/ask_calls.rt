@@ -38,7 +38,7 @@ fn status_of_note(done: bool) -> u32
 
 // The status of an answer, whose hashes go to the front of the room, and how many they are.
 fn write_answer(answer: &Option<Answer>, room: &mut [Hash], count: &mut u64) -> u32
-    ensures done { HasAnswer answer.now result room.new count.new }
+    ensures done { HasAnswer answer.now result room.old room.new count.new }
     ensures unwritten { result ≢ 0 → (room.new ≡ room.old)
         × (result ≢ 7 → count.new ≡ count.old) }
 {
@@ -61,7 +61,7 @@ fn want(thing: &mut Thing, tree: usize, block: u64, asked: &mut Asked) -> u32
     ensures unwritten { result ≢ 0 → asked.new ≡ asked.old }
 {
     match &mut thing.kind {
-        Kind::Root(_) | Kind::Check(_) => WRONG_HANDLE,
+        Kind::Root(_) | Kind::Check(_) | Kind::Holdings(_) => WRONG_HANDLE,
         Kind::Session(session) => {
             if session.has_block(tree, block) {
                 write_want(session.want(tree, block), asked)
@@ -76,7 +76,7 @@ fn note(thing: &mut Thing, ask: &Ask) -> u32
     ensures { Notes ask.now thing.old.kind result thing.new.kind }
 {
     match &mut thing.kind {
-        Kind::Root(_) | Kind::Check(_) => WRONG_HANDLE,
+        Kind::Root(_) | Kind::Check(_) | Kind::Holdings(_) => WRONG_HANDLE,
         Kind::Session(session) => status_of_note(session.note(ask)),
     }
 }
@@ -87,18 +87,19 @@ fn take_answer(thing: &mut Thing, ask: &Ask, hashes: &[Hash], places: &mut u64) 
     ensures unwritten { result ≢ 0 → places.new ≡ places.old }
 {
     match &mut thing.kind {
-        Kind::Root(_) | Kind::Check(_) => WRONG_HANDLE,
+        Kind::Root(_) | Kind::Check(_) | Kind::Holdings(_) => WRONG_HANDLE,
         Kind::Session(session) => status_of_hashes(session.take_answer(ask, hashes), places),
     }
 }
 
 fn answer(thing: &mut Thing, ask: &Ask, room: &mut [Hash], count: &mut u64) -> u32
-    ensures done { Answers ask.now room.new count.new thing.old.kind result thing.new.kind }
+    ensures done { Answers ask.now room.old room.new count.new thing.old.kind result
+        thing.new.kind }
     ensures unwritten { result ≢ 0 → (room.new ≡ room.old)
         × (result ≢ 7 → count.new ≡ count.old) }
 {
     match &mut thing.kind {
-        Kind::Root(_) | Kind::Check(_) => WRONG_HANDLE,
+        Kind::Root(_) | Kind::Check(_) | Kind::Holdings(_) => WRONG_HANDLE,
         Kind::Session(session) => write_answer(&session.answer(ask), room, count),
     }
 }
@@ -107,7 +108,7 @@ fn can_answer(thing: &mut Thing, ask: &Ask) -> u32
     ensures { AnswersIfAnswered ask.now thing.old.kind result thing.new.kind }
 {
     match &mut thing.kind {
-        Kind::Root(_) | Kind::Check(_) => WRONG_HANDLE,
+        Kind::Root(_) | Kind::Check(_) | Kind::Holdings(_) => WRONG_HANDLE,
         Kind::Session(session) => status_of_answer(session.can_answer(ask)),
     }
 }
@@ -183,8 +184,8 @@ pub extern "C" fn btcheck_session_answer(
     room: &mut [[u8; 32]],
     count: &mut u64,
 ) -> u32
-    ensures done { Through (Answers (ask_of asked.now) room.new count.new) handle.old.slot.held
-        result handle.new.slot.held }
+    ensures done { Through (Answers (ask_of asked.now) room.old room.new count.new)
+        handle.old.slot.held result handle.new.slot.held }
     ensures unwritten { result ≢ 0 → (room.new ≡ room.old)
         × (result ≢ 7 → count.new ≡ count.old) }
 {

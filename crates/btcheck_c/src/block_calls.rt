@@ -1,13 +1,14 @@
-//! The call on the blocks of a piece message, which may be several.
+//! The calls on the blocks of a piece message, which may be several, and on a whole piece.
 
 ghost use Rattle.std.specs.Prelude.{◌≡◌, ◌≢◌};
 ghost use Rattle.btcheck_c.specs.Blocks.{TakesBlocks};
+ghost use Rattle.btcheck_c.specs.SessionCalls.{TakesPiece};
 ghost use Rattle.btcheck_c.specs.Holds.{Through};
 
 use crate::handle::Handle;
 use crate::thing::{Kind, Thing};
 use c_layouts::blocks_info::{BlocksInfo, write_blocks};
-use c_layouts::status::WRONG_HANDLE;
+use c_layouts::status::{WRONG_HANDLE, status_of_piece};
 use std::alloc::Global;
 
 fn take_blocks(thing: &mut Thing, index: u32, begin: u32, bytes: &[u8], out: &mut BlocksInfo) -> u32
@@ -16,8 +17,19 @@ fn take_blocks(thing: &mut Thing, index: u32, begin: u32, bytes: &[u8], out: &mu
     ensures unwritten { result ≢ 0 → out.new ≡ out.old }
 {
     match &mut thing.kind {
-        Kind::Root(_) | Kind::Check(_) => WRONG_HANDLE,
+        Kind::Root(_) | Kind::Check(_) | Kind::Holdings(_) => WRONG_HANDLE,
         Kind::Session(session) => write_blocks(session.take_blocks(index, begin, bytes), out),
+    }
+}
+
+fn take_piece(thing: &mut Thing, index: u32, bytes: &[u8], file: &mut u64, block: &mut u64) -> u32
+    ensures done { TakesPiece index bytes.now file.new block.new thing.old.kind result
+        thing.new.kind }
+    ensures unwritten { result ≢ 0 → (file.new ≡ file.old) × (block.new ≡ block.old) }
+{
+    match &mut thing.kind {
+        Kind::Root(_) | Kind::Check(_) | Kind::Holdings(_) => WRONG_HANDLE,
+        Kind::Session(session) => status_of_piece(session.take_piece(index, bytes), file, block),
     }
 }
 
@@ -41,6 +53,32 @@ pub extern "C" fn btcheck_session_take_blocks(
         return WRONG_HANDLE;
     };
     let status = take_blocks(&mut thing, index, begin, bytes, out);
+    handle.put(thing);
+    status
+}
+
+/// Takes the bytes of a whole piece, of which the file's last one may be shorter, and writes the
+/// file and its first block of the piece. Each leaf of the piece is known then, and marked. Status
+/// 1: the handle holds no session. Status 2: memory was refused. Status 300 + n: refusal Pn; P3:
+/// the node that covers the piece is not known; P4: the bytes lead to another one. Then the session
+/// is as before.
+#[unsafe(no_mangle)]
+pub extern "C" fn btcheck_session_take_piece(
+    alloc: Global,
+    handle: &mut Handle,
+    index: u32,
+    bytes: &[u8],
+    file: &mut u64,
+    block: &mut u64,
+) -> u32
+    ensures done { Through (TakesPiece index bytes.now file.new block.new) handle.old.slot.held
+        result handle.new.slot.held }
+    ensures unwritten { result ≢ 0 → (file.new ≡ file.old) × (block.new ≡ block.old) }
+{
+    let Some(mut thing) = handle.take(alloc) else {
+        return WRONG_HANDLE;
+    };
+    let status = take_piece(&mut thing, index, bytes, file, block);
     handle.put(thing);
     status
 }

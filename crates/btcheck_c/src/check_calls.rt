@@ -1,53 +1,47 @@
-//! The check of one file's bytes, which the caller reads and gives in parts.
+//! The check of a file's bytes, or of those of some of its pieces in a row. The caller reads them
+//! and gives them in parts.
 
-ghost use Rattle.std.specs.Prelude.{◌≡◌, ◌≢◌, None};
-ghost use Rattle.btcheck_c.specs.CheckCalls.{ChecksFile, StartsCheck, CheckStarted, PushesFile, HasBadPiece, EndsCheck};
+ghost use Rattle.std.specs.Prelude.{◌≡◌, ◌≢◌, None, length};
+ghost use Rattle.btcheck_c.specs.CheckCalls.{StartsCheck, StartsPieces, CheckStarted, PushesFile, PushesBits, HasBadPiece, EndsCheck, EndsBits};
 ghost use Rattle.btcheck_c.specs.Holds.{Through};
 
+use crate::check_starts::{begun, pieces_check_of};
 use crate::file_check::FileCheck;
 use crate::handle::Handle;
 use crate::thing::{Kind, Thing};
-use c_layouts::status::{BAD_PIECE, DONE, NO_ROOT, NO_SUCH, TOO_LONG, TOO_SHORT, WRONG_HANDLE};
-use opening::Torrent;
-use pieces::PieceLength;
+use c_layouts::status::{BAD_PIECE, DONE, TOO_LONG, TOO_SHORT, WRONG_HANDLE};
 use std::alloc::Global;
-
-// A check of a file that was given nothing yet, or the status.
-fn check_of(torrent: &Torrent<'static>, number: usize) -> Result<FileCheck, u32>
-    ensures { ChecksFile torrent.now number result }
-{
-    torrent.sound();
-    match torrent.files().get(number) {
-        None => Err(NO_SUCH),
-        Some(file) => match file.tree {
-            None => Err(NO_ROOT),
-            Some(tree) => {
-                let piece_length = PieceLength::new(torrent.piece_length()).unwrap();
-                Ok(FileCheck::new(&torrent.trees()[tree], piece_length))
-            }
-        },
-    }
-}
 
 fn start_check(thing: &mut Thing, number: usize) -> Result<FileCheck, u32>
     ensures { StartsCheck number thing.old.kind result thing.new.kind }
 {
     match &mut thing.kind {
-        Kind::Root(_) | Kind::Check(_) => Err(WRONG_HANDLE),
-        Kind::Session(session) => check_of(session.torrent(), number),
+        Kind::Root(_) | Kind::Check(_) | Kind::Holdings(_) => Err(WRONG_HANDLE),
+        Kind::Session(session) => begun(session.torrent(), number),
     }
 }
 
-fn push_file(thing: &mut Thing, bytes: &[u8]) -> u32
-    ensures { PushesFile bytes.now thing.old.kind result thing.new.kind }
+fn start_pieces(thing: &mut Thing, number: usize, from: u64, to: u64) -> Result<FileCheck, u32>
+    ensures { StartsPieces number from to thing.old.kind result thing.new.kind }
 {
     match &mut thing.kind {
-        Kind::Root(_) | Kind::Session(_) => WRONG_HANDLE,
+        Kind::Root(_) | Kind::Check(_) | Kind::Holdings(_) => Err(WRONG_HANDLE),
+        Kind::Session(session) => pieces_check_of(session.torrent(), number, from, to),
+    }
+}
+
+fn push_file(thing: &mut Thing, bytes: &[u8], good: &mut [u8]) -> u32
+    ensures done { PushesBits bytes.now good.old good.new thing.old.kind result thing.new.kind }
+    ensures unwritten { result ≢ 0 → good.new ≡ good.old }
+    ensures size { length good.new ≡ length good.old }
+{
+    match &mut thing.kind {
+        Kind::Root(_) | Kind::Session(_) | Kind::Holdings(_) => WRONG_HANDLE,
         Kind::Check(check) => {
             if bytes.len() as u64 > check.left() {
                 return TOO_LONG;
             }
-            check.push(bytes);
+            check.push(bytes, good);
             DONE
         }
     }
@@ -58,12 +52,43 @@ fn finish_file(thing: &mut Thing, piece: &mut u64) -> u32
     ensures unwritten { result ≢ 10 → piece.new ≡ piece.old }
 {
     match &mut thing.kind {
-        Kind::Root(_) | Kind::Session(_) => WRONG_HANDLE,
+        Kind::Root(_) | Kind::Session(_) | Kind::Holdings(_) => WRONG_HANDLE,
         Kind::Check(check) => {
             if check.left() > 0 {
                 return TOO_SHORT;
             }
-            write_piece(check.finish(), piece)
+            write_piece(check.finish(&mut []), piece)
+        }
+    }
+}
+
+fn finish_bits(thing: &mut Thing, piece: &mut u64, good: &mut [u8]) -> u32
+    ensures done { EndsBits good.old good.new piece.new thing.old.kind result thing.new.kind }
+    ensures unwritten { result ≢ 10 → piece.new ≡ piece.old }
+    ensures size { length good.new ≡ length good.old }
+{
+    match &mut thing.kind {
+        Kind::Root(_) | Kind::Session(_) | Kind::Holdings(_) => WRONG_HANDLE,
+        Kind::Check(check) => {
+            if check.left() == 0 {
+                return write_piece(check.finish(good), piece);
+            }
+            check.stop(good);
+            TOO_SHORT
+        }
+    }
+}
+
+// The status of a check, and the first bad piece.
+fn write_piece(bad: Option<u64>, piece: &mut u64) -> u32
+    ensures done { HasBadPiece bad result piece.new }
+    ensures unwritten { result ≢ 10 → piece.new ≡ piece.old }
+{
+    match bad {
+        None => DONE,
+        Some(number) => {
+            *piece = number;
+            BAD_PIECE
         }
     }
 }
@@ -79,7 +104,7 @@ pub extern "C" fn btcheck_check_new(
     session: &mut Handle,
     number: usize,
 ) -> u32
-    ensures { CheckStarted number session.old.slot.held handle.old.slot.held result
+    ensures { CheckStarted (StartsCheck number) session.old.slot.held handle.old.slot.held result
         handle.new.slot.held session.new.slot.held }
 {
     if handle.is_full() {
@@ -96,8 +121,37 @@ pub extern "C" fn btcheck_check_new(
     }
 }
 
-/// Takes the file's next bytes. Status 1: the handle holds no check. Status 3: they are more than
-/// are still to come. Then nothing is taken.
+/// Begins the check of a file's pieces from one number up to another, as [`btcheck_check_new`] does
+/// of all of them. Status 5: there is no such file, or it has not these pieces; they are at least
+/// one.
+#[unsafe(no_mangle)]
+pub extern "C" fn btcheck_check_new_pieces(
+    alloc: Global,
+    handle: &mut Handle,
+    session: &mut Handle,
+    number: usize,
+    from: u64,
+    to: u64,
+) -> u32
+    ensures { CheckStarted (StartsPieces number from to) session.old.slot.held
+        handle.old.slot.held result handle.new.slot.held session.new.slot.held }
+{
+    if handle.is_full() {
+        return WRONG_HANDLE;
+    }
+    let Some(mut thing) = session.take(alloc) else {
+        return WRONG_HANDLE;
+    };
+    let started = start_pieces(&mut thing, number, from, to);
+    session.put(thing);
+    match started {
+        Err(status) => status,
+        Ok(check) => handle.fill(alloc, Kind::Check(check)),
+    }
+}
+
+/// Takes the next bytes. Status 1: the handle holds no check. Status 3: they are more than are
+/// still to come. Then nothing is taken.
 #[unsafe(no_mangle)]
 pub extern "C" fn btcheck_check_push(alloc: Global, handle: &mut Handle, bytes: &[u8]) -> u32
     ensures { Through (PushesFile bytes.now) handle.old.slot.held result handle.new.slot.held }
@@ -105,14 +159,37 @@ pub extern "C" fn btcheck_check_push(alloc: Global, handle: &mut Handle, bytes: 
     let Some(mut thing) = handle.take(alloc) else {
         return WRONG_HANDLE;
     };
-    let status = push_file(&mut thing, bytes);
+    let status = push_file(&mut thing, bytes, &mut []);
+    handle.put(thing);
+    status
+}
+
+/// Takes the next bytes as [`btcheck_check_push`] does, and sets the bit of each piece that is
+/// complete and good: bit 0, the highest of the first byte, is that of the first piece that is
+/// checked. The bits are clear at first, and the same at each call. Where it does not return 0,
+/// they stay as they are.
+#[unsafe(no_mangle)]
+pub extern "C" fn btcheck_check_push_bits(
+    alloc: Global,
+    handle: &mut Handle,
+    bytes: &[u8],
+    good: &mut [u8],
+) -> u32
+    ensures done { Through (PushesBits bytes.now good.old good.new) handle.old.slot.held result
+        handle.new.slot.held }
+    ensures unwritten { result ≢ 0 → good.new ≡ good.old }
+{
+    let Some(mut thing) = handle.take(alloc) else {
+        return WRONG_HANDLE;
+    };
+    let status = push_file(&mut thing, bytes, good);
     handle.put(thing);
     status
 }
 
 /// Ends the check of a whole file, which begins anew. Status 1: the handle holds no check. Status
 /// 9: bytes of the file are still to come, and the check is as before. Status 10: a piece is not
-/// the torrent's, and the first such piece of the file is written.
+/// the torrent's, and the number in the file of the first such piece is written.
 #[unsafe(no_mangle)]
 pub extern "C" fn btcheck_check_finish(alloc: Global, handle: &mut Handle, piece: &mut u64) -> u32
     ensures done { Through (EndsCheck piece.new) handle.old.slot.held result handle.new.slot.held }
@@ -126,18 +203,27 @@ pub extern "C" fn btcheck_check_finish(alloc: Global, handle: &mut Handle, piece
     status
 }
 
-// The status of a check, and the first bad piece.
-fn write_piece(bad: Option<u64>, piece: &mut u64) -> u32
-    ensures done { HasBadPiece bad result piece.new }
+/// Ends a check as [`btcheck_check_finish`] does, and sets the last piece's bit too, if that is
+/// good. Status 9: the content ends before the pieces do; then the bits tell which of them are
+/// whole and good, and the check begins anew too.
+#[unsafe(no_mangle)]
+pub extern "C" fn btcheck_check_finish_bits(
+    alloc: Global,
+    handle: &mut Handle,
+    piece: &mut u64,
+    good: &mut [u8],
+) -> u32
+    ensures done { Through (EndsBits good.old good.new piece.new) handle.old.slot.held result
+        handle.new.slot.held }
     ensures unwritten { result ≢ 10 → piece.new ≡ piece.old }
+    ensures size { length good.new ≡ length good.old }
 {
-    match bad {
-        None => DONE,
-        Some(number) => {
-            *piece = number;
-            BAD_PIECE
-        }
-    }
+    let Some(mut thing) = handle.take(alloc) else {
+        return WRONG_HANDLE;
+    };
+    let status = finish_bits(&mut thing, piece, good);
+    handle.put(thing);
+    status
 }
 
 /// Frees what the handle holds, and empties it.

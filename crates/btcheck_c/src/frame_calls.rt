@@ -14,7 +14,7 @@ use wire::{Frame, frame_in};
 
 // Takes the message of a body, if it is one.
 fn take_frame(session: &mut OwnedSession, body: &[u8], out: &mut VerdictInfo) -> u32
-    ensures done { FrameTaken body.now out.new session.old result session.new }
+    ensures done { FrameTaken body.now out.old out.new session.old result session.new }
     ensures unwritten { result ≢ 0 → out.new ≡ out.old }
 {
     if body.len() > u32::MAX as usize {
@@ -27,11 +27,11 @@ fn take_frame(session: &mut OwnedSession, body: &[u8], out: &mut VerdictInfo) ->
 }
 
 fn take_body(thing: &mut Thing, body: &[u8], out: &mut VerdictInfo) -> u32
-    ensures done { TakesFrame body.now out.new thing.old.kind result thing.new.kind }
+    ensures done { TakesFrame body.now out.old out.new thing.old.kind result thing.new.kind }
     ensures unwritten { result ≢ 0 → out.new ≡ out.old }
 {
     match &mut thing.kind {
-        Kind::Root(_) | Kind::Check(_) => WRONG_HANDLE,
+        Kind::Root(_) | Kind::Check(_) | Kind::Holdings(_) => WRONG_HANDLE,
         Kind::Session(session) => take_frame(session, body, out),
     }
 }
@@ -47,7 +47,7 @@ pub extern "C" fn btcheck_session_frame(
     body: &[u8],
     out: &mut VerdictInfo,
 ) -> u32
-    ensures done { Through (TakesFrame body.now out.new) handle.old.slot.held result
+    ensures done { Through (TakesFrame body.now out.old out.new) handle.old.slot.held result
         handle.new.slot.held }
     ensures unwritten { result ≢ 0 → out.new ≡ out.old }
 {

@@ -8,7 +8,8 @@ use c_layouts::status::{DONE, NO_MEMORY};
 use std::alloc::Global;
 use std::mem::replace;
 
-/// What C holds: a boxed thing, or nothing. Zero bytes are a handle of nothing.
+/// What C holds: a boxed thing, or nothing. Zero bytes are a handle of nothing. Only a handle of
+/// nothing may be dropped or written over, as its slot says.
 #[repr(C)]
 #[derive(Drop)]
 pub struct Handle {
@@ -36,8 +37,9 @@ impl Handle {
         self.full
     }
 
-    /// Puts a thing into the handle. What was in it is never freed: take it first.
+    /// Puts a thing into the handle. Condition: it holds nothing.
     pub(crate) fn put(&mut self, thing: Box<Thing>)
+        requires { self.old.slot.held ≡ None }
         ensures { self.new.slot.held ≡ Some thing.value }
     {
         *self = Handle {
@@ -47,8 +49,9 @@ impl Handle {
     }
 
     /// Puts a thing of this kind into the handle, and answers a status. Status 2: memory was
-    /// refused, and the handle is as before. What was in it is never freed: take it first.
+    /// refused, and the handle is as before. Condition: it holds nothing.
     pub(crate) fn fill(&mut self, alloc: Global, kind: Kind) -> u32
+        requires { self.old.slot.held ≡ None }
         ensures { IsFilled kind self.old.slot.held result self.new.slot.held }
     {
         match Box::new(alloc, Thing { kind }) {

@@ -1,6 +1,6 @@
 //! The session of a torrent and the root of a file, for programs in C and in languages that call C.
 //!
-//! `include/btcheck.h` declares the exports, and says what C must keep. A handle is a [`Handle`]
+//! `bindings/c/btcheck.h` declares the exports, and says what C must keep. A handle is a [`Handle`]
 //! that holds nothing or one `Thing`: the builder of a root, or a session with its torrent. Each
 //! call takes the thing out of its handle, does its work in safe code, and puts it back; only
 //! `loose.rt` and `slot.rt` touch raw memory.
@@ -9,16 +9,22 @@
 mod ask_calls;
 mod block_calls;
 mod check_calls;
+mod check_starts;
 mod file_calls;
 mod file_check;
 mod frame_calls;
 mod handle;
+mod held;
+mod hold_calls;
+mod holding;
 mod loose;
 mod root_calls;
+mod rows;
 mod session_calls;
 mod slot;
 mod thing;
 mod threads;
+mod torrent_calls;
 mod version;
 
 pub use handle::Handle;

@@ -15,7 +15,7 @@ fn push(thing: &mut Thing, bytes: &[u8]) -> u32
     ensures { Pushed bytes.now thing.old.kind result thing.new.kind }
 {
     match &mut thing.kind {
-        Kind::Session(_) | Kind::Check(_) => WRONG_HANDLE,
+        Kind::Session(_) | Kind::Check(_) | Kind::Holdings(_) => WRONG_HANDLE,
         Kind::Root(builder) => {
             if bytes.len() as u64 > MAX_LENGTH - builder.len() {
                 return TOO_LONG;
@@ -31,7 +31,7 @@ fn finish(thing: &mut Thing, length: &mut u64, root: &mut [u8; 32]) -> u32
     ensures unwritten { result ≢ 0 → (length.new ≡ length.old) × (root.new ≡ root.old) }
 {
     match &mut thing.kind {
-        Kind::Session(_) | Kind::Check(_) => WRONG_HANDLE,
+        Kind::Session(_) | Kind::Check(_) | Kind::Holdings(_) => WRONG_HANDLE,
         Kind::Root(builder) => {
             if builder.is_empty() {
                 return NO_ROOT;

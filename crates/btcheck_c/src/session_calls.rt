@@ -20,7 +20,7 @@ fn counts(thing: &mut Thing, tree: usize, known: &mut u64, marked: &mut u64) -> 
     ensures unwritten { result ≢ 0 → (known.new ≡ known.old) × (marked.new ≡ marked.old) }
 {
     match &mut thing.kind {
-        Kind::Root(_) | Kind::Check(_) => WRONG_HANDLE,
+        Kind::Root(_) | Kind::Check(_) | Kind::Holdings(_) => WRONG_HANDLE,
         Kind::Session(session) => {
             if tree >= session.torrent().trees().len() {
                 return NO_SUCH;
@@ -35,7 +35,7 @@ fn is_marked(thing: &mut Thing, tree: usize, block: u64) -> u32
     ensures { AnswersIfMarked tree block thing.old.kind result thing.new.kind }
 {
     match &mut thing.kind {
-        Kind::Root(_) | Kind::Check(_) => WRONG_HANDLE,
+        Kind::Root(_) | Kind::Check(_) | Kind::Holdings(_) => WRONG_HANDLE,
         Kind::Session(session) => {
             if session.has_block(tree, block) {
                 status_of_answer(session.is_marked(tree, block))
@@ -52,7 +52,7 @@ fn take_hashes(thing: &mut Thing, ask: &Ask, hashes: &[Hash], places: &mut u64) 
     ensures unwritten { result ≢ 0 → places.new ≡ places.old }
 {
     match &mut thing.kind {
-        Kind::Root(_) | Kind::Check(_) => WRONG_HANDLE,
+        Kind::Root(_) | Kind::Check(_) | Kind::Holdings(_) => WRONG_HANDLE,
         Kind::Session(session) => status_of_hashes(session.take_hashes(ask, hashes), places),
     }
 }
@@ -70,7 +70,7 @@ fn take_block(
     ensures unwritten { result ≢ 0 → (file.new ≡ file.old) × (block.new ≡ block.old) }
 {
     match &mut thing.kind {
-        Kind::Root(_) | Kind::Check(_) => WRONG_HANDLE,
+        Kind::Root(_) | Kind::Check(_) | Kind::Holdings(_) => WRONG_HANDLE,
         Kind::Session(session) => {
             status_of_block(session.take_block(index, begin, bytes), file, block)
         }

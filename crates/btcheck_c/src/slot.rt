@@ -10,9 +10,9 @@ use std::alloc::Global;
 use std::marker::Model;
 
 /// A boxed thing, or nothing. C sees a pointer: a struct with a `Vec` cannot stand behind one that
-/// crosses to C, so it is one to bytes. To drop a slot frees nothing.
+/// crosses to C, so it is one to bytes. Only a slot of nothing may be dropped: so no code can lose
+/// a thing by letting its slot go, or by writing over it.
 #[repr(C)]
-#[derive(Drop)]
 pub struct Slot {
     at: *mut u8,
     alloc: Global,
@@ -25,6 +25,15 @@ impl Model for Slot {
 
 // The boxed thing may go to another thread, and any thread may free its block.
 unsafe impl Send for Slot {}
+
+impl Drop for Slot {
+    /// Frees nothing. Condition: the slot has no thing.
+    fn drop(self)
+        requires { self.held ≡ None }
+    {
+        let Slot { at: _, alloc: _ } = self;
+    }
+}
 
 impl Slot {
     /// A slot of nothing.
@@ -47,7 +56,19 @@ impl Slot {
         requires { IsSome self.held }
         ensures { Some result.value ≡ self.held }
     {
-        fasten(unseal(self))
+        fasten(self.unseal())
+    }
+
+    // The thing of a slot that has one, as a box that was taken apart.
+    fn unseal(self) -> Loose<Thing, Global>
+        requires { IsSome self.held }
+        ensures { Some result.value ≡ self.held }
+    {
+        let Slot { at, alloc } = self;
+        Loose {
+            at: at as *mut Thing,
+            alloc,
+        }
     }
 }
 
@@ -65,18 +86,6 @@ fn seal(loose: Loose<Thing, Global>) -> Slot
     let Loose { at, alloc } = loose;
     Slot {
         at: at as *mut u8,
-        alloc,
-    }
-}
-
-// The thing of a slot that has one, as a box that was taken apart.
-fn unseal(slot: Slot) -> Loose<Thing, Global>
-    requires { IsSome slot.held }
-    ensures { Some result.value ≡ slot.held }
-{
-    let Slot { at, alloc } = slot;
-    Loose {
-        at: at as *mut Thing,
         alloc,
     }
 }

@@ -1,6 +1,7 @@
 //! What a handle of C may hold.
 
 use crate::file_check::FileCheck;
+use crate::held::Held;
 use hashtree::RootBuilder;
 use owned_sessions::OwnedSession;
 
@@ -20,4 +21,6 @@ pub enum Kind {
     Session(OwnedSession),
     /// The check of one file's bytes.
     Check(FileCheck),
+    /// What is held beside a session of blocks that cannot be proved yet.
+    Holdings(Held),
 }

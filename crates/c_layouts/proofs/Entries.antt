@@ -1,7 +1,8 @@
 -- The statuses of the blocks of a piece message, and the files and trees of a torrent.
-use Rattle.std.proofs.Common.{◌≡◌, ℕ, ◌+◌, ◌<◌, List, [], ◌∷◌, ◌++◌, length, map, take, set, get_or, Option, Some, None, refl, sym, ap, ap₂, ◌∙◌, arith}
+use Rattle.std.proofs.Common.{◌≡◌, ℕ, ◌+◌, ◌-◌, ◌<◌, List, [], ◌∷◌, ◌++◌, length, map, replicate, take, drop, set, get_or, Option, Some, None}
+use Rattle.std.proofs.Common.{refl, sym, ap, ap₂, ◌∙◌, arith}
 use Rattle.std.specs.Prelude.{IfSome, slice_get, option_map}
-use Rattle.std.proofs.lemmas.List.{length-map, map-append, take_more, take_more_set}
+use Rattle.std.proofs.lemmas.List.{drop-drop, drop-replicate, drop-set-lt, length-map, map-append, take_more, take_more_set}
 use Rattle.std.proofs.lemmas.Option.{get_or_from_slice_get, slice_get-get_or, slice_get-map, slice_get_within}
 use Rattle.opening.specs.Description.{Description, FileEntry, TreeEntry}
 use Rattle.opening.specs.Seen.{tree_entry}
@@ -20,6 +21,12 @@ statuses_next refusals statuses m status r there is room so_far =
     ∙ ap (λ x. take m refusals ++ x ∷ []) (get_or_from_slice_get refusals m r r there) in
     take_more_set statuses m status room ∙ ap₂ (λ xs x. xs ++ x ∷ []) so_far is
     ∙ sym (map-append entry_status (take m refusals) (r ∷ [])) ∙ ap (map entry_status) (sym next)
+
+-- and the other places stay
+pub rest_next : (statuses : List ℕ) (m status : ℕ) → drop m statuses ≡ replicate (17 - m) 5 → drop (m + 1) (set statuses m status) ≡ replicate (17 - (m + 1)) 5
+rest_next statuses m status so_far =
+    drop-set-lt (m + 1) statuses m status (omega arith) ∙ sym (drop-drop 1 m statuses) ∙ ap (drop 1) so_far ∙ drop-replicate 1 (17 - m) 5
+    ∙ ap (λ n. replicate n 5) (omega arith)
 
 -- what is written of the tree at an index
 pub tree_there : (d : Description) (infos : List TreeInfo) (n : ℕ) (x : TreeInfo) → map tree_entry infos ≡ d.trees → n < length d.trees

@@ -1,3 +1,4 @@
 -- What proofs share.
 pub mod Joining
 pub mod Entries
+pub mod Counting

@@ -3,5 +3,7 @@ pub mod Statuses
 pub mod Asks
 pub mod Blocks
 pub mod Files
+pub mod Held
 pub mod Paths
+pub mod Torrents
 pub mod Verdicts

@@ -3,6 +3,8 @@ use Rattle.std.specs.Prelude.{◌≡◌, ℕ, ◌+◌, Bool, true, false, Result
 use Rattle.partial_tree.specs.Names.{hash_refusal_number, block_refusal_number}
 use Rattle.partial_tree.specs.declared.refusal.HashRefusal.{HashRefusal}
 use Rattle.partial_tree.specs.declared.refusal.BlockRefusal.{BlockRefusal}
+use Rattle.partial_tree.specs.declared.refusal.PieceRefusal.{PieceRefusal}
+use Rattle.partial_tree.specs.declared.refusal.PieceRefusal.TheVariants as piece
 
 -- 0 and how many places are newly known, or the number of the refusal
 abbrev pub HasHashes : Result ℕ HashRefusal → ℕ → ℕ → Type 0
@@ -13,6 +15,20 @@ HasHashes (Err r) status places = status ≡ 200 + hash_refusal_number r
 abbrev pub HasBlock : Result (ℕ × ℕ) BlockRefusal → ℕ → ℕ → ℕ → Type 0
 HasBlock (Ok p) status file block = (status ≡ 0) × ((file ≡ p.0) × (block ≡ p.1))
 HasBlock (Err r) status file block = status ≡ 300 + block_refusal_number r
+
+-- the number of the refusal of a whole piece: that of a block for the same reason, or that memory
+-- was refused
+abbrev pub piece_status : PieceRefusal → ℕ
+piece_status piece.BadPlace = 301
+piece_status piece.BadSize = 302
+piece_status piece.Unproved = 303
+piece_status piece.NoMemory = 2
+piece_status piece.BadPiece = 304
+
+-- 0 with the file and its first block of the piece, or the number of the refusal
+abbrev pub HasPiece : Result (ℕ × ℕ) PieceRefusal → ℕ → ℕ → ℕ → Type 0
+HasPiece (Ok p) status file block = (status ≡ 0) × ((file ≡ p.0) × (block ≡ p.1))
+HasPiece (Err r) status file block = status ≡ piece_status r
 
 -- 0 if it is so, and 6 if it is not
 abbrev pub IsAnswer : Bool → ℕ → Type 0

@@ -6,17 +6,26 @@ use Rattle.session.specs.declared.verdict.Verdict.TheVariants as verdict
 use Rattle.c_layouts.specs.Blocks.{AreLaidOut}
 use Rattle.c_layouts.specs.declared.verdict_info.VerdictInfo.{VerdictInfo}
 
--- 0 and what was made of the message, or the number of its refusal
-abbrev pub HasVerdict : Verdict → ℕ → VerdictInfo → Type 0
-HasVerdict (verdict.HashRefused r) status out = status ≡ 200 + hash_refusal_number r
-HasVerdict (verdict.BlockRefused r) status out = status ≡ 300 + block_refusal_number r
-HasVerdict (verdict.Stored c) status out = (status ≡ 0) × ((out.kind ≡ 1) × (out.places ≡ c))
-HasVerdict (verdict.Blocks v) status out =
-    (status ≡ 0) × ((out.kind ≡ 2) × AreLaidOut v out.blocks)
-HasVerdict verdict.Answered status out = (status ≡ 0) × (out.kind ≡ 3)
-HasVerdict verdict.Rejected status out = (status ≡ 0) × (out.kind ≡ 4)
-HasVerdict verdict.RejectNoted status out = (status ≡ 0) × (out.kind ≡ 5)
-HasVerdict verdict.KeepAlive status out = (status ≡ 0) × (out.kind ≡ 6)
-HasVerdict (verdict.Skipped id) status out = (status ≡ 0) × ((out.kind ≡ 7) × (out.id ≡ id))
-HasVerdict verdict.Noted status out = (status ≡ 0) × (out.kind ≡ 8)
-HasVerdict verdict.Sent status out = (status ≡ 0) × (out.kind ≡ 9)
+-- the struct as it was, but for its kind
+abbrev pub with_kind : VerdictInfo → ℕ → VerdictInfo
+with_kind old k = record old { kind = k }
+
+-- 0 and what was made of the message, or the number of its refusal. Fields that the kind does not
+-- name stay as they were
+abbrev pub HasVerdict : Verdict → ℕ → VerdictInfo → VerdictInfo → Type 0
+HasVerdict (verdict.HashRefused r) status old out =
+    (status ≡ 200 + hash_refusal_number r) × (out ≡ old)
+HasVerdict (verdict.BlockRefused r) status old out =
+    (status ≡ 300 + block_refusal_number r) × (out ≡ old)
+HasVerdict (verdict.Stored c) status old out =
+    (status ≡ 0) × (out ≡ record old { kind = 1; places = c })
+HasVerdict (verdict.Blocks v) status old out = (status ≡ 0)
+    × (AreLaidOut v out.blocks × (out ≡ record old { kind = 2; blocks = out.blocks }))
+HasVerdict verdict.Answered status old out = (status ≡ 0) × (out ≡ with_kind old 3)
+HasVerdict verdict.Rejected status old out = (status ≡ 0) × (out ≡ with_kind old 4)
+HasVerdict verdict.RejectNoted status old out = (status ≡ 0) × (out ≡ with_kind old 5)
+HasVerdict verdict.KeepAlive status old out = (status ≡ 0) × (out ≡ with_kind old 6)
+HasVerdict (verdict.Skipped id) status old out =
+    (status ≡ 0) × (out ≡ record old { kind = 7; id = id })
+HasVerdict verdict.Noted status old out = (status ≡ 0) × (out ≡ with_kind old 8)
+HasVerdict verdict.Sent status old out = (status ≡ 0) × (out ≡ with_kind old 9)

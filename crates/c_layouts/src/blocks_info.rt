@@ -4,7 +4,7 @@ ghost use Rattle.std.specs.Prelude.{◌≡◌, ◌≢◌, length};
 ghost use Rattle.c_layouts.specs.Blocks.{entry_status, AreLaidOut, HasBlocks};
 ghost use Rattle.partial_tree.specs.declared.refusal.BlockRefusal.{BlockRefusal as Why};
 
-use crate::status::{DONE, refused_block};
+use crate::status::{DONE, NO_SUCH, refused_block};
 use partial_tree::BlockRefusal;
 use session::Blocks;
 
@@ -12,7 +12,7 @@ use session::Blocks;
 const MOST_BLOCKS: usize = 17;
 
 /// Consecutive blocks of a file, from the first one on, and the status of each. Statuses past the
-/// count are 0.
+/// count say that there is no such block.
 #[repr(C)]
 #[derive(Clone, Copy)]
 pub struct BlocksInfo {
@@ -40,7 +40,7 @@ pub fn write_blocks(answer: Result<Blocks, BlockRefusal>, out: &mut BlocksInfo) 
 pub fn lay_out_blocks(blocks: &Blocks) -> BlocksInfo
     ensures { AreLaidOut blocks.now result }
 {
-    let mut statuses = [DONE; MOST_BLOCKS];
+    let mut statuses = [NO_SUCH; MOST_BLOCKS];
     'entries: for entry in 0..blocks.len() {
         statuses[entry] = status_of(blocks.refusal(entry));
     }

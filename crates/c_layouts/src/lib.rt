@@ -5,6 +5,8 @@
 pub mod asked;
 pub mod blocks_info;
 pub mod file_info;
+pub mod held_info;
 pub mod path_text;
 pub mod status;
+pub mod torrent_info;
 pub mod verdict_info;

@@ -2,9 +2,9 @@
 
 ghost use Rattle.std.specs.Prelude.{◌≡◌, ◌≢◌, ◌+◌};
 ghost use Rattle.partial_tree.specs.Names.{hash_refusal_number, block_refusal_number};
-ghost use Rattle.c_layouts.specs.Statuses.{HasHashes, HasBlock, IsAnswer};
+ghost use Rattle.c_layouts.specs.Statuses.{HasHashes, HasBlock, HasPiece, IsAnswer, piece_status};
 
-use partial_tree::{BlockRefusal, HashRefusal};
+use partial_tree::{BlockRefusal, HashRefusal, PieceRefusal};
 
 /// The call did what it says.
 pub const DONE: u32 = 0;
@@ -38,6 +38,9 @@ pub const TOO_SHORT: u32 = 9;
 
 /// A piece is not the torrent's.
 pub const BAD_PIECE: u32 = 10;
+
+/// The digest of a block is held until the block can be proved.
+pub const HELD: u32 = 11;
 
 /// Refusal n of a torrent is this plus n.
 pub const TORRENT: u32 = 100;
@@ -81,6 +84,25 @@ pub fn status_of_block(
     }
 }
 
+/// The status of a whole piece, and the file and its first block of the piece.
+pub fn status_of_piece(
+    answer: Result<(usize, u64), PieceRefusal>,
+    file: &mut u64,
+    block: &mut u64,
+) -> u32
+    ensures done { HasPiece answer result file.new block.new }
+    ensures unwritten { result ≢ 0 → (file.new ≡ file.old) × (block.new ≡ block.old) }
+{
+    match answer {
+        Ok((in_file, number)) => {
+            *file = in_file as u64;
+            *block = number;
+            DONE
+        }
+        Err(refusal) => refused_piece(refusal),
+    }
+}
+
 /// The status of a question: whether it is so.
 pub fn status_of_answer(holds: bool) -> u32
     ensures { IsAnswer holds result }
@@ -93,6 +115,20 @@ pub fn refused_hashes(refusal: HashRefusal) -> u32
     ensures { result ≡ 200 + hash_refusal_number refusal }
 {
     HASHES + refusal.number()
+}
+
+/// The status of a refusal of a whole piece: that of a block for the same reason, or that memory
+/// was refused.
+pub fn refused_piece(refusal: PieceRefusal) -> u32
+    ensures { result ≡ piece_status refusal }
+{
+    match refusal {
+        PieceRefusal::BadPlace => refused_block(BlockRefusal::BadPlace),
+        PieceRefusal::BadSize => refused_block(BlockRefusal::BadSize),
+        PieceRefusal::Unproved => refused_block(BlockRefusal::Unproved),
+        PieceRefusal::NoMemory => NO_MEMORY,
+        PieceRefusal::BadPiece => refused_block(BlockRefusal::BadBlock),
+    }
 }
 
 /// The status of a refusal of a block.

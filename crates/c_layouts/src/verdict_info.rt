@@ -38,7 +38,7 @@ const SENT: u32 = 9;
 
 /// The status of a message, and what was made of it.
 pub fn write_verdict(verdict: &Verdict, out: &mut VerdictInfo) -> u32
-    ensures done { HasVerdict verdict.now result out.new }
+    ensures done { HasVerdict verdict.now result out.old out.new }
     ensures unwritten { result ≢ 0 → out.new ≡ out.old }
 {
     match verdict {

@@ -1,12 +1,22 @@
 //! What `btcheck` does and prints, over devices that a caller gives.
 #![tactic(auto)]
 
+pub mod laws;
+
 pub use conversions::{ConvertFault, convert};
 pub use folders::{
-    FileVerdict, NoMemory, Report, RootFault, Shelf, ShelfFault, V1Verdict, check, memory,
-    print_report, root_line,
+    FileVerdict, Lines, NoMemory, Report, RootFault, SeekShelf, Shelf, ShelfFault, V1Verdict,
+    memory, print_report, root_line,
 };
 pub use gathering::{GatherFault, gather};
+pub use holdings::Holdings;
+pub use part_reports::{
+    JoinFault, MarkedReport, join_marked_reports, join_reports, print_marked_report,
+};
+pub use parts::{
+    CheckFault, Places, check, check_onto, check_part, check_part_with_bad_pieces,
+    check_with_bad_pieces, print_part,
+};
 pub use printing::{Fault, fault_line, refusal_line, show};
-pub use replays::{Outcome, replay};
+pub use replays::{Outcome, replay, replay_as, replay_pieces};
 pub use seeding::{SeedFault, seed};

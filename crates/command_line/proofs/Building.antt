@@ -11,7 +11,6 @@ use Rattle.clap.specs.declared.builder.arg.Arg.{Arg}
 use Rattle.clap.specs.declared.builder.command.Command.{Command}
 use Rattle.clap.specs.declared.builder.command.Command.TheOpen.{Command-F}
 use Rattle.clap.specs.declared.builder.command.Command.TheViews.{out-Command}
-use Rattle.clap.specs.declared.builder.value_parser.ValueParser.{ValueParser}
 use Rattle.clap.specs.declared.builder.texts.Texts.TheVariants.{One}
 use Rattle.command_line.specs.CommandLine.{IsApp, IsArgument, IsLeaf, command, with_more}
 
@@ -40,11 +39,10 @@ pub set_value_name : (old new : Arg) (name : Bor Text) (r : Rule) → new ≡ re
 set_value_name old new name r e is =
     (ap rule_of e ∙ ap (λ (q : Rule). record q { value_names = 1 }) is.0, ap is_global e ∙ is.1)
 
-pub set_parser : (old new : Arg) (given parser : ValueParser) (r : Rule) → new ≡ record old { value_parser = new.value_parser }
-    → new.value_parser ≡ Some given → given ≡ parser → IsArgument r old → IsArgument (record r { parser = Some parser }) new
-set_parser old new given parser r others there same is =
-    let e : new ≡ record old { value_parser = Some parser } = others ∙ ap (λ p. record old { value_parser = p }) (there ∙ ap Some same) in
-    (ap rule_of e ∙ ap (λ (q : Rule). record q { parser = Some parser }) is.0, ap is_global e ∙ is.1)
+pub set_short : (old new : Arg) (letter : ℕ) (r : Rule) → new ≡ record old { short = Some letter }
+    → IsArgument r old → IsArgument (record r { short = Some letter }) new
+set_short old new letter r e is =
+    (ap rule_of e ∙ ap (λ (q : Rule). record q { short = Some letter }) is.0, ap is_global e ∙ is.1)
 
 pub set_help : (old new : Arg) (help : Bor Text) (r : Rule) → new ≡ record old { help = Some help }
     → IsArgument r old → IsArgument r new

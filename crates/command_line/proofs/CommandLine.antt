@@ -1,20 +1,21 @@
 -- What is found of a command, and which texts an action needs.
 use Rattle.std.proofs.Common.{◌≡◌, ◌∙◌, ◌∷◌, [], ap, codes, false, if◌then◌else◌, List, None, Option, option_map, refl, Some, subst, sym, true, ◌||◌}
 use Rattle.std.specs.List.{list_any}
-use Rattle.std.specs.Prelude.{⊤, Box, Err, IfOk, Ok, Result, unwrap_or, ◌<◌, ◌^◌, ℕ}
-use Rattle.std.specs.Str.Parse.{IsNumeral, ParsesUnsigned, digits_value, without_leading_plus}
-use Rattle.clap.specs.Matches.{ReadsOne}
+use Rattle.std.specs.Prelude.{⊤, Box, Err, IfOk, Ok, Result, unwrap_or}
 use Rattle.std.specs.Box.{box_value}
 use Rattle.clap.specs.Simple.{subcommand_rows}
 use Rattle.clap.specs.declared.parser.matches.SubCommand.{SubCommand}
 use Rattle.clap.specs.declared.parser.matches.ArgMatches.TheViews.{out-SubCommand}
 use Rattle.std.specs.Str.{bytes_eq}
 use Rattle.std.proofs.lemmas.Slice.Eq.{bytes_eq-Decides}
-use Rattle.clap.specs.Walk.{Row, Text, first_of, one_of}
+use Rattle.clap.specs.Walk.{Row, Text, first_of}
 use Rattle.actions.specs.declared.command.Action.{Action}
 use Rattle.actions.specs.declared.command.Action.TheVariants as action
+use Rattle.actions.specs.declared.command.Asked.{Asked}
 use Rattle.actions.specs.declared.command.Part.{Part}
-use Rattle.command_line.specs.CommandLine.{Asks, FindsArguments, command_of, IsActionOf, IsAskedOf, IsNumberIfThere, IsNumberOf, IsPartText, IsPlain}
+use Rattle.actions.specs.declared.creation.PieceLength.{PieceLength}
+use Rattle.command_line.specs.CommandLine.{Asks, AsksFor, FindsArguments, command_of, IsAskedFor, IsAskedOf, IsPieceLength, IsPlain}
+use Rattle.command_line.specs.PartTexts.{IsPartText}
 
 -- what is known of the name and of the rows of what was found
 pub both_found : {Z : Type 0} (o : Option (Box SubCommand Z)) (name : Text) (rows : List Row)
@@ -25,21 +26,21 @@ both_found None name rows n r =
     cc
 both_found (Some b) name rows n r = cc
 
--- what an action of the command that was found asks for is what was found
-pub asked_of : (found : Option (Text × List Row)) (name : Text) (rows : List Row) (r : Option Action)
-    → found ≡ Some (name, rows) → IsActionOf name rows r → IsAskedOf found r
+-- what the command that was found asks for is what was found
+pub asked_of : (found : Option (Text × List Row)) (name : Text) (rows : List Row) (r : Option Asked)
+    → found ≡ Some (name, rows) → IsAskedFor name rows r → IsAskedOf found r
 asked_of found name rows (Some a) is asks = (name, rows, is, asks)
 asked_of found name rows None is none = λ a asked.
     let same : Some (asked.0, asked.1) ≡ Some (name, rows) = sym asked.2 ∙ is in
     none a (subst (AsksIn a) same asked.3)
   where
-    AsksIn : Action → Option (Text × List Row) → Type 0
+    AsksIn : Asked → Option (Text × List Row) → Type 0
     AsksIn a None = ⊤
-    AsksIn a (Some p) = Asks p.0 p.1 a
+    AsksIn a (Some p) = AsksFor p.0 p.1 a
 
--- the same of an action if it was found with enough memory
-pub asked_if : {E : Type 0} (found : Option (Text × List Row)) (name : Text) (rows : List Row) (r : Result (Option Action) E)
-    → found ≡ Some (name, rows) → IfOk r (IsActionOf name rows) → IfOk r (IsAskedOf found)
+-- the same if it was found with enough memory
+pub asked_if : {E : Type 0} (found : Option (Text × List Row)) (name : Text) (rows : List Row) (r : Result (Option Asked) E)
+    → found ≡ Some (name, rows) → IfOk r (IsAskedFor name rows) → IfOk r (IsAskedOf found)
 asked_if found name rows (Ok a) is asks = asked_of found name rows a is asks
 asked_if found name rows (Err e) is asks = tt
 
@@ -49,27 +50,7 @@ differs a b unlike e =
     let bad : false ≡ true = sym unlike ∙ (bytes_eq-Decides a b).1 e in
     cc
 
--- what `get_one` reads of a text is its number
-pub number_read : {E : Type 0} (gives : Text → Result ℕ E → Type 0)
-    → ((text : Text) (r : Result ℕ E) → gives text r → ParsesUnsigned 64 10 text r)
-    → (found : Option Text) (read : Option ℕ) → (found ≡ None → read ≡ None)
-    → ((text : Text) → found ≡ Some text → ReadsOne gives text read) → IsNumberIfThere found read
-number_read gives parses None None none reads = λ number is.
-    let bad : None ≡ Some is.0 = is.1 in
-    cc
-number_read gives parses None (Some number) none reads =
-    let bad : Some number ≡ None = none refl in
-    cc
-number_read gives parses (Some text) None none reads = λ number is.
-    let e = reads text refl in
-    let same : text ≡ is.0 = ap (λ (o : Option Text). unwrap_or o text) is.1 in
-    absurd (parses text (Err e.0) e.1 (subst (λ (t : Text). IsNumeral 10 (without_leading_plus t)
-    × (digits_value 10 (without_leading_plus t) < 2 ^ 64)) (sym same) is.2.0))
-number_read gives parses (Some text) (Some number) none reads =
-    let parsed = parses text (Ok number) (reads text refl) in
-    (text, refl, parsed)
-
--- ---- without a text or a number that it needs, a command asks for nothing
+-- ---- without a text or a piece length that it needs, a command asks for nothing
 
 -- what stands beside a name in a table
 abbrev pub beside : Text → List (Text × List Text) → List Text
@@ -96,7 +77,7 @@ HasTexts rows (name ∷ names) =
 has_texts : (rows : List Row) (a : Action) → FindsArguments rows a
     → HasTexts rows (needed_texts (command_of a))
 has_texts rows (action.Root file json) found = ((file.now, found.0), tt)
-has_texts rows (action.Show torrent json) found = ((torrent.now, found.0), tt)
+has_texts rows (action.Show torrent json long) found = ((torrent.now, found.0), tt)
 has_texts rows (action.Check asked) found =
     ((asked.torrent.now, found.0), ((asked.dir.now, found.1), tt))
 has_texts rows (action.CheckPart asked) found =
@@ -132,10 +113,10 @@ needs_text command name rows needed absent a asks =
 
 -- without a piece length, `create` asks for nothing
 pub needs_piece_length : (rows : List Row)
-    → ((number : ℕ) → IsNumberOf (one_of (codes "piece-length") rows) number → ⊥)
+    → ((pieces : PieceLength) → IsPieceLength (codes "piece-length") rows pieces → ⊥)
     → (a : Action) → Asks (codes "create") rows a → ⊥
 needs_piece_length rows none (action.Root file json) asks = differs _ _ refl asks.0
-needs_piece_length rows none (action.Show torrent json) asks = differs _ _ refl asks.0
+needs_piece_length rows none (action.Show torrent json long) asks = differs _ _ refl asks.0
 needs_piece_length rows none (action.Check asked) asks = differs _ _ refl asks.0
 needs_piece_length rows none (action.CheckPart asked) asks = differs _ _ refl asks.0
 needs_piece_length rows none (action.Join asked) asks = differs _ _ refl asks.0
@@ -148,14 +129,14 @@ pub needs_part : (rows : List Row) (text : Text) → first_of (codes "part") row
     → ((part : Part) → IsPartText text part → IsPlain rows → ⊥)
     → (a : Action) → Asks (codes "check") rows a → ⊥
 needs_part rows text found none (action.Root file json) asks = differs _ _ refl asks.0
-needs_part rows text found none (action.Show torrent json) asks = differs _ _ refl asks.0
+needs_part rows text found none (action.Show torrent json long) asks = differs _ _ refl asks.0
 needs_part rows text found none (action.Check asked) asks =
     let bad : Some text ≡ None = sym found ∙ asks.1.5 in
     cc
 needs_part rows text found none (action.CheckPart asked) asks =
     let is = asks.1.2 in
     let same : text ≡ is.0 = ap (λ (o : Option Text). unwrap_or o text) (sym found ∙ is.1) in
-    none asked.part (subst (λ t. IsPartText t asked.part) (sym same) is.2) asks.1.3
+    none asked.part (subst (λ t. IsPartText t asked.part) (sym same) is.2) asks.1.4
 needs_part rows text found none (action.Join asked) asks = differs _ _ refl asks.0
 needs_part rows text found none (action.Create asked) asks = differs _ _ refl asks.0
 needs_part rows text found none (action.Replay asked) asks = differs _ _ refl asks.0

@@ -1,3 +1,4 @@
 -- Lemmas on the command line.
 mod Building
 mod CommandLine
+mod Units

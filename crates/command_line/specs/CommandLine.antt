@@ -2,8 +2,7 @@
 -- texts, the program's name first; rows are what clap's definition of simple commands finds in
 -- them.
 use Rattle.std.specs.Prelude.{◌≡◌, ◌≢◌, ◌⊎◌, ℕ, List, [], ◌∷◌, Bool, true, false, Option, Some, None}
-use Rattle.std.specs.Prelude.{codes, eqb, map, option_map, unwrap_or, ◌<◌, ◌≤◌, ◌^◌, ◌++◌}
-use Rattle.std.specs.List.{after_first, before_first}
+use Rattle.std.specs.Prelude.{codes, map, option_map, unwrap_or, ◌++◌}
 use Rattle.std.specs.Borrow.{Bor}
 use Rattle.clap.specs.Walk.{Row, Rule, Text, all_of, first_of, one_of, rule_of}
 use Rattle.clap.specs.Simple.{App, Shape, app_of, new_rule, new_shape, subcommand_of}
@@ -15,11 +14,13 @@ use Rattle.clap.specs.declared.builder.command.Command.TheViews.{out-Command}
 use Rattle.clap.specs.declared.error.kind.ErrorKind.{ErrorKind}
 use Rattle.clap.specs.declared.error.kind.ErrorKind.TheVariants.{ArgumentConflict, DisplayHelp, DisplayVersion, MissingSubcommand, OutOfMemory, ValueValidation}
 use Rattle.clap.specs.declared.builder.action.ArgAction.TheVariants.{Append, Set, SetTrue}
-use Rattle.clap.specs.declared.builder.value_parser.ValueParser.TheVariants as vp
-use Rattle.std.specs.Str.Parse.{IsNumeral, digits_value, without_leading_plus}
 use Rattle.actions.specs.declared.command.Action.{Action}
 use Rattle.actions.specs.declared.command.Action.TheVariants as action
+use Rattle.actions.specs.declared.command.Asked.{Asked}
 use Rattle.actions.specs.declared.command.Part.{Part}
+use Rattle.actions.specs.declared.creation.PieceLength.{PieceLength}
+use Rattle.command_line.specs.Lengths.{IsPieceLengthText}
+use Rattle.command_line.specs.PartTexts.{IsPartText}
 
 -- ---- the command line
 
@@ -48,43 +49,54 @@ list_option name = record (option name) { action = Some Append }
 abbrev pub needed_option : Text → Rule
 needed_option name = record (option name) { required = true }
 
--- the same, whose value is a number of 64 bits
-abbrev pub needed_number : Text → Rule
-needed_number name =
-    record (needed_option name) { parser = Some (vp.Unsigned 0 18446744073709551615) }
+-- an option that has this letter too
+abbrev pub short : ℕ → Rule → Rule
+short letter rule = record rule { short = Some letter }
+
+-- the lines as JSON objects, `-j`
+abbrev pub json_flag : Rule
+json_flag = short 106 (flag (codes "json"))
+
+-- the system's reasons
+abbrev pub reasons_flag : Rule
+reasons_flag = flag (codes "reasons")
 
 -- a command with these arguments
 abbrev pub command : Text → List Rule → Shape
 command name rules = record (new_shape name) { rules = rules }
 
 abbrev pub root_command : Shape
-root_command = command (codes "root") (needed (codes "FILE") ∷ flag (codes "json") ∷ [])
+root_command = command (codes "root") (needed (codes "FILE") ∷ json_flag ∷ reasons_flag ∷ [])
 
 abbrev pub show_command : Shape
-show_command = command (codes "show") (needed (codes "TORRENT") ∷ flag (codes "json") ∷ [])
+show_command = command (codes "show")
+    (needed (codes "TORRENT") ∷ flag (codes "long") ∷ json_flag ∷ reasons_flag ∷ [])
 
 abbrev pub check_command : Shape
 check_command = command (codes "check")
-    (needed (codes "TORRENT") ∷ needed (codes "DIR") ∷ flag (codes "quiet") ∷ flag (codes "bad")
-    ∷ option (codes "part") ∷ flag (codes "json") ∷ [])
+    (needed (codes "TORRENT") ∷ needed (codes "DIR") ∷ short 113 (flag (codes "quiet"))
+    ∷ flag (codes "bad") ∷ flag (codes "extra") ∷ flag (codes "summary") ∷ option (codes "part")
+    ∷ json_flag ∷ reasons_flag ∷ [])
 
 abbrev pub join_command : Shape
 join_command = command (codes "join")
-    (needed (codes "TORRENT") ∷ needed_list (codes "REPORT") ∷ [])
+    (needed (codes "TORRENT") ∷ needed_list (codes "REPORT") ∷ reasons_flag ∷ [])
 
 abbrev pub create_command : Shape
 create_command = command (codes "create")
     (needed (codes "DIR") ∷ needed (codes "OUT") ∷ needed_option (codes "name")
-    ∷ needed_number (codes "piece-length") ∷ flag (codes "hybrid")
-    ∷ list_option (codes "exclude") ∷ [])
+    ∷ needed_option (codes "piece-length") ∷ flag (codes "hybrid")
+    ∷ list_option (codes "exclude") ∷ flag (codes "no-clobber") ∷ reasons_flag ∷ [])
 
 abbrev pub convert_command : Shape
-convert_command = command (codes "convert") (needed (codes "RECORD") ∷ needed (codes "OUT") ∷ [])
+convert_command = command (codes "convert")
+    (needed (codes "RECORD") ∷ needed (codes "OUT") ∷ reasons_flag ∷ [])
 
 abbrev pub replay_command : Shape
 replay_command = command (codes "replay")
     (needed (codes "TORRENT") ∷ needed (codes "RECORD") ∷ flag (codes "info-only")
-    ∷ option (codes "seed") ∷ option (codes "answers") ∷ flag (codes "json") ∷ [])
+    ∷ option (codes "seed") ∷ short 111 (option (codes "answers")) ∷ flag (codes "padded")
+    ∷ flag (codes "pieces") ∷ json_flag ∷ reasons_flag ∷ [])
 
 -- the program, with a version and a command that is required
 abbrev pub program : App
@@ -139,37 +151,16 @@ texts_of name rows = unwrap_or (all_of name rows) []
 abbrev pub AreTexts : Text → List Row → List (Bor Text) → Type 0
 AreTexts name rows texts = map (λ t. t.now) texts ≡ texts_of name rows
 
--- a number of 64 bits as decimal digits, perhaps behind a plus
-abbrev pub IsNumberText : Text → ℕ → Type 0
-IsNumberText text number = (IsNumeral 10 (without_leading_plus text)
-    × (digits_value 10 (without_leading_plus text) < 2 ^ 64))
-    × (number ≡ digits_value 10 (without_leading_plus text))
-
--- such a number that is found under a name
-abbrev pub IsNumberOf : Option Text → ℕ → Type 0
-IsNumberOf found number = (text : Text) × (found ≡ Some text) × IsNumberText text number
+-- the piece length that is found under a name
+abbrev pub IsPieceLength : Text → List Row → PieceLength → Type 0
+IsPieceLength name rows pieces =
+    (text : Text) × (first_of name rows ≡ Some text) × IsPieceLengthText text pieces
 
 -- the same, or there is none
-abbrev pub IsNumberIfThere : Option Text → Option ℕ → Type 0
-IsNumberIfThere found (Some number) = IsNumberOf found number
-IsNumberIfThere found None = (number : ℕ) → IsNumberOf found number → ⊥
-
--- whether a byte is the slash
-abbrev pub is_slash : ℕ → Bool
-is_slash b = eqb b 47
-
--- Which part a text names: its number before the first slash, which is at least 1, and after it how
--- many parts there are, which are as many at least.
-pub record IsPartText (text : Text) (part : Part) : Type 0 where
-  pub number : IsNumberText (before_first is_slash text) part.number
-  pub count : IsNumberText (after_first is_slash text) part.count
-  pub some : 1 ≤ part.number
-  pub there : part.number ≤ part.count
-
--- the part that a text names, if it names one
-abbrev pub IsPartIfThere : Text → Option Part → Type 0
-IsPartIfThere text (Some part) = IsPartText text part
-IsPartIfThere text None = (part : Part) → IsPartText text part → ⊥
+abbrev pub IsPieceLengthFound : Text → List Row → Option PieceLength → Type 0
+IsPieceLengthFound name rows (Some pieces) = IsPieceLength name rows pieces
+IsPieceLengthFound name rows None =
+    (pieces : PieceLength) → IsPieceLength name rows pieces → ⊥
 
 -- the part that is found under a name
 abbrev pub IsPart : Text → List Row → Part → Type 0
@@ -181,13 +172,13 @@ IsNotGiven name rows = first_of name rows ≢ Some (codes "true")
 
 -- none of the options is given that a part of a check has not
 abbrev pub IsPlain : List Row → Type 0
-IsPlain rows = IsNotGiven (codes "quiet") rows × IsNotGiven (codes "bad") rows
-    × IsNotGiven (codes "json") rows
+IsPlain rows = IsNotGiven (codes "quiet") rows × IsNotGiven (codes "json") rows
+    × IsNotGiven (codes "extra") rows × IsNotGiven (codes "summary") rows
 
 -- the name of the command that does this
 abbrev pub command_of : Action → Text
 command_of (action.Root file json) = codes "root"
-command_of (action.Show torrent json) = codes "show"
+command_of (action.Show torrent json long) = codes "show"
 command_of (action.Check asked) = codes "check"
 command_of (action.CheckPart asked) = codes "check"
 command_of (action.Join asked) = codes "join"
@@ -199,24 +190,27 @@ command_of (action.Convert asked) = codes "convert"
 abbrev pub FindsArguments : List Row → Action → Type 0
 FindsArguments rows (action.Root file json) =
     IsText (codes "FILE") rows file × IsFlag (codes "json") rows json
-FindsArguments rows (action.Show torrent json) =
+FindsArguments rows (action.Show torrent json long) =
     IsText (codes "TORRENT") rows torrent × IsFlag (codes "json") rows json
+    × IsFlag (codes "long") rows long
 FindsArguments rows (action.Check asked) =
     IsText (codes "TORRENT") rows asked.torrent × IsText (codes "DIR") rows asked.dir
     × IsFlag (codes "quiet") rows asked.quiet × IsFlag (codes "json") rows asked.json
     × IsFlag (codes "bad") rows asked.bad × (first_of (codes "part") rows ≡ None)
+    × IsFlag (codes "extra") rows asked.extra × IsFlag (codes "summary") rows asked.summary
 FindsArguments rows (action.CheckPart asked) =
     IsText (codes "TORRENT") rows asked.torrent × IsText (codes "DIR") rows asked.dir
-    × IsPart (codes "part") rows asked.part × IsPlain rows
+    × IsPart (codes "part") rows asked.part × IsFlag (codes "bad") rows asked.bad × IsPlain rows
 FindsArguments rows (action.Join asked) =
     IsText (codes "TORRENT") rows asked.torrent
     × AreTexts (codes "REPORT") rows asked.reports.items
 FindsArguments rows (action.Create asked) =
     IsText (codes "DIR") rows asked.dir × IsText (codes "OUT") rows asked.out
     × IsText (codes "name") rows asked.name
-    × IsNumberOf (one_of (codes "piece-length") rows) asked.piece_length
+    × IsPieceLength (codes "piece-length") rows asked.piece_length
     × IsFlag (codes "hybrid") rows asked.hybrid
     × AreTexts (codes "exclude") rows asked.exclude.items
+    × IsFlag (codes "no-clobber") rows asked.no_clobber
 FindsArguments rows (action.Convert asked) =
     IsText (codes "RECORD") rows asked.record × IsText (codes "OUT") rows asked.out
 FindsArguments rows (action.Replay asked) =
@@ -224,6 +218,8 @@ FindsArguments rows (action.Replay asked) =
     × IsFlag (codes "info-only") rows asked.info_only
     × IsTextIfThere (codes "seed") rows asked.seed
     × IsTextIfThere (codes "answers") rows asked.answers
+    × IsFlag (codes "padded") rows asked.padded
+    × IsFlag (codes "pieces") rows asked.pieces
     × IsFlag (codes "json") rows asked.json
 
 -- the command of this name, with what is found in its arguments, is this action
@@ -231,36 +227,47 @@ abbrev pub Asks : Text → List Row → Action → Type 0
 Asks name rows a = (name ≡ command_of a) × FindsArguments rows a
 
 -- what the command of this name asks for; nothing only if there is no such command, a text that it
--- needs is not found, its part is none, or an option is given that a part has not
+-- needs is not found, its part or its piece length is none, or an option is given that a part has
+-- not
 abbrev pub IsActionOf : Text → List Row → Option Action → Type 0
 IsActionOf name rows (Some a) = Asks name rows a
 IsActionOf name rows None = (a : Action) → Asks name rows a → ⊥
 
--- a command was found, and with what was found in its arguments it is this action
-abbrev pub IsAskedIn : Option (Text × List Row) → Action → Type 0
-IsAskedIn found a =
-    (name : Text) × (rows : List Row) × (found ≡ Some (name, rows)) × Asks name rows a
+-- the command of this name, with what is found in its arguments, asks for this
+abbrev pub AsksFor : Text → List Row → Asked → Type 0
+AsksFor name rows asked =
+    Asks name rows asked.action × IsFlag (codes "reasons") rows asked.reasons
+
+-- the same; nothing only if it asks for nothing
+abbrev pub IsAskedFor : Text → List Row → Option Asked → Type 0
+IsAskedFor name rows (Some asked) = AsksFor name rows asked
+IsAskedFor name rows None = (asked : Asked) → AsksFor name rows asked → ⊥
+
+-- a command was found, and with what was found in its arguments it asks for this
+abbrev pub IsAskedIn : Option (Text × List Row) → Asked → Type 0
+IsAskedIn found asked =
+    (name : Text) × (rows : List Row) × (found ≡ Some (name, rows)) × AsksFor name rows asked
 
 -- nothing is asked for
 abbrev pub IsNothing : Option (Text × List Row) → Type 0
-IsNothing found = (a : Action) → IsAskedIn found a → ⊥
+IsNothing found = (asked : Asked) → IsAskedIn found asked → ⊥
 
--- what was found is this action; nothing only if it is none
-abbrev pub IsAskedOf : Option (Text × List Row) → Option Action → Type 0
-IsAskedOf found (Some a) = IsAskedIn found a
-IsAskedOf found None = (a : Action) → IsAskedIn found a → ⊥
+-- what was found asks for this; nothing only if it asks for nothing
+abbrev pub IsAskedOf : Option (Text × List Row) → Option Asked → Type 0
+IsAskedOf found (Some asked) = IsAskedIn found asked
+IsAskedOf found None = IsNothing found
 
--- the action is what clap's definition finds in these words
-abbrev pub IsFoundIn : List Text → Action → Type 0
-IsFoundIn words a = IsAskedIn (subcommand_of program words) a
+-- this is what clap's definition finds in these words
+abbrev pub IsFoundIn : List Text → Asked → Type 0
+IsFoundIn words asked = IsAskedIn (subcommand_of program words) asked
 
 -- clap's definition has no fault to find with these words
 abbrev pub IsTaken : List Text → Type 0
 IsTaken words = fault_of program words ≡ []
 
--- the words are taken, and the action is what is found in them
-abbrev pub IsAskedBy : List Text → Action → Type 0
-IsAskedBy words a = IsTaken words × IsFoundIn words a
+-- the words are taken, and this is what is found in them
+abbrev pub IsAskedBy : List Text → Asked → Type 0
+IsAskedBy words asked = IsTaken words × IsFoundIn words asked
 
 -- the kinds of an error that says why no action is found in what clap takes
 abbrev pub IsUnaskedKind : ErrorKind → Type 0
@@ -269,10 +276,11 @@ IsUnaskedKind kind =
 
 -- Why these words ask for no action: out of memory; or one of the kinds that clap's definition
 -- gives for their first fault, as that help is asked for; or they are taken, and no action is
--- found in them: the part of `check` is none, or is given with an option that it has not.
+-- found in them: the part of `check` is none, or is given with an option that it has not, or the
+-- piece length of `create` is none.
 abbrev pub IsRefusalOf : List Text → ErrorKind → Type 0
 IsRefusalOf words kind = ((kind ≡ OutOfMemory) ⊎ IsAmong kind (fault_of program words))
-    ⊎ (IsTaken words × ((a : Action) → IsFoundIn words a → ⊥) × IsUnaskedKind kind)
+    ⊎ (IsTaken words × ((asked : Asked) → IsFoundIn words asked → ⊥) × IsUnaskedKind kind)
 
 -- ---- what is printed of arguments that ask for no action
 

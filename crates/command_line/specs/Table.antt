@@ -5,8 +5,7 @@ use Rattle.clap.specs.Walk.{Rule, Text}
 use Rattle.clap.specs.Simple.{Shape, new_rule}
 use Rattle.clap.specs.declared.builder.action.ArgAction.{ArgAction}
 use Rattle.clap.specs.declared.builder.action.ArgAction.TheVariants.{Append, Set, SetTrue}
-use Rattle.clap.specs.declared.builder.value_parser.ValueParser.TheVariants as vp
-use Rattle.command_line.specs.CommandLine.{command}
+use Rattle.command_line.specs.CommandLine.{command, short}
 use Rattle.command_line.specs.declared.definition.Kind.{Kind}
 use Rattle.command_line.specs.declared.definition.Kind.TheVariants as kind
 use Rattle.command_line.specs.declared.definition.Subcommand.{Subcommand}
@@ -32,6 +31,10 @@ abbrev pub word : Text → Times → Rule
 word name times =
     record (new_rule name) { required = needs times; action = Some (action_for times) }
 
+-- an option without a value
+abbrev pub flagged : Text → Times → Rule
+flagged name times = record (word name times) { long = Some name; action = Some SetTrue }
+
 -- an option with a text
 abbrev pub valued : Text → Times → Rule
 valued name times = record (word name times) { long = Some name; value_names = 1 }
@@ -39,11 +42,10 @@ valued name times = record (word name times) { long = Some name; value_names = 1
 -- the rules of an argument of this name and kind that is there so often
 abbrev pub rule_for : Text → Kind → Times → Rule
 rule_for name kind.Word times = word name times
-rule_for name kind.Flag times =
-    record (word name times) { long = Some name; action = Some SetTrue }
+rule_for name kind.Flag times = flagged name times
+rule_for name (kind.ShortFlag letter) times = short letter (flagged name times)
 rule_for name (kind.Text value) times = valued name times
-rule_for name (kind.Number value) times =
-    record (valued name times) { parser = Some (vp.Unsigned 0 18446744073709551615) }
+rule_for name (kind.ShortText letter value) times = short letter (valued name times)
 
 -- the rules of an argument of the table
 abbrev pub rule_of_row : Bor Text × Kind × Times × Bor Text → Rule

@@ -6,13 +6,14 @@ ghost use Rattle.command_line.specs.Table.{action_for, leaf_of, needs, rule_for}
 
 use crate::help::{
     ABOUT, ANSWERS_HELP, BAD_HELP, CHECK_ABOUT, CHECK_HELP, CONVERT_ABOUT, CONVERT_HELP,
-    CREATE_ABOUT, CREATE_HELP, EXAMPLES, EXCLUDE_HELP, HYBRID_HELP, INFO_ONLY_HELP, JOIN_ABOUT,
-    JOIN_HELP, JSON_HELP, NAME_HELP, PART_HELP, PIECE_LENGTH_HELP, QUIET_HELP, REPLAY_ABOUT,
-    REPLAY_HELP, ROOT_ABOUT, ROOT_HELP, SEED_HELP, SHOW_ABOUT, SHOW_HELP, STATUSES, VERSION,
+    CREATE_ABOUT, CREATE_HELP, EXAMPLES, EXCLUDE_HELP, EXTRA_HELP, HYBRID_HELP, INFO_ONLY_HELP,
+    JOIN_ABOUT, JOIN_HELP, JSON_HELP, LONG_HELP, NAME_HELP, NO_CLOBBER_HELP, PADDED_HELP,
+    PART_HELP, PIECE_LENGTH_HELP, PIECES_HELP, QUIET_HELP, REASONS_HELP, REPLAY_ABOUT, REPLAY_HELP,
+    ROOT_ABOUT, ROOT_HELP, SEED_HELP, SHOW_ABOUT, SHOW_HELP, STATUSES, SUMMARY_HELP, VERSION,
 };
-use Kind::{Flag, Number, Text, Word};
+use Kind::{Flag, ShortFlag, ShortText, Text, Word};
 use Times::{Any, AtLeastOnce, AtMostOnce, Once};
-use clap::{Arg, ArgAction, Command, value_parser};
+use clap::{Arg, ArgAction, Command};
 use std::alloc::{AllocError, Global};
 
 // A command without commands below it.
@@ -36,10 +37,12 @@ enum Kind<'a> {
     Word,
     // An option without a value.
     Flag,
+    // The same, which has a letter too.
+    ShortFlag(char),
     // An option with a text.
     Text(&'a str),
-    // An option with a number of 64 bits.
-    Number(&'a str),
+    // The same, which has a letter too.
+    ShortText(char, &'a str),
 }
 
 // How often an argument is there.
@@ -59,7 +62,8 @@ const COMMANDS: &[Subcommand<'static>] = &[
         help: ROOT_HELP,
         arguments: &[
             ("FILE", Word, Once, "The file to hash"),
-            ("json", Flag, AtMostOnce, JSON_HELP),
+            ("json", ShortFlag('j'), AtMostOnce, JSON_HELP),
+            ("reasons", Flag, AtMostOnce, REASONS_HELP),
         ],
     },
     Subcommand {
@@ -68,7 +72,9 @@ const COMMANDS: &[Subcommand<'static>] = &[
         help: SHOW_HELP,
         arguments: &[
             ("TORRENT", Word, Once, "The torrent file"),
-            ("json", Flag, AtMostOnce, JSON_HELP),
+            ("long", Flag, AtMostOnce, LONG_HELP),
+            ("json", ShortFlag('j'), AtMostOnce, JSON_HELP),
+            ("reasons", Flag, AtMostOnce, REASONS_HELP),
         ],
     },
     Subcommand {
@@ -78,10 +84,13 @@ const COMMANDS: &[Subcommand<'static>] = &[
         arguments: &[
             ("TORRENT", Word, Once, "The torrent file"),
             ("DIR", Word, Once, "The folder that holds the files"),
-            ("quiet", Flag, AtMostOnce, QUIET_HELP),
+            ("quiet", ShortFlag('q'), AtMostOnce, QUIET_HELP),
             ("bad", Flag, AtMostOnce, BAD_HELP),
+            ("extra", Flag, AtMostOnce, EXTRA_HELP),
+            ("summary", Flag, AtMostOnce, SUMMARY_HELP),
             ("part", Text("I/N"), AtMostOnce, PART_HELP),
-            ("json", Flag, AtMostOnce, JSON_HELP),
+            ("json", ShortFlag('j'), AtMostOnce, JSON_HELP),
+            ("reasons", Flag, AtMostOnce, REASONS_HELP),
         ],
     },
     Subcommand {
@@ -96,6 +105,7 @@ const COMMANDS: &[Subcommand<'static>] = &[
                 AtLeastOnce,
                 "What each part of the check printed",
             ),
+            ("reasons", Flag, AtMostOnce, REASONS_HELP),
         ],
     },
     Subcommand {
@@ -106,9 +116,11 @@ const COMMANDS: &[Subcommand<'static>] = &[
             ("DIR", Word, Once, "The folder that holds the files"),
             ("OUT", Word, Once, "The torrent file that is written"),
             ("name", Text("N"), Once, NAME_HELP),
-            ("piece-length", Number("K"), Once, PIECE_LENGTH_HELP),
+            ("piece-length", Text("K"), Once, PIECE_LENGTH_HELP),
             ("hybrid", Flag, AtMostOnce, HYBRID_HELP),
             ("exclude", Text("GLOB"), Any, EXCLUDE_HELP),
+            ("no-clobber", Flag, AtMostOnce, NO_CLOBBER_HELP),
+            ("reasons", Flag, AtMostOnce, REASONS_HELP),
         ],
     },
     Subcommand {
@@ -120,8 +132,11 @@ const COMMANDS: &[Subcommand<'static>] = &[
             ("RECORD", Word, Once, "The record, a file or a pipe"),
             ("info-only", Flag, AtMostOnce, INFO_ONLY_HELP),
             ("seed", Text("DIR"), AtMostOnce, SEED_HELP),
-            ("answers", Text("OUT"), AtMostOnce, ANSWERS_HELP),
-            ("json", Flag, AtMostOnce, JSON_HELP),
+            ("answers", ShortText('o', "OUT"), AtMostOnce, ANSWERS_HELP),
+            ("padded", Flag, AtMostOnce, PADDED_HELP),
+            ("pieces", Flag, AtMostOnce, PIECES_HELP),
+            ("json", ShortFlag('j'), AtMostOnce, JSON_HELP),
+            ("reasons", Flag, AtMostOnce, REASONS_HELP),
         ],
     },
     Subcommand {
@@ -131,6 +146,7 @@ const COMMANDS: &[Subcommand<'static>] = &[
         arguments: &[
             ("RECORD", Word, Once, "The record, a file or a pipe"),
             ("OUT", Word, Once, "The record that is written"),
+            ("reasons", Flag, AtMostOnce, REASONS_HELP),
         ],
     },
 ];
@@ -191,11 +207,9 @@ fn arg<'a>(alloc: Global, name: &'a str, kind: Kind<'a>, times: Times, help: &'a
     match kind {
         Kind::Word => argument,
         Kind::Flag => argument.long(name).action(ArgAction::SetTrue),
+        Kind::ShortFlag(letter) => argument.long(name).short(letter).action(ArgAction::SetTrue),
         Kind::Text(value) => argument.long(name).value_name(value),
-        Kind::Number(value) => argument
-            .long(name)
-            .value_name(value)
-            .value_parser(value_parser!(u64)),
+        Kind::ShortText(letter, value) => argument.long(name).short(letter).value_name(value),
     }
 }
 

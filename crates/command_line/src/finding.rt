@@ -1,11 +1,15 @@
 //! What is found in the arguments.
 ghost use Rattle.std.specs.Prelude.{◌↔◌, codes, IfOk, IsFalse, IsTrue};
 ghost use Rattle.clap.specs.Simple.{subcommand_rows_of};
-ghost use Rattle.clap.specs.Walk.{one_of, rows_of};
+ghost use Rattle.clap.specs.Walk.{rows_of};
 ghost use Rattle.clap.specs.Matches.{found_of};
-ghost use Rattle.command_line.specs.CommandLine.{AreTexts, IsActionOf, IsAskedOf, IsFlag, IsNotGiven, IsNumberIfThere, IsPartIfThere, IsPlain, IsTextIfThere, IsUnaskedKind};
+ghost use Rattle.command_line.specs.CommandLine.{AreTexts, IsActionOf, IsAskedFor, IsAskedOf, IsFlag, IsNotGiven, IsPieceLengthFound, IsPlain, IsTextIfThere, IsUnaskedKind};
+ghost use Rattle.command_line.specs.PartTexts.{IsPartIfThere};
 
-use actions::{Action, Check, CheckPart, Convert, Create, Join, Part, Replay};
+use crate::sizes::piece_length_in;
+use actions::{
+    Action, Asked, Check, CheckPart, Convert, Join, NewTorrent, Part, PieceLength, Replay,
+};
 use clap::ArgMatches;
 use clap::error::ErrorKind;
 use std::alloc::{AllocError, Global};
@@ -14,11 +18,11 @@ use std::alloc::{AllocError, Global};
 pub(crate) fn asked_in<'a>(
     alloc: Global,
     matches: &ArgMatches<'a>,
-) -> Result<Option<Action<'a>>, AllocError>
+) -> Result<Option<Asked<'a>>, AllocError>
     ensures { IfOk result (IsAskedOf (subcommand_rows_of matches.now)) }
 {
     match matches.subcommand() {
-        Some((name, found)) => action_of(alloc, name, found),
+        Some((name, found)) => asked_of(alloc, name, found),
         None => Ok(None),
     }
 }
@@ -27,9 +31,21 @@ pub(crate) fn asked_in<'a>(
 pub(crate) fn unasked(matches: &ArgMatches<'_>) -> (ErrorKind, &'static str)
     ensures { IsUnaskedKind result.0 }
 {
-    let Some(("check", found)) = matches.subcommand() else {
-        return (ErrorKind::MissingSubcommand, "a command is missing");
-    };
+    match matches.subcommand() {
+        Some(("check", found)) => unasked_part(found),
+        Some(("create", _)) => (
+            ErrorKind::ValueValidation,
+            "invalid value for '--piece-length <K>': it is not a number of bytes, as 65536, 64K or \
+             1M, nor `auto`",
+        ),
+        _ => (ErrorKind::MissingSubcommand, "a command is missing"),
+    }
+}
+
+// Why no part is asked for.
+fn unasked_part(found: &ArgMatches<'_>) -> (ErrorKind, &'static str)
+    ensures { IsUnaskedKind result.0 }
+{
     if is_plain(found) {
         (
             ErrorKind::ValueValidation,
@@ -39,9 +55,25 @@ pub(crate) fn unasked(matches: &ArgMatches<'_>) -> (ErrorKind, &'static str)
     } else {
         (
             ErrorKind::ArgumentConflict,
-            "the argument '--part <I/N>' cannot be used with '--quiet', '--bad' or '--json'",
+            "the argument '--part <I/N>' cannot be used with '--quiet', '--extra', '--summary' or \
+             '--json'",
         )
     }
+}
+
+// What the command of this name asks for, and whether reasons are printed.
+fn asked_of<'a>(
+    alloc: Global,
+    name: &str,
+    found: &ArgMatches<'a>,
+) -> Result<Option<Asked<'a>>, AllocError>
+    ensures { IfOk result (IsAskedFor name.now (rows_of (found_of found.now))) }
+{
+    let Some(action) = action_of(alloc, name, found)? else {
+        return Ok(None);
+    };
+    let reasons = is_given(found, "reasons");
+    Ok(Some(Asked { action, reasons }))
 }
 
 // What the command of this name asks for, with what was found in its arguments.
@@ -55,7 +87,7 @@ fn action_of<'a>(
     match name {
         "root" => Ok(root_of(found)),
         "show" => Ok(show_of(found)),
-        "check" => Ok(check_of(found)),
+        "check" => Ok(whole_or_part_of(found)),
         "join" => Ok(join_of(found, texts(alloc, found, "REPORT")?)),
         "create" => Ok(create_of(found, texts(alloc, found, "exclude")?)),
         "replay" => Ok(replay_of(found)),
@@ -83,11 +115,12 @@ fn show_of<'a>(found: &ArgMatches<'a>) -> Option<Action<'a>>
     Some(Action::Show {
         torrent,
         json: is_given(found, "json"),
+        long: is_given(found, "long"),
     })
 }
 
 // What the arguments after `check` ask for.
-fn check_of<'a>(found: &ArgMatches<'a>) -> Option<Action<'a>>
+fn whole_or_part_of<'a>(found: &ArgMatches<'a>) -> Option<Action<'a>>
     ensures { IsActionOf (codes "check") (rows_of (found_of found.now)) result }
 {
     let torrent = text(found, "TORRENT")?;
@@ -99,10 +132,17 @@ fn check_of<'a>(found: &ArgMatches<'a>) -> Option<Action<'a>>
             quiet: is_given(found, "quiet"),
             json: is_given(found, "json"),
             bad: is_given(found, "bad"),
+            extra: is_given(found, "extra"),
+            summary: is_given(found, "summary"),
         })),
         Some(part) if is_plain(found) => {
             let part = part_in(part)?;
-            Some(Action::CheckPart(CheckPart { torrent, dir, part }))
+            Some(Action::CheckPart(CheckPart {
+                torrent,
+                dir,
+                part,
+                bad: is_given(found, "bad"),
+            }))
         }
         Some(_) => None,
     }
@@ -112,7 +152,10 @@ fn check_of<'a>(found: &ArgMatches<'a>) -> Option<Action<'a>>
 fn is_plain(found: &ArgMatches<'_>) -> bool
     ensures { IsTrue result ↔ IsPlain (rows_of (found_of found.now)) }
 {
-    !(is_true(found, "quiet") || is_true(found, "bad") || is_true(found, "json"))
+    !(is_true(found, "quiet")
+        || is_true(found, "json")
+        || is_true(found, "extra")
+        || is_true(found, "summary"))
 }
 
 // Whether the option with this name is given.
@@ -155,15 +198,23 @@ fn create_of<'a>(found: &ArgMatches<'a>, exclude: Vec<&'a str>) -> Option<Action
     let dir = text(found, "DIR")?;
     let out = text(found, "OUT")?;
     let name = text(found, "name")?;
-    let piece_length = number(found, "piece-length")?;
-    Some(Action::Create(Create {
+    let piece_length = piece_length(found)?;
+    Some(Action::Create(NewTorrent {
         dir,
         out,
         name,
         piece_length,
         hybrid: is_given(found, "hybrid"),
         exclude,
+        no_clobber: is_given(found, "no-clobber"),
     }))
+}
+
+// The piece length that was found.
+fn piece_length(found: &ArgMatches<'_>) -> Option<PieceLength>
+    ensures { IsPieceLengthFound (codes "piece-length") (rows_of (found_of found.now)) result }
+{
+    piece_length_in(text(found, "piece-length")?)
 }
 
 // What the arguments after `convert` ask for.
@@ -187,6 +238,8 @@ fn replay_of<'a>(found: &ArgMatches<'a>) -> Option<Action<'a>>
         info_only: is_given(found, "info-only"),
         seed: text(found, "seed"),
         answers: text(found, "answers"),
+        padded: is_given(found, "padded"),
+        pieces: is_given(found, "pieces"),
         json: is_given(found, "json"),
     }))
 }
@@ -206,13 +259,6 @@ fn texts<'a>(alloc: Global, found: &ArgMatches<'a>, name: &str) -> Result<Vec<&'
         Some(texts) => Ok(Vec::from_slice(alloc, texts)?),
         None => Ok(Vec::new(alloc)),
     }
-}
-
-// The number that was found under this name.
-fn number(found: &ArgMatches<'_>, name: &str) -> Option<u64>
-    ensures { IsNumberIfThere (one_of name.now (rows_of (found_of found.now))) result }
-{
-    found.get_one(name)
 }
 
 // Whether the option with this name was found.

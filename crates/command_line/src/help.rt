@@ -117,12 +117,32 @@ pub(crate) const SEED_HELP: &str =
 pub(crate) const ANSWERS_HELP: &str =
     "Write the answers to hash requests to this file, which is emptied first";
 
+pub(crate) const PADDED_HELP: &str =
+    "Take the last block of a file with zeros behind its end too, as libtorrent sends it";
+
 pub(crate) const NAME_HELP: &str = "The display name that the torrent suggests";
 
 pub(crate) const PIECE_LENGTH_HELP: &str =
-    "Bytes per piece: a power of two from 16384 to 1073741824";
+    "Bytes per piece, a power of two from 16384 to 1073741824; `64K`, `1M`; or `auto`";
 
 pub(crate) const EXCLUDE_HELP: &str =
     "Leave out the files and folders that match: `*.tmp` at any depth, `/a/*.txt` from DIR";
 
 pub(crate) const HYBRID_HELP: &str = "Make a hybrid, which clients of version 1 can use too";
+
+pub(crate) const NO_CLOBBER_HELP: &str = "Do not write OUT if it is there already";
+
+pub(crate) const REASONS_HELP: &str =
+    "Print the system's reasons on standard error, also in a pipe";
+
+pub(crate) const LONG_HELP: &str =
+    "Print the sum of the lengths, and how many pieces and layers there are";
+
+pub(crate) const EXTRA_HELP: &str =
+    "First print the files below DIR that the torrent does not name";
+
+pub(crate) const SUMMARY_HELP: &str =
+    "Print on standard error how many files have each verdict, and how fast they were read";
+
+pub(crate) const PIECES_HELP: &str =
+    "Hold blocks that cannot be proved yet until their piece is whole, and judge them then";

@@ -6,6 +6,7 @@ mod definition;
 mod explaining;
 mod finding;
 mod help;
+mod sizes;
 
 pub use arguments::action;
 pub use explaining::{ExplainFault, explain};

@@ -1,3 +1,5 @@
 -- What the program makes of the library's answers.
-pub mod BadCheck
+pub mod Checks
+pub mod MarkedParts
 pub mod Outcomes
+pub mod PieceReplays

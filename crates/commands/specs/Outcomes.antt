@@ -31,12 +31,19 @@ use Rattle.replays.specs.Outcome.{status_of}
 use Rattle.folders.specs.Printed.{report_text}
 use Rattle.printing.specs.Refused.{refusal_text}
 use Rattle.replays.specs.Replay.{IsReport, ReplaySeen}
+use Rattle.replays.specs.Telling.{plain_as}
 use Rattle.folders.specs.Shelf.{path_bytes}
 use Rattle.folders.specs.Verdicts.{HasVerdicts, IsTrueOfFolder, is_yes}
 use Rattle.folders.specs.declared.lines.Lines.TheVariants as lines
+use Rattle.lines.specs.Rows.{Spelling}
 use Rattle.part_reports.specs.Joined.{AreJoined}
+use Rattle.part_reports.specs.MarkedJoins.{AreJoinedAs}
+use Rattle.part_reports.specs.Reasons.{HasReason, HasReasonOf}
+use Rattle.part_reports.specs.WholeLines.{PrintsWhole, StopsPrinting}
 use Rattle.part_reports.specs.declared.join_fault.JoinFault.{JoinFault}
 use Rattle.part_reports.specs.declared.join_fault.JoinFault.TheVariants as joining
+use Rattle.part_reports.specs.declared.kind.Kind.TheVariants as kind
+use Rattle.part_reports.specs.declared.marked_report.MarkedReport.{MarkedReport}
 use Rattle.parts.specs.Finding.{IsTrueOfPlaces}
 use Rattle.parts.specs.PartLines.{part_text}
 use Rattle.parts.specs.Shares.{share}
@@ -48,10 +55,11 @@ abbrev pub answer_status : Bool → ℕ
 answer_status true = 0
 answer_status false = 1
 
--- the report of a record went out, with its answers if they are wanted; and the status is that of
--- the outcome
-abbrev pub IsReplayed : ReplaySeen → ReplaySeen → ℕ → Type 0
-IsReplayed old new status = (outcome : _) × IsReport old new outcome × (status ≡ status_of outcome)
+-- the report of a record went out, spelled so, with its answers if they are wanted; and the status
+-- is that of the outcome
+abbrev pub IsReplayed : Spelling → ReplaySeen (Unit {0}) → ReplaySeen (Unit {0}) → ℕ → Type 0
+IsReplayed spelled old new status =
+    (outcome : _) × IsReport (plain_as spelled) old new outcome × (status ≡ status_of outcome)
 
 -- ---- faults
 
@@ -136,20 +144,36 @@ ChecksPart t part count under Went out out' (Err faults.NoMemory) = out' ≡ out
 ChecksPart t part count under Went out out' (Err fault) = ⊥
 
 -- What joining reports did, by its answer: what they say together went out as the report of a
--- check, and the status is that of its last line; or they cannot be joined, and nothing was
--- printed; or the report broke off; or memory was refused before it.
+-- check, and the status is that of its last line; or they cannot be joined for this reason, and
+-- nothing was printed; or the report broke off; or memory was refused before it.
 abbrev pub JoinsParts : Description → List (List ℕ) → SinkSeen → SinkSeen
     → Result (Result ℕ JoinFault) Fault → Type 0
 JoinsParts t texts out out' (Ok (Ok status)) = (files : List FileVerdict)
     × (v1 : Option V1Verdict) × AreJoined t texts files v1
     × SentAndFlushed out out' (report_text lines.All t.files files v1)
     × (status ≡ answer_status (is_yes files v1))
-JoinsParts t texts out out' (Ok (Err fault)) = (fault ≢ joining.NoMemory) × (out' ≡ out)
+JoinsParts t texts out out' (Ok (Err fault)) =
+    (fault ≢ joining.NoMemory) × HasReason t texts fault × (out' ≡ out)
 JoinsParts t texts out out' (Err (faults.Write path)) = (path.now ≡ codes "-")
     × (files : List FileVerdict) × (v1 : Option V1Verdict) × AreJoined t texts files v1
     × BrokeOrUnflushed out out' (report_text lines.All t.files files v1)
 JoinsParts t texts out out' (Err faults.NoMemory) = out' ≡ out
 JoinsParts t texts out out' (Err fault) = ⊥
+
+-- The same of marked reports: what they say together went out with the maximal runs of bad pieces
+-- of each file that is bad or has another length.
+abbrev pub JoinsMarkedParts : Description → List (List ℕ) → SinkSeen → SinkSeen
+    → Result (Result ℕ JoinFault) Fault → Type 0
+JoinsMarkedParts t texts out out' (Ok (Ok status)) = (joined : MarkedReport)
+    × AreJoinedAs kind.Marked t texts joined × PrintsWhole t joined out out'
+    × (status ≡ answer_status (is_yes joined.report.files.items joined.report.v1))
+JoinsMarkedParts t texts out out' (Ok (Err fault)) =
+    (fault ≢ joining.NoMemory) × HasReasonOf kind.Marked t texts fault × (out' ≡ out)
+JoinsMarkedParts t texts out out' (Err (faults.Write path)) = (path.now ≡ codes "-")
+    × (joined : MarkedReport) × AreJoinedAs kind.Marked t texts joined
+    × StopsPrinting t joined out out'
+JoinsMarkedParts t texts out out' (Err faults.NoMemory) = out' ≡ out
+JoinsMarkedParts t texts out out' (Err fault) = ⊥
 
 -- ---- seeds, new torrents and conversions
 

@@ -1,5 +1,9 @@
 //! What each command of `btcheck` answers over any devices.
 #![tactic(auto)]
 
-pub mod bad_check;
+pub mod checks;
+mod joins;
+mod marked_joins;
 pub mod outcomes;
+pub mod part_checks;
+pub mod piece_replays;

@@ -7,37 +7,43 @@ ghost use Rattle.gathering.specs.Gathering.{Gathers};
 ghost use Rattle.printing.specs.Refused.{refusal_text};
 ghost use Rattle.printing.specs.Show.{show_text};
 ghost use Rattle.replays.specs.Replay.{IsCutReport, replay_seen};
+ghost use Rattle.replays.specs.Telling.{plain_as};
 ghost use Rattle.folders.specs.Root.{root_line_of};
-ghost use Rattle.folders.specs.Stopping.{BreaksOff};
-ghost use Rattle.seeding.specs.Seeding.{IsSeeded, Seeds, shelf_and_session};
+ghost use Rattle.seeding.specs.Seeding.{IsSeededAs, SeedsAs, seed_line_as, shelf_and_session};
 ghost use Rattle.folders.specs.TakeAll.{IsReadWithin};
 ghost use Rattle.folders.specs.Verdicts.{CountsUnreadable};
-ghost use Rattle.folders.specs.Visits.{Visits};
 ghost use Rattle.session.specs.Fresh.{IsFresh};
+ghost use Rattle.part_reports.specs.Heads.{AreMarked};
 ghost use Rattle.parts.specs.PartVisits.{VisitsPart};
 ghost use Rattle.parts.specs.Shares.{share};
-ghost use Rattle.commands.specs.Outcomes.{BlamesOne, Checks, ChecksPart, ConvertsRecord, EndsRoot, IsReplayed, IsListingFault, IsSeedingFault, IsUnprinted, JoinsParts, MakesDraft, NamesOutput, NamesSink, WritesTorrent, answer_status, form_2_text, wanted_draft};
+ghost use Rattle.commands.specs.Outcomes.{BlamesOne, ChecksPart, ConvertsRecord, EndsRoot, IsReplayed, IsListingFault, IsSeedingFault, IsUnprinted, JoinsMarkedParts, JoinsParts, MakesDraft, NamesOutput, NamesSink, WritesTorrent, answer_status, form_2_text, wanted_draft};
 
+use crate::joins::join_plain;
+use crate::marked_joins::join_marked;
 use actions::{Create, Part};
 use benc::memory::MemSink;
 use benc::{Sink, Source};
 use conversions::ConvertFault;
 use drafts::Draft;
 use filetree::Refusal;
-use folders::{
-    CheckFault, Lines, RootFault, SeekShelf, Shelf, ShelfFault, check_onto, print_report, root_line,
-};
+use folders::{RootFault, SeekShelf, Shelf, ShelfFault, root_line_through};
 use gathering::GatherFault;
+use lines::LineSink;
 use opening::Torrent;
-use part_reports::{JoinFault, join_reports};
+use part_reports::{JoinFault, Kind, kind_of};
 use parts::{Places, print_part};
+use pieces::PieceBuffer;
 use printing::{Fault, OUTPUT, refusal_line, write_line};
 use seeding::SeedFault;
 use session::{NodeMap, Paged, Session};
 use std::alloc::Global;
 
 /// Prints the length and root of the file with this path. The status is 1 if the file is too long.
+/// If memory for its buffer is refused, it uses a smaller one, which is no fault.
+// It has a block in its frame, so it is not inlined.
+#[inline(never)]
 pub fn root<'a, R: Source, W: Sink>(
+    alloc: Global,
     path: &'a str,
     source: &mut R,
     out: &mut W,
@@ -48,7 +54,8 @@ pub fn root<'a, R: Source, W: Sink>(
     ensures faults { BlamesOne path.now (R.seen source.old) (R.seen source.new)
         (W.seen out.old) (W.seen out.new) result }
 {
-    match root_line(source, out) {
+    let mut buffer = PieceBuffer::of_blocks(alloc);
+    match root_line_through(source, buffer.as_mut_slice(), out) {
         Ok(within) => Ok(status(within)),
         Err(RootFault::Read) => Err(Fault::Read(path)),
         Err(RootFault::Write) => Err(Fault::Write(OUTPUT)),
@@ -90,30 +97,6 @@ pub fn refuse<'a, W: Sink>(refusal: &Refusal, path: &[String], out: &mut W) -> R
     }
 }
 
-/// Checks that a shelf holds the torrent's files, and prints the wanted lines of what it found, a
-/// file's as soon as the file is done. The status is 0 for `yes` and 1 for `no`.
-pub fn check<'a, S: Shelf, W: Sink>(
-    alloc: Global,
-    torrent: &Torrent<'_>,
-    shelf: &mut S,
-    lines: Lines,
-    out: &mut W,
-) -> Result<u8, Fault<'a>>
-    ensures checks { Checks torrent.now (S.contents shelf.old).under
-        (λ files. Chain (Visits S.Shelf S.File.seen torrent.now) shelf.old torrent.now.files
-        files shelf.new × CountsUnreadable (S.faults shelf.old) (S.faults shelf.new) files)
-        (BreaksOff S.Shelf S.File.seen torrent.now shelf.old lines
-        (W.seen out.old) (W.seen out.new) shelf.new)
-        lines (W.seen out.old) (W.seen out.new) result }
-    ensures no_memory { IfErr result (λ f. f ≡ Fault.NoMemory → shelf.new ≡ shelf.old) }
-{
-    match check_onto(alloc, torrent, shelf, lines, out) {
-        Ok(report) => Ok(status(report.yes())),
-        Err(CheckFault::NoMemory) => Err(Fault::NoMemory),
-        Err(CheckFault::Write) => Err(Fault::Write(OUTPUT)),
-    }
-}
-
 /// Checks one part of the torrent's files on a shelf, and prints what it found: the lines of the
 /// files that have a place in the part. The status is 0 for `part yes` and 1 for `part no`.
 pub fn check_part<'a, S: SeekShelf, W: Sink>(
@@ -143,7 +126,8 @@ pub fn check_part<'a, S: SeekShelf, W: Sink>(
 }
 
 /// Joins what all parts of a check of this torrent reported, in any order, and prints it as the
-/// report of the whole check. The status is 0 for `yes` and 1 for `no`. If they cannot be joined it
+/// report of the whole check. If the first report is marked all are to be, and the lines of bad
+/// pieces are printed too. The status is 0 for `yes` and 1 for `no`. If they cannot be joined it
 /// answers why, and prints nothing.
 pub fn join<'a, W: Sink>(
     alloc: Global,
@@ -151,17 +135,14 @@ pub fn join<'a, W: Sink>(
     texts: &[&[u8]],
     out: &mut W,
 ) -> Result<Result<u8, JoinFault>, Fault<'a>>
-    ensures { JoinsParts torrent.now (map (λ x. x.now) texts.now)
-        (W.seen out.old) (W.seen out.new) result }
+    ensures plain { let given = map (λ x. x.now) texts.now in (AreMarked given → ⊥)
+        → JoinsParts torrent.now given (W.seen out.old) (W.seen out.new) result }
+    ensures marked { let given = map (λ x. x.now) texts.now in AreMarked given
+        → JoinsMarkedParts torrent.now given (W.seen out.old) (W.seen out.new) result }
 {
-    let report = match join_reports(alloc, torrent, texts) {
-        Ok(report) => report,
-        Err(JoinFault::NoMemory) => return Err(Fault::NoMemory),
-        Err(fault) => return Ok(Err(fault)),
-    };
-    match print_report(&report, torrent, out) {
-        Ok(()) => Ok(Ok(status(report.yes()))),
-        Err(_) => Err(Fault::Write(OUTPUT)),
+    match kind_of(texts) {
+        Kind::Plain => join_plain(alloc, torrent, texts, out),
+        Kind::Marked => join_marked(alloc, torrent, texts, out),
     }
 }
 
@@ -178,44 +159,48 @@ pub fn new_session<'t, 'a>(
     Ok(Session::new(alloc, torrent, !info_only)?)
 }
 
-/// Fills a session from a shelf, and prints a line for each file of the torrent.
-pub fn seed<'a, N: NodeMap, S: Shelf, W: Sink>(
+/// Fills a session from a shelf, and says a line for each file of the torrent.
+pub fn seed<'a, N: NodeMap, S: Shelf, L: LineSink>(
     alloc: Global,
     session: &mut Session<'_, N>,
     shelf: &mut S,
-    out: &mut W,
+    out: &mut L,
 ) -> Result<(), Fault<'a>>
-    ensures seeded { OnOk result (IsSeeded S.Shelf S.File.seen
+    ensures seeded { OnOk result (IsSeededAs S.Shelf S.File.seen (seed_line_as L.spelled)
         (shelf_and_session shelf.old session.old) (shelf_and_session shelf.new session.new)
-        (W.seen out.old) (W.seen out.new)) }
-    ensures fault { IfErr result (λ f. (e : SeedFault) × Seeds S.Shelf S.File.seen
+        (L.seen out.old) (L.seen out.new)) }
+    ensures fault { IfErr result (λ f. (e : SeedFault) × SeedsAs S.Shelf S.File.seen
+        (seed_line_as L.spelled)
         (shelf_and_session shelf.old session.old) (shelf_and_session shelf.new session.new)
-        (W.seen out.old) (W.seen out.new) (Err e) × IsSeedingFault e f) }
+        (L.seen out.old) (L.seen out.new) (Err e) × IsSeedingFault e f) }
 {
-    match seeding::seed(alloc, session, shelf, out) {
+    match seeding::seed_onto(alloc, session, shelf, out) {
         Ok(()) => Ok(()),
         Err(SeedFault::NoMemory) => Err(Fault::NoMemory),
         Err(SeedFault::Write) => Err(Fault::Write(OUTPUT)),
     }
 }
 
-/// Replays a record over a session. Each line goes out as its frame comes.
-pub fn replay<'a, N: NodeMap, R: Source, W: Sink>(
+/// Replays a record over a session; with `cuts` the zeros behind the end of a file are cut away.
+/// Each line goes out as its frame comes.
+pub fn replay<'a, N: NodeMap, R: Source, L: LineSink>(
     alloc: Global,
     session: &mut Session<'_, N>,
     source: &mut R,
-    out: &mut W,
+    out: &mut L,
+    cuts: bool,
 ) -> Result<u8, Fault<'a>>
-    ensures replayed { IfOk result (IsReplayed
-        (replay_seen (R.seen source.old) session.old (W.seen out.old) None)
-        (replay_seen (R.seen source.new) session.new (W.seen out.new) None)) }
-    ensures cut { OnErr result (IsCutReport
-        (replay_seen (R.seen source.old) session.old (W.seen out.old) None)
-        (replay_seen (R.seen source.new) session.new (W.seen out.new) None)) }
+    ensures replayed { IfOk result (IsReplayed L.spelled
+        (replay_seen cuts (R.seen source.old) session.old tt (L.seen out.old) None)
+        (replay_seen cuts (R.seen source.new) session.new tt (L.seen out.new) None)) }
+    ensures cut { OnErr result (IsCutReport (plain_as L.spelled)
+        (replay_seen cuts (R.seen source.old) session.old tt (L.seen out.old) None)
+        (replay_seen cuts (R.seen source.new) session.new tt (L.seen out.new) None)) }
     ensures fault { IfErr result NamesOutput }
 {
     // There is no sink for answers, so any type of sink will do.
-    let Ok(outcome) = replays::replay(alloc, session, source, out, None::<&mut MemSink>) else {
+    let answers = None::<&mut MemSink>;
+    let Ok(outcome) = replays::replay_onto(alloc, session, source, out, answers, cuts) else {
         return Err(Fault::Write(OUTPUT));
     };
     Ok(outcome.status())
@@ -223,32 +208,33 @@ pub fn replay<'a, N: NodeMap, R: Source, W: Sink>(
 
 /// Replays a record over a session, and writes the answers to its hash requests to the sink with
 /// this path.
-pub fn replay_and_answer<'a, N: NodeMap, R: Source, W: Sink, A: Sink>(
+pub fn replay_and_answer<'a, N: NodeMap, R: Source, L: LineSink, A: Sink>(
     alloc: Global,
     session: &mut Session<'_, N>,
     source: &mut R,
-    out: &mut W,
+    out: &mut L,
+    cuts: bool,
     path: &'a str,
     answers: &mut A,
 ) -> Result<u8, Fault<'a>>
-    ensures replayed { IfOk result (IsReplayed
-        (replay_seen (R.seen source.old) session.old (W.seen out.old)
+    ensures replayed { IfOk result (IsReplayed L.spelled
+        (replay_seen cuts (R.seen source.old) session.old tt (L.seen out.old)
         (Some (A.seen answers.old)))
-        (replay_seen (R.seen source.new) session.new (W.seen out.new)
+        (replay_seen cuts (R.seen source.new) session.new tt (L.seen out.new)
         (Some (A.seen answers.new)))) }
-    ensures cut { OnErr result (IsCutReport
-        (replay_seen (R.seen source.old) session.old (W.seen out.old)
+    ensures cut { OnErr result (IsCutReport (plain_as L.spelled)
+        (replay_seen cuts (R.seen source.old) session.old tt (L.seen out.old)
         (Some (A.seen answers.old)))
-        (replay_seen (R.seen source.new) session.new (W.seen out.new)
+        (replay_seen cuts (R.seen source.new) session.new tt (L.seen out.new)
         (Some (A.seen answers.new)))) }
-    ensures output { (W.seen out.new).faults ≢ (W.seen out.old).faults → IfErr result NamesOutput }
-    ensures answers { (W.seen out.new).faults ≡ (W.seen out.old).faults
+    ensures output { (L.seen out.new).faults ≢ (L.seen out.old).faults → IfErr result NamesOutput }
+    ensures answers { (L.seen out.new).faults ≡ (L.seen out.old).faults
         → IfErr result (NamesSink path.now) }
 {
-    let faults = out.failures();
-    match replays::replay(alloc, session, source, out, Some(answers)) {
+    let faults = out.faults();
+    match replays::replay_onto(alloc, session, source, out, Some(answers), cuts) {
         Ok(outcome) => Ok(outcome.status()),
-        Err(_) if out.failures() != faults => Err(Fault::Write(OUTPUT)),
+        Err(_) if out.faults() != faults => Err(Fault::Write(OUTPUT)),
         Err(_) => Err(Fault::Write(path)),
     }
 }

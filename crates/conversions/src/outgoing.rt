@@ -7,7 +7,7 @@ use arrayvec::ArrayVec;
 use benc::{Sink, WriteFault, write_all};
 
 /// How many bytes are read at once, at most.
-pub(crate) const READ: usize = 65_536;
+pub(crate) const READ: usize = 40_960;
 
 /// How many bytes go out at once, at most: what one read gives, and what is added to its frames.
 pub(crate) const ROOM: usize = READ + 4_096;

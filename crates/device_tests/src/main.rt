@@ -5,6 +5,8 @@
 
 ghost use Rattle.std.specs.Prelude.{◌<◌};
 
+mod marked;
+mod objects;
 mod parted;
 mod reads;
 mod shelves;

@@ -4,10 +4,10 @@ ghost use Rattle.std.specs.Prelude.{◌<◌};
 use crate::trial::sink;
 use benc::memory::MemSink;
 use folders::memory::{MemFile, MemShelf};
-use folders::{Report, check, print_report};
+use folders::{Report, print_report};
 use opening::Torrent;
 use part_reports::{JoinFault, join_reports};
-use parts::{Places, check_part, print_part};
+use parts::{Places, check, check_part, print_part};
 use std::{fs, io};
 
 /// The largest number of parts that is tried.

@@ -1,6 +1,7 @@
 //! Sources that fail.
 ghost use Rattle.std.specs.Prelude.{◌<◌};
 
+use crate::objects::{self, READ_FAULT, STILL_HELD};
 use crate::trial::{count, judge, sink};
 use crate::world::World;
 use benc::memory::{MemSink, MemSource};
@@ -22,10 +23,12 @@ enum Call {
     AdvanceRecord,
     NextRecord,
     Replay,
+    ReplayOnto,
+    ReplayPiecesOnto,
     Convert,
 }
 
-const CALLS: [Call; 8] = [
+const CALLS: [Call; 10] = [
     Call::RootLine,
     Call::TakeAll,
     Call::AdvanceFrame,
@@ -33,6 +36,8 @@ const CALLS: [Call; 8] = [
     Call::AdvanceRecord,
     Call::NextRecord,
     Call::Replay,
+    Call::ReplayOnto,
+    Call::ReplayPiecesOnto,
     Call::Convert,
 ];
 
@@ -56,6 +61,8 @@ fn name(call: Call) -> &'static str {
         Call::AdvanceRecord => "RecordReader::advance",
         Call::NextRecord => "RecordReader::next",
         Call::Replay => "replay",
+        Call::ReplayOnto => "replay_onto",
+        Call::ReplayPiecesOnto => "replay_pieces_onto",
         Call::Convert => "convert",
     }
 }
@@ -111,6 +118,8 @@ fn make(
         Call::AdvanceRecord => read_record(rt, source, false),
         Call::NextRecord => read_record(rt, source, true),
         Call::Replay => make_replay(rt, world, source),
+        Call::ReplayOnto => make_replay_onto(rt, world, false, source),
+        Call::ReplayPiecesOnto => make_replay_onto(rt, world, true, source),
         Call::Convert => make_convert(rt, world, source),
     }
 }
@@ -218,6 +227,49 @@ fn report(
     let mut session: Session<'_, Flat> = Session::new(rt.alloc(), world.torrent, true)?;
     let unwanted: Option<&mut MemSink> = None;
     match replay(rt.alloc(), &mut session, source, out, unwanted) {
+        Ok(outcome) => Ok(outcome.fault),
+        Err(_) => Ok(true),
+    }
+}
+
+// The same of a report of objects. Before the fault stands what is held then.
+fn make_replay_onto(
+    rt: &HostRuntime,
+    world: &World<'_, '_>,
+    by_pieces: bool,
+    source: &mut MemSource<'_>,
+) -> io::Result<Outcome> {
+    let mut whole = sink(rt)?;
+    report_onto(
+        rt,
+        world,
+        by_pieces,
+        &mut MemSource::new(world.record),
+        &mut whole,
+    )?;
+    let mut out = sink(rt)?;
+    let failed = report_onto(rt, world, by_pieces, source, &mut out)?;
+    Ok(match out.written().strip_suffix(READ_FAULT) {
+        Some(lines) if failed && whole.written().starts_with(without_held(lines)) => {
+            Outcome::Faulted
+        }
+        None if !failed && out.written() == whole.written() => Outcome::Done,
+        _ => Outcome::Wrong,
+    })
+}
+
+fn without_held(lines: &[u8]) -> &[u8] {
+    lines.strip_suffix(STILL_HELD).unwrap_or(lines)
+}
+
+fn report_onto(
+    rt: &HostRuntime,
+    world: &World<'_, '_>,
+    by_pieces: bool,
+    source: &mut MemSource<'_>,
+    out: &mut MemSink,
+) -> io::Result<bool> {
+    match objects::replay(rt, world, by_pieces, source, out, &mut sink(rt)?)? {
         Ok(outcome) => Ok(outcome.fault),
         Err(_) => Ok(true),
     }

@@ -1,10 +1,11 @@
 //! Shelves and files that fail.
 use crate::trial::{count, judge, sink};
 use crate::world::World;
+use crate::{marked, objects};
 use folders::memory::{MemFile, MemShelf};
-use folders::{FileVerdict, Report, Shelf, ShelfFault, check};
+use folders::{FileVerdict, Report, Shelf, ShelfFault};
 use gathering::{GatherFault, gather};
-use parts::{Places, check_part};
+use parts::{Places, check, check_part};
 use seeding::seed;
 use session::{Flat, Session};
 use std::io;
@@ -14,11 +15,20 @@ use std::io;
 enum Call {
     Check,
     CheckPart,
+    CheckMarked,
     Seed,
+    SeedOnto,
     Gather,
 }
 
-const CALLS: [Call; 4] = [Call::Check, Call::CheckPart, Call::Seed, Call::Gather];
+const CALLS: [Call; 6] = [
+    Call::Check,
+    Call::CheckPart,
+    Call::CheckMarked,
+    Call::Seed,
+    Call::SeedOnto,
+    Call::Gather,
+];
 
 // Whether the call opens no file after one that failed.
 fn stops(call: Call) -> bool {
@@ -32,7 +42,9 @@ fn name(call: Call) -> &'static str {
     match call {
         Call::Check => "check",
         Call::CheckPart => "check_part",
+        Call::CheckMarked => "check_part_with_bad_pieces",
         Call::Seed => "seed",
+        Call::SeedOnto => "seed_onto",
         Call::Gather => "gather",
     }
 }
@@ -115,12 +127,15 @@ fn make(
             let places = Places::of_part(world.torrent, 0, 1);
             Ok(unreadable(&check_part(rt.alloc(), world.torrent, shelf, places)?))
         }
+        Call::CheckMarked => marked::unreadable(rt, world, shelf),
         Call::Seed => make_seed(rt, world, shelf),
+        Call::SeedOnto => objects::unseeded(rt, world, shelf),
         Call::Gather => Ok(make_gather(rt, shelf)),
     }
 }
 
-fn unreadable(report: &Report) -> u64 {
+/// How many files a report says could not be read.
+pub(crate) fn unreadable(report: &Report) -> u64 {
     let mut count: u64 = 0;
     for verdict in &report.files {
         if *verdict == FileVerdict::Unreadable {

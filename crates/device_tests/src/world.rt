@@ -18,6 +18,15 @@ pub(crate) struct World<'t, 'a> {
 }
 
 impl<'t, 'a> World<'t, 'a> {
+    /// The two files, the first one without its last byte.
+    pub(crate) fn damaged(&self) -> [MemFile<'a>; 2] {
+        let front = match self.a.split_last() {
+            Some((_, front)) => front,
+            None => self.a,
+        };
+        [MemFile::new(&["a"], front), MemFile::new(&["c"], self.c)]
+    }
+
     /// The two files.
     pub(crate) fn files(&self) -> [MemFile<'a>; 2] {
         [MemFile::new(&["a"], self.a), MemFile::new(&["c"], self.c)]

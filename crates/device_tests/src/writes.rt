@@ -3,14 +3,15 @@ ghost use Rattle.std.specs.Prelude.{◌<◌};
 
 use crate::trial::{broke, count, is_whole, judge, sink};
 use crate::world::World;
+use crate::{marked, objects};
 use benc::memory::{MemSink, MemSource};
 use benc::{Sink, decode, encode, write_all};
 use conversions::convert;
 use filetree::{Key, Refusal};
 use folders::memory::MemShelf;
-use folders::{check, print_report, root_line};
+use folders::{print_report, root_line};
 use gathering::gather;
-use parts::{Places, check_part, print_part};
+use parts::{Places, check, check_part, print_part};
 use printing::{
     Fault, fault_line, flush_after, refusal_line, show, write_escaped, write_line, write_path,
 };
@@ -36,14 +37,20 @@ enum Call {
     FaultLine,
     PrintReport,
     PrintPart,
+    CheckMarked,
+    PrintMarked,
     Seed,
+    SeedOnto,
     ReplayReport,
     ReplayAnswers,
+    ReplayOnto,
+    ReplayOntoAnswers,
+    ReplayPiecesOnto,
     Finish,
     Convert,
 }
 
-const CALLS: [Call; 18] = [
+const CALLS: [Call; 24] = [
     Call::WriteAll,
     Call::WriteEscaped,
     Call::WritePath,
@@ -57,9 +64,15 @@ const CALLS: [Call; 18] = [
     Call::FaultLine,
     Call::PrintReport,
     Call::PrintPart,
+    Call::CheckMarked,
+    Call::PrintMarked,
     Call::Seed,
+    Call::SeedOnto,
     Call::ReplayReport,
     Call::ReplayAnswers,
+    Call::ReplayOnto,
+    Call::ReplayOntoAnswers,
+    Call::ReplayPiecesOnto,
     Call::Finish,
     Call::Convert,
 ];
@@ -79,9 +92,15 @@ fn name(call: Call) -> &'static str {
         Call::FaultLine => "fault_line",
         Call::PrintReport => "print_report",
         Call::PrintPart => "print_part",
+        Call::CheckMarked => "check_part_with_bad_pieces",
+        Call::PrintMarked => "print_marked_report",
         Call::Seed => "seed",
+        Call::SeedOnto => "seed_onto",
         Call::ReplayReport => "replay",
         Call::ReplayAnswers => "replay with answers",
+        Call::ReplayOnto => "replay_onto",
+        Call::ReplayOntoAnswers => "replay_onto with answers",
+        Call::ReplayPiecesOnto => "replay_pieces_onto",
         Call::Finish => "finish",
         Call::Convert => "convert",
     }
@@ -146,8 +165,14 @@ fn make(
         Call::Encode => Ok(make_encode(rt, world, out)),
         Call::PrintReport => make_report(rt, world, out),
         Call::PrintPart => make_part(rt, world, out),
+        Call::CheckMarked => Ok(marked::checks_part(rt, world, out)),
+        Call::PrintMarked => marked::prints_joined(rt, world, out),
         Call::Seed => make_seed(rt, world, out),
+        Call::SeedOnto => make_seed_onto(rt, world, out),
         Call::ReplayReport | Call::ReplayAnswers => make_replay(rt, world, call, out),
+        Call::ReplayOnto | Call::ReplayOntoAnswers | Call::ReplayPiecesOnto => {
+            make_replay_onto(rt, world, call, out)
+        }
         Call::Finish => Ok(make_finish(rt, world, out)),
         _ => Ok(make_line(world, call, out)),
     }
@@ -260,6 +285,31 @@ fn replays_record(
 ) -> bool {
     let mut source = MemSource::new(world.record);
     replay(rt.alloc(), session, &mut source, report, Some(answers)).is_ok()
+}
+
+fn make_seed_onto(rt: &HostRuntime, world: &World<'_, '_>, out: &mut MemSink) -> io::Result<bool> {
+    let files = world.files();
+    let mut shelf = MemShelf::new(rt.alloc(), &files);
+    Ok(objects::seed(rt, world, &mut shelf, out)?.is_ok())
+}
+
+// Replays the record, with the sink for the report of objects or for the answers.
+fn make_replay_onto(
+    rt: &HostRuntime,
+    world: &World<'_, '_>,
+    call: Call,
+    out: &mut MemSink,
+) -> io::Result<bool> {
+    let mut source = MemSource::new(world.record);
+    let mut other = sink(rt)?;
+    let answer = match call {
+        Call::ReplayOntoAnswers => {
+            objects::replay(rt, world, false, &mut source, &mut other, out)?
+        }
+        Call::ReplayPiecesOnto => objects::replay(rt, world, true, &mut source, out, &mut other)?,
+        _ => objects::replay(rt, world, false, &mut source, out, &mut other)?,
+    };
+    Ok(answer.is_ok())
 }
 
 // Writes the torrent of the two files.

@@ -2,6 +2,7 @@
 pub mod Ascending
 pub mod Bytes
 pub mod ComparedKeys
+pub mod FilesTested
 pub mod Components
 pub mod Folders
 pub mod PathOrder

@@ -1,6 +1,7 @@
 -- What contracts of file trees cite.
 pub mod Dictionary
 pub mod FileTree
+pub mod FileTests
 pub mod Folders
 pub mod TreeLaws
 pub mod Names

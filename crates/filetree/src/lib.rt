@@ -3,6 +3,7 @@
 #![tactic(auto)]
 
 mod component;
+mod file_tests;
 mod files;
 mod folder;
 pub mod laws;

@@ -1,7 +1,6 @@
 pub mod RootLines
 pub mod Places
 pub mod Prefixes
-pub mod Passes
 pub mod Visiting
 pub mod Counts
 pub mod Shelves
@@ -10,8 +9,6 @@ pub mod MemSeeking
 pub mod Streaming
 pub mod Reports
 pub mod Layers
-pub mod OpenedRoots
 pub mod Pieces
 pub mod SentLines
-pub mod FolderChecks
-pub mod Checked
+pub mod RowFeeding

@@ -1,5 +1,5 @@
 -- What a report's yes means.
-use Rattle.std.proofs.Common.{◌≡◌, ℕ, zero, suc, ◌-◌, ◌<◌, ◌≤◌, ◌&&◌, Bool, true, false, is_some, List, [], ◌∷◌, ◌++◌, length, replicate, slice_get, cond}
+use Rattle.std.proofs.Common.{◌≡◌, ℕ, zero, suc, ◌<◌, ◌&&◌, Bool, true, false, is_some, List, [], ◌∷◌, length, slice_get, cond}
 use Rattle.std.proofs.Common.{Option, Some, None, option_and_then, refl, ap, sym, ◌∙◌, subst, arith}
 use Rattle.std.specs.List.{list_all}
 use Rattle.std.proofs.lemmas.List.Sums.{sum_by-cons}
@@ -12,15 +12,10 @@ use Rattle.folders.specs.declared.report.FileVerdict.{FileVerdict}
 use Rattle.folders.specs.declared.report.FileVerdict.TheVariants as file
 use Rattle.folders.specs.declared.report.V1Verdict.{V1Verdict}
 use Rattle.folders.specs.declared.report.V1Verdict.TheVariants as version1
-use Rattle.pieces.specs.declared.v1_feed.V1Feed.{V1Feed}
-use Rattle.folders.specs.Compared.{IsDigestVerdict}
-use Rattle.folders.specs.Folder.{Contents, GoodFolder, IsGoodFile, IsStream, V1Good, tree_entry_of}
-use Rattle.folders.specs.Streaming.{StreamEndsAt, IsStreamVerdict, StandsAt}
+use Rattle.folders.specs.Folder.{Contents, GoodFolder, IsGoodFile, V1Good, tree_entry_of}
 use Rattle.folders.specs.Verdicts.{HasVerdicts, IsBad, IsV1Verdict, IsVerdict, AreTrueVerdicts, fault_count}
 use Rattle.folders.specs.Verdicts.{is_checked, is_good, is_unreadable, is_whole, is_yes}
 use Rattle.folders.specs.Verdicts.{stream_is_good, unreadable_count}
-use Rattle.folders.proofs.Prefixes.{IsStreamPrefix, prefix_all}
-use Rattle.folders.proofs.Passes.{IsPassed, AreFound}
 use Rattle.folders.proofs.Streaming.{one_stream}
 use Rattle.chains.proofs.Cases.{item_at, some_of}
 
@@ -164,32 +159,3 @@ good_is_enough t contents files v1 sound has are_true good none =
         let v = some_of t.v1 (sym has.hybrid ∙ ap is_some is) in
         ap stream_is_good is
         ∙ stream_good t v.0 contents verdict (good.version1 v.0 v.1) (has.checked verdict is ∙ whole) (are_true.version1 v.0 verdict v.1 is)
-
--- ---- at the end of a check
-
--- the stream stands before its end
-abbrev IsWithin : Option V1Feed → Type 0
-IsWithin running = (from total : ℕ) → is_some running ≡ true → StandsAt running from → StreamEndsAt running total → from ≤ total
-
--- the stream, once all files have passed whole, and what comparing it gave
-compared_stream : (t : Description) (contents : Contents) (n : ℕ) (files : List FileVerdict) (running : Option V1Feed) (v : Version1) (verdict : V1Verdict)
-    → n ≡ length t.files → IsPassed t n files running → AreFound t contents n files running → t.v1 ≡ Some v → is_some running ≡ true → IsWithin running
-    → IsStreamVerdict running verdict
-    → (stream : List ℕ) × IsStream t contents v.total stream × IsDigestVerdict (cut_digests t.piece_length stream) v.pieces verdict
-compared_stream t contents n files running v verdict all passed shown hybrid on within compared =
-    let given = shown.stream v hybrid on in (
-      given.0 ++ replicate (v.total - length given.0) 0,
-      prefix_all t contents given.0 v.total (subst (λ k. IsStreamPrefix t contents k given.0) all given.3)
-          (within (length given.0) v.total on given.1 (passed.ends v hybrid)),
-      compared (length given.0) v.total v.pieces t.piece_length given.0 given.1 (passed.ends v hybrid) given.2,
-    )
-
--- the verdict on the version 1 stream, once all files have passed
-pub stream_found : (t : Description) (contents : Contents) (n : ℕ) (files : List FileVerdict) (running : Option V1Feed) (v : Version1) (verdict : V1Verdict)
-    → n ≡ length t.files → IsPassed t n files running → AreFound t contents n files running → t.v1 ≡ Some v → is_checked verdict ≡ is_some running
-    → IsWithin running → IsStreamVerdict running verdict → IsV1Verdict t v contents verdict
-stream_found t contents n files running v version1.NotChecked all passed shown hybrid checked within compared = tt
-stream_found t contents n files running v version1.Good all passed shown hybrid checked within compared =
-    compared_stream t contents n files running v version1.Good all passed shown hybrid (sym checked) within compared
-stream_found t contents n files running v (version1.Bad i) all passed shown hybrid checked within compared =
-    compared_stream t contents n files running v (version1.Bad i) all passed shown hybrid (sym checked) within compared

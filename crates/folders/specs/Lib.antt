@@ -1,4 +1,4 @@
--- What contracts of shelves and of the check of a folder cite.
+-- What contracts of shelves, of verdicts and of reading files cite.
 pub mod Root
 pub mod Reading
 pub mod Shelf
@@ -8,15 +8,13 @@ pub mod MemShelfCalls
 pub mod MemShelfSeeking
 pub mod Folder
 pub mod Verdicts
-pub mod Compared
-pub mod Streaming
-pub mod Content
-pub mod Pass
-pub mod FolderCheck
 pub mod Printed
-pub mod LinesOut
 pub mod Stopping
 pub mod Visits
 pub mod TakeAll
 pub mod Feeding
 pub mod ConsumerLaws
+pub mod Exactly
+pub mod CutFeeds
+pub mod RowFeeds
+pub mod RowFeedLaws

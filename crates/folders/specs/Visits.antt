@@ -2,10 +2,10 @@
 -- A check visits each file of a torrent once, in order. `shelf` stands for what the shelf's type
 -- says of its shelves, and `seen` for what its files say.
 use Rattle.std.specs.Prelude.{◌≡◌, ◌≢◌, ℕ, ◌+◌, true, false, List, Option, Some, None, Result, Ok, Err, ⊤}
-use Rattle.benc.specs.Device.{SourceSeen}
+use Rattle.benc.specs.Device.{SourceSeen, one_more}
 use Rattle.benc.specs.declared.device.DeviceFault.{DeviceFault}
 use Rattle.opening.specs.Description.{Description, FileEntry}
-use Rattle.folders.specs.Shelf.{more}
+use Rattle.folders.specs.Shelf.{IsFound, more}
 use Rattle.folders.specs.TakeAll.{IsReadWithin}
 use Rattle.folders.specs.Verdicts.{Agrees, IsVerdict, fault_count, is_unreadable, is_whole}
 use Rattle.folders.specs.declared.report.FileVerdict.{FileVerdict}
@@ -56,6 +56,27 @@ module _ {S F : Type 0} (shelf : Ghosts S F) (seen : F → SourceSeen) where
   Opened IsRead s path (Ok (Some file)) s' = HandsBack IsRead s path file s'
   Opened IsRead s path (Ok None) s' = shelf.opens s path (Ok None) s'
   Opened IsRead s path (Err fault) s' = shelf.opens s path (Err fault) s'
+
+  -- the file that stands at this path was opened, read for this answer, and handed back; the
+  -- faults of its reads are counted
+  pub record ReadsFound {A : Type 0} (IsReadAs : A → SourceSeen → SourceSeen → Type 0) (s : S)
+      (path : List (List ℕ)) (answer : A) (s' : S) : Type 0 where
+    pub file : F
+    pub found : IsFound ((shelf.contents s).under path) (Some (seen file).left)
+    pub fresh : (seen file).faults ≡ 0
+    pub handed : HandsBack (IsReadAs answer) s path file s'
+    pub counted : shelf.faults s' ≡ more (shelf.faults s) (seen handed.read).faults
+
+  -- the path was opened once: what was found was read for this answer, or nothing was there, or the
+  -- opening failed
+  abbrev pub VisitsFor : {A : Type 0} → (A → SourceSeen → SourceSeen → Type 0) → S
+      → List (List ℕ) → Result (Option A) DeviceFault → S → Type 0
+  VisitsFor IsReadAs s path (Ok (Some answer)) s' = ReadsFound IsReadAs s path answer s'
+  VisitsFor IsReadAs s path (Ok None) s' =
+      shelf.opens s path (Ok None) s' × IsFound ((shelf.contents s).under path) None
+      × (shelf.faults s' ≡ shelf.faults s)
+  VisitsFor IsReadAs s path (Err fault) s' =
+      shelf.opens s path (Err fault) s' × (shelf.faults s' ≡ one_more (shelf.faults s))
 
   -- the path was opened once, and no more bytes than these were read
   pub record OpensOnce (s : S) (path : List (List ℕ)) (bound : ℕ) (s' : S) : Type 0 where

@@ -1,29 +1,27 @@
-//! Files and folders: the root of a file, shelves, and the check that a shelf holds a torrent's
-//! files.
+//! Shelves, how a file is read and judged as a row of pieces, what is reported of a folder, and the
+//! root of a file.
 #![tactic(auto)]
 
-mod all_files;
-mod checking;
-mod file_check;
-mod folder_check;
+mod cuts;
+mod exactly;
+mod file_reader;
 mod lines;
 pub mod memory;
 mod report;
-mod reporting;
 mod root;
+mod row_feed;
 mod seek_shelf;
 mod shelf;
 mod shelf_fault;
 mod taking;
 
-pub use all_files::CheckFault;
-pub use checking::check;
-pub use file_check::{FileCheck, Stream};
-pub use folder_check::FolderCheck;
+pub use cuts::Cuts;
+pub use exactly::take_exactly;
+pub use file_reader::{FileReader, visit};
 pub use lines::{Lines, print_report, stream_line, write_end, write_verdict, write_wanted};
 pub use report::{FileVerdict, Report, V1Verdict};
-pub use reporting::check_onto;
-pub use root::{RootFault, root_line};
+pub use root::{RootFault, root_line, root_line_through};
+pub use row_feed::{RowFeed, RowFound};
 pub use seek_shelf::SeekShelf;
 pub use shelf::Shelf;
 pub use shelf_fault::ShelfFault;

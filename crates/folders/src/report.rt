@@ -1,7 +1,7 @@
 //! What a check of a folder found.
 ghost use Rattle.std.specs.Prelude.{◌≡◌, IsTrue, ◌↔◌, true};
 ghost use Rattle.std.specs.List.{list_all};
-ghost use Rattle.folders.specs.Verdicts.{is_good, is_whole, is_yes, stream_is_good};
+ghost use Rattle.folders.specs.Verdicts.{is_good, is_yes, stream_is_good};
 
 /// What a check found of one file.
 #[derive(Clone, Copy, Debug, PartialEq, Eq, Drop)]
@@ -41,13 +41,6 @@ pub struct Report {
 }
 
 impl FileVerdict {
-    /// Whether the file was read whole and has the right length.
-    pub(crate) fn is_whole(&self) -> bool
-        ensures { result ≡ is_whole self.now }
-    {
-        matches!(self, FileVerdict::Good | FileVerdict::Bad(_))
-    }
-
     /// Whether its content is the file.
     pub(crate) fn is_good(&self) -> bool
         ensures { result ≡ is_good self.now }

@@ -1,5 +1,5 @@
 //! The line of a file: its length and its pieces root.
-ghost use Rattle.std.specs.Prelude.{◌≡◌, ℕ, ◌+◌, ◌^◌, List, IfOk, OnErr};
+ghost use Rattle.std.specs.Prelude.{◌≡◌, ℕ, ◌+◌, ◌^◌, ◌<◌, List, length, IfOk, OnErr};
 ghost use Rattle.benc.specs.Device.{CountsFault};
 ghost use Rattle.folders.specs.Reading.{IsReadingOf};
 ghost use Rattle.folders.specs.Root.{Blames, EndsRootLine, IsFileOfSource, root_line_of};
@@ -31,7 +31,7 @@ enum Reading {
 }
 
 /// Reads a file's content from the source, writes the line with its length in bytes and its pieces
-/// root (BEP 52), and flushes once. It takes no memory.
+/// root (BEP 52), and flushes once. It takes no memory: its buffer of 128 KiB is on the stack.
 ///
 /// The line is `LENGTH ROOT`, the root in hexadecimal, or `0 -` for an empty file, and the answer
 /// is true. Above 2^46 bytes it is `refused 10 Length`, the answer is false, and no byte after
@@ -40,6 +40,8 @@ enum Reading {
 /// The first fault of a device ends it: `Read` if the source failed before it had given more than
 /// 2^46 bytes, and then nothing was written or flushed, and `Write` if the sink failed, and then a
 /// prefix of the line went out. No flush comes before all of it did.
+// It has the buffer in its frame, so it is not inlined.
+#[inline(never)]
 pub fn root_line<R: Source, W: Sink>(source: &mut R, out: &mut W) -> Result<bool, RootFault>
     ensures ends { EndsRootLine (R.seen source.old) (R.seen source.new)
         (W.seen out.old) (W.seen out.new) result }
@@ -49,7 +51,25 @@ pub fn root_line<R: Source, W: Sink>(source: &mut R, out: &mut W) -> Result<bool
     ensures faults { Blames (R.seen source.old) (R.seen source.new)
         (W.seen out.old) (W.seen out.new) result }
 {
-    let Ok(reading) = read_content(source) else {
+    let mut buffer = [0u8; BUFFER_LENGTH];
+    root_line_through(source, &mut buffer, out)
+}
+
+/// Does what `root_line` does, through a buffer of the caller's. Condition: it is not empty. With
+/// room for eight blocks they are hashed side by side.
+pub fn root_line_through<R: Source, W: Sink>(
+    source: &mut R,
+    buffer: &mut [u8],
+    out: &mut W,
+) -> Result<bool, RootFault>
+    requires { 0 < length buffer.old }
+    ensures ends { EndsRootLine (R.seen source.old) (R.seen source.new)
+        (W.seen out.old) (W.seen out.new) result }
+    ensures no_further { IsReadWithin (2 ^ 46 + 1) (R.seen source.old) (R.seen source.new) }
+    ensures faults { Blames (R.seen source.old) (R.seen source.new)
+        (W.seen out.old) (W.seen out.new) result }
+{
+    let Ok(reading) = read_content(source, buffer) else {
         return Err(RootFault::Read);
     };
     let within = !matches!(reading, Reading::TooLong);
@@ -78,18 +98,16 @@ fn reading_line(reading: &Reading) -> Line
 }
 
 // Reads the source to its end, or to one byte past the greatest length.
-// It has the buffer in its frame, so it is not inlined.
-#[inline(never)]
-fn read_content<R: Source>(source: &mut R) -> Result<Reading, DeviceFault>
+fn read_content<R: Source>(source: &mut R, buffer: &mut [u8]) -> Result<Reading, DeviceFault>
+    requires { 0 < length buffer.old }
     ensures content { IfOk result (λ reading. (file : List ℕ)
         × IsFileOfSource (R.seen source.old) (R.seen source.new) file × IsReadingOf file reading) }
     ensures blamed { OnErr result (IsReadWithin (2 ^ 46) (R.seen source.old) (R.seen source.new)) }
     ensures counts { CountsFault (R.seen source.old).faults (R.seen source.new).faults result }
     ensures no_further { IsReadWithin (2 ^ 46 + 1) (R.seen source.old) (R.seen source.new) }
 {
-    let mut buffer = [0u8; BUFFER_LENGTH];
     let mut builder = RootBuilder::new();
-    match take_all(source, MAX_LENGTH, &mut buffer, &mut builder)? {
+    match take_all(source, MAX_LENGTH, buffer, &mut builder)? {
         None => Ok(Reading::TooLong),
         Some(0) => Ok(Reading::Empty),
         Some(_) => {

@@ -2,7 +2,8 @@
 -- the order of the file tree, read once, and handed back. `shelf` stands for what the shelf's type
 -- says of its shelves, `seen` for what its files say, and `empty` is the draft without files, of
 -- the name, piece length and kind that were asked for.
-use Rattle.std.specs.Prelude.{◌≡◌, ◌⊎◌, ℕ, ◌+◌, ◌^◌, ◌<◌, ◌≤◌, false, List, [], ◌∷◌, length, map, take, slice_get, Option, Some, None, Result, Ok, Err, String}
+use Rattle.std.specs.Prelude.{◌≡◌, ◌⊎◌, ℕ, ◌+◌, ◌^◌, ◌<◌, ◌≤◌, min, false, List, [], ◌∷◌, length, map, take, slice_get, Option, Some, None, Result, Ok, Err}
+use Rattle.std.specs.Prelude.{String}
 use Rattle.std.specs.Cmp.Lexicographic.{slice_cmp}
 use Rattle.std.specs.Global.{Global, Vec}
 use Rattle.std.specs.List.Sorted.{IsPermutation, IsSorted}
@@ -59,23 +60,27 @@ AreContentsUnder under [] (c ∷ cs) = ⊥
 AreContentsUnder under (p ∷ ps) [] = ⊥
 AreContentsUnder under (p ∷ ps) (c ∷ cs) = Agrees (under p) (Some c) × AreContentsUnder under ps cs
 
+-- what a source of this content gives was taken to its end, or to one byte past the longest file;
+-- and nothing after that
+abbrev pub IsReadTo : List ℕ → SourceSeen → SourceSeen → Type 0
+IsReadTo content old new = new.limit + min (length content) (2 ^ 46 + 1) ≡ old.limit
+
 module _ {S F : Type 0} (shelf : Ghosts S F) (seen : F → SourceSeen) where
   -- ---- one file
 
-  -- the path was read without a fault, a byte past the longest file at most: it has this content,
-  -- which is the known one
+  -- the path was read without a fault, as far as its content goes, which is the known one
   pub record Reads (s : S) (path : List (List ℕ)) (content : List ℕ) (s' : S) : Type 0 where
     pub file : F
-    pub handed : HandsBack shelf seen (IsReadWithin (2 ^ 46 + 1)) s path file s'
+    pub handed : HandsBack shelf seen (IsReadTo content) s path file s'
     pub gave : Agrees (seen file).left content
     pub agrees : Agrees ((shelf.contents s).under path) (Some content)
     pub quiet : shelf.faults s' ≡ shelf.faults s
 
-  -- the opening failed, or a read did; that is one fault
+  -- the opening failed, or a read did, before a byte past the longest file; that is one fault
   pub record FailsAt (s : S) (path : List (List ℕ)) (s' : S) : Type 0 where
     pub counted : shelf.faults s' ≡ one_more (shelf.faults s)
     pub failed : ((e : DeviceFault) × shelf.opens s path (Err e) s')
-        ⊎ ((file : F) × HandsBack shelf seen (IsReadWithin (2 ^ 46 + 1)) s path file s')
+        ⊎ ((file : F) × HandsBack shelf seen (IsReadWithin (2 ^ 46)) s path file s')
 
   -- nothing was there
   pub record Misses (s : S) (path : List (List ℕ)) (s' : S) : Type 0 where

@@ -13,7 +13,7 @@ use crate::gather_fault::GatherFault;
 use crate::kind::TorrentKind;
 use crate::visiting::hash_file;
 use drafts::Draft;
-use folders::{BUFFER_LENGTH, Shelf};
+use folders::Shelf;
 use hashtree::are_hashes;
 use std::alloc::Global;
 
@@ -106,7 +106,7 @@ fn longest(paths: &[Vec<String>]) -> usize
 }
 
 // Adds the files under these paths. The list has room for the components of each.
-// It has the buffer in its frame, so it is not inlined.
+// It has a block in its frame, so it is not inlined.
 #[inline(never)]
 fn add_files<'p, S: Shelf>(
     alloc: Global,
@@ -123,10 +123,10 @@ fn add_files<'p, S: Shelf>(
         draft.new shelf.new result }
     ensures stays { S.contents shelf.new ≡ S.contents shelf.old }
 {
-    let mut buffer = [0u8; BUFFER_LENGTH];
+    let mut buffer = kind.buffer(alloc);
     'paths: for number in 0..paths.len() {
         put_parts(&paths[number], &mut parts);
-        if let Err(fault) = add_file(alloc, shelf, draft, &parts, kind, &mut buffer) {
+        if let Err(fault) = add_file(alloc, shelf, draft, &parts, kind, buffer.as_mut_slice()) {
             return Err(StoppedAt { number, fault });
         }
     }

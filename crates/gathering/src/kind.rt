@@ -4,7 +4,8 @@ ghost use Rattle.opening.specs.PieceLayers.{piece_layer};
 ghost use Rattle.pieces.specs.Pieces.{IsPieceLength};
 
 use hashtree::Shape;
-use pieces::PieceLength;
+use pieces::{PieceBuffer, PieceLength};
+use std::alloc::Global;
 
 /// What kind of torrent is made: of this piece length, and whether it is a hybrid.
 #[derive(Drop)]
@@ -31,6 +32,15 @@ impl TorrentKind {
         ensures { IsPieceLength self.now.piece_length }
     {
         self.piece_length.bytes();
+    }
+
+    /// The buffer through which files are read: of a hybrid, for a piece in each lane.
+    pub(crate) fn buffer(&self, alloc: Global) -> PieceBuffer {
+        if self.hybrid {
+            PieceBuffer::of_pieces(alloc, self.piece_length.bytes())
+        } else {
+            PieceBuffer::of_blocks(alloc)
+        }
     }
 
     /// The layer in which one hash covers a piece.

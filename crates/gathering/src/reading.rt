@@ -1,28 +1,49 @@
 //! The reading of one opened file.
-ghost use Rattle.std.specs.Prelude.{◌≡◌, ◌+◌, ◌^◌, ◌<◌, length};
-ghost use Rattle.folders.specs.TakeAll.{CountsReading, IsReadWithin};
-ghost use Rattle.gathering.specs.Reading.{ReadsFile};
+ghost use Rattle.std.specs.Prelude.{◌≡◌, ◌<◌, length};
+ghost use Rattle.folders.specs.TakeAll.{CountsReading};
+ghost use Rattle.gathering.specs.Reading.{ReadsCounted, ReadsFile};
 
 use crate::hashing::{FileHashes, Hashing};
 use crate::kind::TorrentKind;
 use benc::Source;
-use folders::{ReadFault, take_all};
+use folders::{FileReader, ReadFault, take_all};
 use hashtree::MAX_LENGTH;
 use std::alloc::Global;
 
-/// Reads a source through the buffer to its end, or to one byte past the greatest length. Returns
-/// what a draft is given of its content; `None` of a content above that length.
-pub(crate) fn read_file<F: Source>(
+/// What a draft is given of a content; `None` of one above the greatest length.
+pub(crate) type Hashed = Result<Option<FileHashes>, ReadFault>;
+
+/// Reads files for what a draft is given of them.
+#[derive(Drop)]
+pub(crate) struct Hasher<'k> {
+    pub(crate) alloc: Global,
+    pub(crate) kind: &'k TorrentKind,
+}
+
+impl<F: Source> FileReader<F, Hashed> for Hasher<'_> {
+    ghost use Rattle.std.specs.Prelude.{⊤};
+
+    ghost may_read = { λ _. ⊤ };
+
+    ghost reads = { λ h. ReadsCounted h.kind.now.piece_length h.kind.now.hybrid };
+
+    fn read(&self, file: &mut F, buffer: &mut [u8]) -> Hashed {
+        read_file(self.alloc, file, self.kind, buffer)
+    }
+}
+
+// Reads a source through the buffer to its end, or to one byte past the greatest length, and no
+// further.
+fn read_file<F: Source>(
     alloc: Global,
     source: &mut F,
     kind: &TorrentKind,
     buffer: &mut [u8],
-) -> Result<Option<FileHashes>, ReadFault>
+) -> Hashed
     requires { 0 < length buffer.old }
-    ensures read { ReadsFile kind.now.piece_length kind.now.hybrid (F.seen source.old).left result }
+    ensures read { ReadsFile kind.now.piece_length kind.now.hybrid (F.seen source.old)
+        (F.seen source.new) result }
     ensures counts { CountsReading (F.seen source.old).faults (F.seen source.new).faults result }
-    ensures no_further { IsReadWithin (2 ^ 46 + 1) (F.seen source.old) (F.seen source.new) }
-    ensures buffer { length buffer.new ≡ length buffer.old }
 {
     let mut hashing = Hashing::new(alloc, kind);
     match take_all(source, MAX_LENGTH, buffer, &mut hashing)? {

@@ -6,9 +6,9 @@ ghost use Rattle.gathering.specs.Steps.{VisitsFile};
 use crate::file_fault::FileFault;
 use crate::hashing::FileHashes;
 use crate::kind::TorrentKind;
-use crate::reading::read_file;
+use crate::reading::{Hashed, Hasher};
 use filetree::Refusal;
-use folders::{ReadFault, Shelf};
+use folders::{ReadFault, Shelf, visit};
 use std::alloc::Global;
 
 /// Opens the file under this path, hashes it, and hands it back.
@@ -25,19 +25,15 @@ pub(crate) fn hash_file<S: Shelf>(
     ensures stays { S.contents shelf.new ≡ S.contents shelf.old }
     ensures buffer { length buffer.new ≡ length buffer.old }
 {
-    match shelf.open(path) {
-        Ok(Some(mut source)) => {
-            let read = read_file(alloc, &mut source, kind, buffer);
-            shelf.close(source);
-            hashes_or_fault(read)
-        }
+    match visit(shelf, path, &Hasher { alloc, kind }, buffer) {
+        Ok(Some(read)) => hashes_or_fault(read),
         Ok(None) => Err(FileFault::Changed),
         Err(_) => Err(FileFault::Device),
     }
 }
 
 // The answer of a visit, by that of reading the file.
-fn hashes_or_fault(read: Result<Option<FileHashes>, ReadFault>) -> Result<FileHashes, FileFault>
+fn hashes_or_fault(read: Hashed) -> Result<FileHashes, FileFault>
     ensures { result ≡ visit_of read }
 {
     match read {

@@ -1,6 +1,6 @@
 //! What holds of the tree of each file. A function that calls one of these knows its law.
 
-ghost use Rattle.hashtree.specs.Laws.{LeavesAreDigests, NodesJoinChildren, PadsAreZeroHashes, TopIsRoot, LayersLeadToRoot};
+ghost use Rattle.hashtree.specs.Laws.{LeavesAreDigests, NodesJoinChildren, PadsAreZeroHashes, TopIsRoot, LayersLeadToRoot, PiecesHaveNodes, OnlyPieceHasRoot, RowsHaveNodes, RowsJoin, RowsTellPieces};
 
 /// The leaf of a block is the block's digest.
 pub fn leaves_are_digests()
@@ -25,4 +25,29 @@ pub fn top_is_root()
 /// The root over each layer of a file's tree, given without its pads, is the file's root.
 pub fn layers_lead_to_root()
     ensures { LayersLeadToRoot }
+{}
+
+/// A node that covers a block is the node over its piece alone.
+pub fn pieces_have_nodes()
+    ensures { PiecesHaveNodes }
+{}
+
+/// The root of a file is the node over it as one piece.
+pub fn only_piece_has_root()
+    ensures { OnlyPieceHasRoot }
+{}
+
+/// The node over a piece of some of a file's pieces in a row is that of the file's tree.
+pub fn rows_have_nodes()
+    ensures { RowsHaveNodes }
+{}
+
+/// The nodes over two rows, of which the first has whole pieces, are those over both.
+pub fn rows_join()
+    ensures { RowsJoin }
+{}
+
+/// What a check of a row found tells which nodes of the file's tree are the given hashes.
+pub fn rows_tell_pieces()
+    ensures { RowsTellPieces }
 {}

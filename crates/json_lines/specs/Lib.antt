@@ -6,3 +6,4 @@ pub mod Objects
 pub mod Fits
 pub mod Lines
 pub mod Laws
+pub mod Forms

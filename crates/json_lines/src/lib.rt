@@ -16,4 +16,4 @@ pub use form::{Form, Part};
 pub use laws::takes_join;
 pub use line_writer::LineWriter;
 pub use objects::object;
-pub use reports::{CHECK, REPLAY, ROOT, SHOW};
+pub use reports::{check_forms, refusal_forms, root_forms, show_forms};

@@ -1,5 +1,36 @@
 //! The forms of the lines that each command prints. The first one that a line has counts.
+ghost use Rattle.std.specs.Prelude.{◌≡◌, map};
+ghost use Rattle.json_lines.specs.Forms.{check_rows, refusal_rows, root_rows, row_of, show_rows};
+
 use crate::form::{Form, Part};
+
+/// The forms of the lines of `root`.
+pub fn root_forms() -> &'static [Form]
+    ensures { map row_of result.now ≡ root_rows }
+{
+    ROOT
+}
+
+/// The forms of the lines of `show`.
+pub fn show_forms() -> &'static [Form]
+    ensures { map row_of result.now ≡ show_rows }
+{
+    SHOW
+}
+
+/// The forms of the line of a torrent that is refused.
+pub fn refusal_forms() -> &'static [Form]
+    ensures { map row_of result.now ≡ refusal_rows }
+{
+    REFUSAL
+}
+
+/// The forms of the lines of `check`.
+pub fn check_forms() -> &'static [Form]
+    ensures { map row_of result.now ≡ check_rows }
+{
+    CHECK
+}
 
 // A number and a name.
 const REFUSED: Form = Form {
@@ -34,8 +65,7 @@ const REFUSED_KEY: Form = Form {
     ],
 };
 
-/// The lines of `root`.
-pub const ROOT: &[Form] = &[
+const ROOT: &[Form] = &[
     REFUSED,
     Form {
         kind: "root",
@@ -47,8 +77,7 @@ pub const ROOT: &[Form] = &[
     },
 ];
 
-/// The lines of `show`.
-pub const SHOW: &[Form] = &[
+const SHOW: &[Form] = &[
     REFUSED,
     REFUSED_FAULT,
     REFUSED_KEY,
@@ -98,13 +127,37 @@ pub const SHOW: &[Form] = &[
             Part::Text("path"),
         ],
     },
+    Form {
+        kind: "total",
+        parts: &[
+            Part::Word("total:"),
+            Part::Number("bytes"),
+            Part::Text("size"),
+        ],
+    },
+    Form {
+        kind: "pieces",
+        parts: &[
+            Part::Word("pieces:"),
+            Part::Number("count"),
+            Part::Word("of"),
+            Part::Text("size"),
+        ],
+    },
+    Form {
+        kind: "layers",
+        parts: &[Part::Word("layers:"), Part::Number("count")],
+    },
 ];
 
-/// The lines of `check`.
-pub const CHECK: &[Form] = &[
+const CHECK: &[Form] = &[
     REFUSED,
     REFUSED_FAULT,
     REFUSED_KEY,
+    Form {
+        kind: "extra",
+        parts: &[Part::Word("extra"), Part::Text("path")],
+    },
     Form {
         kind: "good",
         parts: &[Part::Word("good"), Part::Text("path")],
@@ -163,112 +216,4 @@ pub const CHECK: &[Form] = &[
     },
 ];
 
-/// The lines of `replay`.
-pub const REPLAY: &[Form] = &[
-    REFUSED,
-    REFUSED_FAULT,
-    REFUSED_KEY,
-    Form {
-        kind: "stored",
-        parts: &[
-            Part::Number("frame"),
-            Part::Word("stored"),
-            Part::Number("count"),
-        ],
-    },
-    Form {
-        kind: "verified",
-        parts: &[
-            Part::Number("frame"),
-            Part::Word("verified"),
-            Part::Number("file"),
-            Part::Number("block"),
-        ],
-    },
-    Form {
-        kind: "refused",
-        parts: &[
-            Part::Number("frame"),
-            Part::Word("refused"),
-            Part::Name("code"),
-            Part::Name("name"),
-        ],
-    },
-    Form {
-        kind: "refused",
-        parts: &[
-            Part::Number("frame"),
-            Part::Word("refused"),
-            Part::Name("code"),
-            Part::Name("name"),
-            Part::Number("file"),
-            Part::Number("block"),
-        ],
-    },
-    Form {
-        kind: "answered",
-        parts: &[Part::Number("frame"), Part::Word("answered")],
-    },
-    Form {
-        kind: "rejected",
-        parts: &[Part::Number("frame"), Part::Word("rejected")],
-    },
-    Form {
-        kind: "reject noted",
-        parts: &[
-            Part::Number("frame"),
-            Part::Word("reject"),
-            Part::Word("noted"),
-        ],
-    },
-    Form {
-        kind: "keep-alive",
-        parts: &[Part::Number("frame"), Part::Word("keep-alive")],
-    },
-    Form {
-        kind: "skipped",
-        parts: &[
-            Part::Number("frame"),
-            Part::Word("skipped"),
-            Part::Number("id"),
-        ],
-    },
-    Form {
-        kind: "bad frame",
-        parts: &[
-            Part::Number("frame"),
-            Part::Word("bad"),
-            Part::Word("frame"),
-            Part::Number("id"),
-            Part::Number("length"),
-        ],
-    },
-    Form {
-        kind: "sent request",
-        parts: &[
-            Part::Number("frame"),
-            Part::Word("sent"),
-            Part::Word("request"),
-        ],
-    },
-    Form {
-        kind: "sent",
-        parts: &[Part::Number("frame"), Part::Word("sent")],
-    },
-    Form {
-        kind: "seeded",
-        parts: &[Part::Word("seeded"), Part::Text("path")],
-    },
-    Form {
-        kind: "not seeded",
-        parts: &[Part::Word("not"), Part::Word("seeded"), Part::Text("path")],
-    },
-    Form {
-        kind: "end",
-        parts: &[Part::Word("end")],
-    },
-    Form {
-        kind: "fault",
-        parts: &[Part::Word("fault"), Part::Name("name")],
-    },
-];
+const REFUSAL: &[Form] = &[REFUSED, REFUSED_FAULT, REFUSED_KEY];

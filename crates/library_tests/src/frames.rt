@@ -4,8 +4,9 @@ ghost use Rattle.wire.specs.declared.form.Form.{Form as FormOf};
 ghost use Rattle.wire.specs.Records.{Directed, RecordFrames};
 
 use benc::memory::{MemSink, MemSource};
-use benc::{DeviceFault, Source, WriteFault};
+use benc::{DeviceFault, FromRead, Source, WriteFault};
 use std::alloc::{AllocError, Global};
+use std::io;
 use std::process::Abort;
 use std::test::*;
 use wire::*;
@@ -179,6 +180,36 @@ fn room_is_taken_once(rt: HostRuntime) {
     let mut source = MemSource::new(&bytes);
     let is_read = reads_with_room(rt.alloc(), &mut source);
     assert!(rt; is_read);
+}
+
+// Bytes that count how often they are read.
+#[derive(Drop)]
+struct Counted<'b> {
+    bytes: &'b [u8],
+    calls: u64,
+}
+
+impl io::Read for Counted<'_> {
+    fn read(&mut self, buf: &mut [u8]) -> io::Result<usize> {
+        self.calls = self.calls.wrapping_add(1);
+        io::Read::read(&mut self.bytes, buf)
+    }
+}
+
+// A frame takes a call for its length, and one each for its id and for what is behind it; the end
+// takes one.
+#[test]
+fn no_call_is_needless(rt: HostRuntime) {
+    for (bytes, calls) in [
+        (&RECORD[..0], 1),
+        (&RECORD[..4], 2),
+        (&RECORD[..20], 5),
+        (&RECORD[..29], 8),
+    ] {
+        let mut source = FromRead::new(Counted { bytes, calls: 0 });
+        assert!(rt; count_frames(rt.alloc(), &mut source).is_ok(), "{calls}");
+        assert!(rt; source.into_inner().calls == calls, "{calls}");
+    }
 }
 
 // The root is 32 bytes of 9, a tab.

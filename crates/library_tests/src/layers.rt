@@ -93,7 +93,9 @@ fn layers(alloc: Global, blocks: u64) -> Result<Vec<Vec<Hash>>, AllocError> {
 
 #[test]
 fn each_layer_of_each_shape(rt: HostRuntime) {
-    for blocks in [1u64, 2, 3, 5, 7, 8, 9, 15, 16, 17, 31, 33, 64, 100, 257] {
+    for blocks in [
+        1u64, 2, 3, 5, 7, 8, 9, 15, 16, 17, 31, 33, 64, 100, 257, 513, 1025,
+    ] {
         let layers = layers(rt.alloc(), blocks).expect(&rt, "memory");
         for layer in 0..=height(blocks) {
             let above = layers.get(layer as usize..).unwrap_or(&[]);

@@ -2,15 +2,23 @@
 #![tactic(auto)]
 
 #[cfg(test)]
+mod any_lengths;
+#[cfg(test)]
 mod bencoding;
 #[cfg(test)]
 mod devices;
 #[cfg(test)]
+mod equal_lengths;
+#[cfg(test)]
+mod filled_messages;
+#[cfg(test)]
 mod frames;
 #[cfg(test)]
-mod lanes;
-#[cfg(test)]
 mod layers;
+#[cfg(test)]
+mod places;
+#[cfg(test)]
+mod random;
 #[cfg(test)]
 mod records;
 #[cfg(test)]

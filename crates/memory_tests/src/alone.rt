@@ -2,7 +2,7 @@
 use crate::again::name_refused;
 use benc::{Fault, FaultKind, decode_with_span};
 use hashtree::{Hash, LayerBuilder};
-use json_lines::{CHECK, object};
+use json_lines::{check_forms, object};
 use pieces::{V1Cuts, V1File};
 use std::alloc::{AllocError, Global};
 use std::io;
@@ -79,5 +79,5 @@ pub(crate) fn objects_again(rt: &HostRuntime, report: &[u8]) -> io::Result<()> {
 }
 
 fn object_text(alloc: Global, line: &[u8]) -> Result<String, AllocError> {
-    object(alloc, CHECK, line)?.to_string(alloc)
+    object(alloc, check_forms(), line)?.to_string(alloc)
 }

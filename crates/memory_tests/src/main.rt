@@ -9,6 +9,7 @@ mod alone;
 mod drafting;
 mod given;
 mod keeping;
+mod marking;
 mod messages;
 mod parting;
 mod replaying;
@@ -16,18 +17,21 @@ mod runs;
 mod shelving;
 mod state;
 mod wanting;
+mod whole_pieces;
 
 use again::{decode_again, open_again, print_refusal};
 use alone::{cuts_again, layer_again, objects_again, span_again};
 use drafting::draft_again;
+use marking::join_marked_again;
 use messages::take_record;
 use node_maps::{Flat, Paged};
 use opening::Torrent;
 use parting::join_again;
-use replaying::replay_again;
+use replaying::{Way, replay_again};
 use session::NodeMap;
 use shelving::{check_again, gather_again, report_again, seed_again};
 use std::{env, fs, io};
+use whole_pieces::take_pieces;
 
 // Makes the call. To a call that takes no messages the record is the content of a file, or what it
 // takes in place of one.
@@ -44,8 +48,12 @@ fn make_call<N: NodeMap>(
         "check" => check_again(rt, torrent, record),
         "check_onto" | "check_with_bad_pieces" => report_again(rt, torrent, record, call),
         "parts" => join_again(rt, torrent, record),
-        "seed" => seed_again::<N>(rt, torrent, record),
-        "replay" => replay_again::<N>(rt, torrent, record),
+        "marked parts" => join_marked_again(rt, torrent, record),
+        "seed" | "seed_onto" => seed_again::<N>(rt, torrent, record, call),
+        "replay" => replay_again::<N>(rt, torrent, record, Way::Texts),
+        "replay_onto" => replay_again::<N>(rt, torrent, record, Way::Objects),
+        "replay_pieces_onto" => replay_again::<N>(rt, torrent, record, Way::Pieces),
+        "pieces" => take_pieces::<N>(rt, torrent, record),
         "span" => span_again(rt, record),
         "layer" => layer_again(rt, record),
         "cuts" => cuts_again(rt, record),

@@ -1,20 +1,61 @@
 //! The replay of a record, made again if memory was refused.
 use crate::again::{name_refused, new_again, print_bytes, print_changed};
 use crate::state::{are_alike, compare_new, print_state};
+use benc::FromWrite;
 use benc::memory::{MemSink, MemSource};
+use holdings::Holdings;
+use lines::Objects;
 use opening::Torrent;
-use replays::{Outcome, replay};
+use replays::{Outcome, replay, replay_onto, replay_pieces_onto};
 use session::{NodeMap, Session};
 use std::io;
 
 // Room for a report, and for answers.
 const ROOM: usize = 1 << 16;
 
+// How many blocks may be held, and how many the longest piece has.
+const HELD: usize = 64;
+
+// The reports of a replay for which memory was refused before the first frame.
+const UNREAD: [&[u8]; 2] = [
+    b"fault NoMemory\n",
+    b"{\"kind\":\"fault\",\"name\":\"NoMemory\"}\n",
+];
+
+/// The call that replays a record.
+#[derive(Clone, Copy)]
+pub(crate) enum Way {
+    /// `replay`.
+    Texts,
+    /// `replay_onto`, with its lines as objects.
+    Objects,
+    /// The same of `replay_pieces_onto`.
+    Pieces,
+}
+
+impl Way {
+    fn name(self) -> &'static str {
+        match self {
+            Way::Texts => "replay",
+            Way::Objects => "replay_onto",
+            Way::Pieces => "replay_pieces_onto",
+        }
+    }
+
+    fn name_of_reserve(self) -> &'static str {
+        match self {
+            Way::Texts => "reserve of replay",
+            Way::Objects => "reserve of replay_onto",
+            Way::Pieces => "reserve of replay_pieces_onto",
+        }
+    }
+}
+
 // What a replay came to.
 #[derive(Drop)]
 struct Replayed {
     outcome: Outcome,
-    report: MemSink,
+    report: Vec<u8>,
     answers: MemSink,
 }
 
@@ -26,7 +67,7 @@ impl Replayed {
 
     // Whether memory was refused before the first frame.
     fn is_unread(&self) -> bool {
-        self.report.written() == b"fault NoMemory\n".as_slice() && self.answers.written().is_empty()
+        UNREAD.contains(&self.report.as_slice()) && self.answers.written().is_empty()
     }
 }
 
@@ -36,10 +77,11 @@ pub(crate) fn replay_again<N: NodeMap>(
     rt: &HostRuntime,
     torrent: &Torrent<'_>,
     record: &[u8],
+    way: Way,
 ) -> io::Result<()> {
     let mut session: Session<'_, N> = new_again(rt, torrent, false)?;
-    let replayed = replay_with_room(rt, torrent, &mut session, record)?;
-    print_bytes(rt, replayed.report.written())?;
+    let replayed = replay_with_room(rt, torrent, &mut session, record, way)?;
+    print_bytes(rt, &replayed.report)?;
     print_bytes(rt, replayed.answers.written())?;
     print_state(rt, &session)
 }
@@ -50,16 +92,17 @@ fn replay_with_room<N: NodeMap>(
     torrent: &Torrent<'_>,
     session: &mut Session<'_, N>,
     record: &[u8],
+    way: Way,
 ) -> io::Result<Replayed> {
     let mut source = MemSource::new(record);
-    let replayed = replay_once(rt, session, &mut source)?;
+    let replayed = replay_once(rt, session, &mut source, way)?;
     if replayed.is_unread() {
-        compare_new(rt, "reserve of replay", session, torrent)?;
-        return replay_once(rt, session, &mut source);
+        compare_new(rt, way.name_of_reserve(), session, torrent)?;
+        return replay_once(rt, session, &mut source, way);
     }
     if replayed.lacks_memory() {
-        name_replay(rt, &replayed)?;
-        return replay_anew(rt, torrent, session, record);
+        name_replay(rt, &replayed, way)?;
+        return replay_anew(rt, torrent, session, record, way);
     }
     Ok(replayed)
 }
@@ -68,20 +111,47 @@ fn replay_once<N: NodeMap>(
     rt: &HostRuntime,
     session: &mut Session<'_, N>,
     source: &mut MemSource<'_>,
+    way: Way,
 ) -> io::Result<Replayed> {
-    let mut report = MemSink::with_room(rt.alloc(), ROOM)?;
+    let mut report = Vec::with_capacity(rt.alloc(), ROOM)?;
     let mut answers = MemSink::with_room(rt.alloc(), ROOM)?;
-    let outcome = replay(rt.alloc(), session, source, &mut report, Some(&mut answers));
+    let outcome = outcome_of(rt, session, source, &mut report, &mut answers, way);
     Ok(Replayed {
-        outcome: outcome.unwrap_or_default(),
+        outcome,
         report,
         answers,
     })
 }
 
-fn name_replay(rt: &HostRuntime, replayed: &Replayed) -> io::Result<()> {
-    name_refused(rt, "replay")?;
-    eprintln!(rt; "report {:?}", replayed.report.written())?;
+// Makes the call. Nothing is held before.
+fn outcome_of<N: NodeMap>(
+    rt: &HostRuntime,
+    session: &mut Session<'_, N>,
+    source: &mut MemSource<'_>,
+    report: &mut Vec<u8>,
+    answers: &mut MemSink,
+    way: Way,
+) -> Outcome {
+    let mut out = FromWrite::new(report);
+    let answers = Some(answers);
+    let outcome = match way {
+        Way::Texts => replay(rt.alloc(), session, source, &mut out, answers),
+        Way::Objects => {
+            let mut lines = Objects::new(out);
+            replay_onto(rt.alloc(), session, source, &mut lines, answers, true)
+        }
+        Way::Pieces => {
+            let (mut held, mut lines) = (Holdings::new(rt.alloc(), HELD, HELD), Objects::new(out));
+            let held = &mut held;
+            replay_pieces_onto(rt.alloc(), session, held, source, &mut lines, answers, true)
+        }
+    };
+    outcome.unwrap_or_default()
+}
+
+fn name_replay(rt: &HostRuntime, replayed: &Replayed, way: Way) -> io::Result<()> {
+    name_refused(rt, way.name())?;
+    eprintln!(rt; "report {:?}", replayed.report)?;
     eprintln!(rt; "answers {:?}", replayed.answers.written())
 }
 
@@ -92,9 +162,10 @@ fn replay_anew<N: NodeMap>(
     torrent: &Torrent<'_>,
     session: &mut Session<'_, N>,
     record: &[u8],
+    way: Way,
 ) -> io::Result<Replayed> {
     let mut other: Session<'_, N> = Session::new(rt.alloc(), torrent, false)?;
-    replay_both(rt, session, &mut other, record)
+    replay_both(rt, session, &mut other, record, way)
 }
 
 fn replay_both<N: NodeMap>(
@@ -102,10 +173,11 @@ fn replay_both<N: NodeMap>(
     session: &mut Session<'_, N>,
     other: &mut Session<'_, N>,
     record: &[u8],
+    way: Way,
 ) -> io::Result<Replayed> {
-    let _ = replay_record(rt, session, record)?;
-    let replayed = replay_record(rt, other, record)?;
-    compare_replayed(rt, session, other)?;
+    let _ = replay_record(rt, session, record, way)?;
+    let replayed = replay_record(rt, other, record, way)?;
+    compare_replayed(rt, session, other, way)?;
     Ok(replayed)
 }
 
@@ -113,17 +185,19 @@ fn compare_replayed<N: NodeMap>(
     rt: &HostRuntime,
     session: &Session<'_, N>,
     other: &Session<'_, N>,
+    way: Way,
 ) -> io::Result<()> {
     if are_alike(session, other, &[])? {
         return Ok(());
     }
-    print_changed(rt, "replay")
+    print_changed(rt, way.name())
 }
 
 fn replay_record<N: NodeMap>(
     rt: &HostRuntime,
     session: &mut Session<'_, N>,
     record: &[u8],
+    way: Way,
 ) -> io::Result<Replayed> {
-    replay_once(rt, session, &mut MemSource::new(record))
+    replay_once(rt, session, &mut MemSource::new(record), way)
 }

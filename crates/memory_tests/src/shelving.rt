@@ -5,11 +5,12 @@ use crate::state::{compare_new, print_state};
 use benc::memory::MemSink;
 use drafts::Draft;
 use folders::memory::{MemFile, MemShelf};
-use folders::{CheckFault, Lines, Report, ShelfFault, check, check_onto};
+use folders::{Lines, Report, ShelfFault};
 use gathering::{GatherFault, gather};
+use lines::Objects;
 use opening::Torrent;
-use parts::{BadCheckFault, check_with_bad_pieces};
-use seeding::{SeedFault, seed};
+use parts::{CheckFault, check, check_onto, check_with_bad_pieces};
+use seeding::{SeedFault, seed, seed_onto};
 use session::{NodeMap, Session};
 use std::io;
 
@@ -145,14 +146,14 @@ fn checks_with_bad_pieces(
 ) -> io::Result<bool> {
     match check_with_bad_pieces(rt.alloc(), torrent, shelf, Lines::All, out) {
         Ok(report) => print_verdicts(rt, &report)?,
-        Err(BadCheckFault::NoMemory) => return Ok(false),
+        Err(CheckFault::NoMemory) => return Ok(false),
         Err(fault) => println!(rt; "{fault}")?,
     }
     Ok(true)
 }
 
-// Names a call that failed, and prints `changed` if it opened a file, or used the sink.
-fn name_untouched(
+/// Names a call that failed, and prints `changed` if it opened a file, or used the sink.
+pub(crate) fn name_untouched(
     rt: &HostRuntime,
     call: &str,
     shelf: &MemShelf<'_>,
@@ -165,14 +166,15 @@ fn name_untouched(
     Ok(())
 }
 
-/// Seeds a session from a file of this content, and prints its state.
+/// Seeds a session from a file of this content by the call of this name, and prints its state.
 pub(crate) fn seed_again<N: NodeMap>(
     rt: &HostRuntime,
     torrent: &Torrent<'_>,
     content: &[u8],
+    call: &str,
 ) -> io::Result<()> {
     let mut session: Session<'_, N> = new_again(rt, torrent, false)?;
-    seed_session(rt, &mut session, torrent, content)
+    seed_session(rt, &mut session, torrent, content, call)
 }
 
 fn seed_session<N: NodeMap>(
@@ -180,10 +182,11 @@ fn seed_session<N: NodeMap>(
     session: &mut Session<'_, N>,
     torrent: &Torrent<'_>,
     content: &[u8],
+    call: &str,
 ) -> io::Result<()> {
-    if let Err(SeedFault::NoMemory) = seed_file(rt, session, content)? {
-        compare_new(rt, "seed", session, torrent)?;
-        seed_with_room(rt, session, content)?;
+    if let Err(SeedFault::NoMemory) = seed_file(rt, session, content, call)? {
+        compare_new(rt, call, session, torrent)?;
+        seed_with_room(rt, session, content, call)?;
     }
     print_state(rt, session)
 }
@@ -192,8 +195,9 @@ fn seed_with_room<N: NodeMap>(
     rt: &HostRuntime,
     session: &mut Session<'_, N>,
     content: &[u8],
+    call: &str,
 ) -> io::Result<()> {
-    match seed_file(rt, session, content)? {
+    match seed_file(rt, session, content, call)? {
         Ok(()) => Ok(()),
         Err(fault) => println!(rt; "{fault}"),
     }
@@ -203,9 +207,13 @@ fn seed_file<N: NodeMap>(
     rt: &HostRuntime,
     session: &mut Session<'_, N>,
     content: &[u8],
+    call: &str,
 ) -> io::Result<Result<(), SeedFault>> {
     let files = [MemFile::new(PATH, content)];
     let mut shelf = MemShelf::new(rt.alloc(), &files);
     let mut report = MemSink::with_room(rt.alloc(), 64)?;
-    Ok(seed(rt.alloc(), session, &mut shelf, &mut report))
+    Ok(match call {
+        "seed_onto" => seed_onto(rt.alloc(), session, &mut shelf, &mut Objects::new(report)),
+        _ => seed(rt.alloc(), session, &mut shelf, &mut report),
+    })
 }

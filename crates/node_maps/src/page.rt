@@ -66,10 +66,13 @@ pub(crate) struct Page {
 impl Page {
     /// A page that holds nothing. It is filled on the heap.
     pub(crate) fn blank(alloc: Global) -> Result<Page, NoMemory>
-        ensures { IfOk result (λ page. page.cells.items ≡ replicate page_length Empty) }
+        ensures cells { IfOk result (λ page. page.cells.items ≡ replicate page_length Empty) }
+        ensures room { IfOk result (λ page. vec_capacity page.cells ≡ page_length) }
     {
         let mut cells = Vec::with_capacity(alloc, PAGE_LENGTH)?;
-        cells.resize(PAGE_LENGTH, Cell::Empty)?;
+        'places: for place in 0..PAGE_LENGTH {
+            cells.push_reserved(Cell::Empty);
+        }
         Ok(Page { cells })
     }
 

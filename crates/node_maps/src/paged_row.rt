@@ -1,6 +1,6 @@
 //! The pages of one layer, found by their numbers.
 
-ghost use Rattle.std.specs.Prelude.{◌≡◌, ◌≢◌, ℕ, ◌+◌, ◌-◌, ◌/◌, ◌%◌, ◌^◌, ◌<◌, ◌≤◌, ◌++◌, ◌↔◌, [], Some, None, List, length, option_map, IsSome, IsOk, IsTrue, OnOk, OnErr, vec_len};
+ghost use Rattle.std.specs.Prelude.{◌≡◌, ◌≢◌, ℕ, ◌+◌, ◌-◌, ◌*◌, ◌/◌, ◌%◌, ◌^◌, ◌<◌, ◌≤◌, ◌++◌, ◌↔◌, [], Some, None, List, length, option_map, IsSome, IsOk, IsTrue, OnOk, OnErr, max, vec_len};
 ghost use Rattle.std.specs.Vec.{vec_capacity};
 ghost use Rattle.node_maps.specs.Cell.{page_length, with_hash};
 ghost use Rattle.node_maps.specs.Pages.{Numbered, is_spare, AreAlike, AreSpare, AreCounted};
@@ -156,12 +156,14 @@ impl PagedRow {
             (pages_of self.new) self.new.fresh.items self.new.count }
         ensures ok { OnOk result (HasRowPage self.new number) }
         ensures few { self.new.count ≤ self.old.count + 1 }
+        ensures room { vec_capacity self.new.fresh
+            ≤ max (vec_capacity self.old.fresh) (2 * vec_len self.old.fresh + 4) }
         ensures no_memory { HasRowPage self.old number → IsOk result }
     {
         if self.pages.page(number).is_some() {
             return Ok(());
         }
-        self.fresh.reserve(1)?;
+        reserve_one(&mut self.fresh)?;
         let page = Page::blank(self.alloc)?;
         self.pages.add(number, page)?;
         self.fresh.push_reserved(number);
@@ -236,4 +238,19 @@ fn is_spare(page: Option<&Page>) -> bool
         Some(page) => page.is_blank(),
         None => false,
     }
+}
+
+// Makes room for one more number. If there is none, it makes room for as many more as there are,
+// and for four at least.
+fn reserve_one(numbers: &mut Vec<u64>) -> Result<(), NoMemory>
+    ensures items { numbers.new.items ≡ numbers.old.items }
+    ensures len { vec_len numbers.new ≡ vec_len numbers.old }
+    ensures ok { OnOk result (vec_len numbers.new < vec_capacity numbers.new) }
+    ensures room { vec_capacity numbers.new
+        ≤ max (vec_capacity numbers.old) (2 * vec_len numbers.old + 4) }
+{
+    if numbers.len() == numbers.capacity() {
+        numbers.reserve_exact(numbers.len().max(4))?;
+    }
+    Ok(())
 }

@@ -3,7 +3,7 @@ use Rattle.std.proofs.Common.{◌≡◌, ℕ, ◌≤◌, List, [], ◌∷◌, le
 use Rattle.benc.specs.Spelling.{Spells}
 use Rattle.benc.specs.Value.{Bencode, Pairs}
 use Rattle.filetree.specs.Tests.{First, NoneHolds, TestRow}
-use Rattle.filetree.specs.TreeTests.{shape_rows, tree_rows}
+use Rattle.filetree.specs.TreeTests.{tree_rows}
 use Rattle.filetree.proofs.Tables.{none_both}
 use Rattle.filetree.specs.declared.refusal.Refusal.{Refusal}
 use Rattle.filetree.specs.declared.refusal.Refusal.TheVariants as refusals
@@ -40,13 +40,9 @@ keys_take_none v known = never (all_key_rows v) refusals.NoMemory (
 pub layers_take_none : (k : ℕ) (layers : Pairs) (ts : List Root) → First (layer_rows k layers ts) refusals.NoMemory → ⊥
 layers_take_none k layers ts known = never (layer_rows k layers ts) refusals.NoMemory ((λ e. cc), ((λ e. cc), ((λ e. cc), tt))) known
 
--- the tests of the keys, and of the shape and the paths of this file tree
-pub plain_pass : (v : Bencode) (tree : Pairs) → NoneHolds (all_key_rows v) → tree ≡ file_tree_in v → NoneHolds (shape_rows tree) → NoneHolds (plain_rows v)
-plain_pass v tree keys is rows = none_both (all_key_rows v) (shape_rows (file_tree_in v)) keys (subst (λ t. NoneHolds (shape_rows t)) is rows)
-
--- the same of a file tree for which no test of its files holds either
-pub plain_passed : (v : Bencode) (tree : Pairs) → NoneHolds (all_key_rows v) → tree ≡ file_tree_in v → NoneHolds (tree_rows tree) → NoneHolds (plain_rows v)
-plain_passed v tree keys is rows = plain_pass v tree keys is (rows.0, (rows.1.0, tt))
+-- the tests of the keys, and of this file tree
+pub plain_pass : (v : Bencode) (tree : Pairs) → NoneHolds (all_key_rows v) → tree ≡ file_tree_in v → NoneHolds (tree_rows tree) → NoneHolds (plain_rows v)
+plain_pass v tree keys is rows = none_both (all_key_rows v) (tree_rows (file_tree_in v)) keys (subst (λ t. NoneHolds (tree_rows t)) is rows)
 
 -- what is refused out of memory is a value for which none of the tests without memory holds
 pub wants_memory : (b : List ℕ) (v : Bencode) → length b ≤ max_torrent → Spells v b → (result : Result Description Refusal)

@@ -10,7 +10,7 @@ use Rattle.benc.specs.declared.fault.Fault.{Fault}
 use Rattle.filetree.specs.Dictionary.{get, value_at, pairs_in, as_int, as_text, as_dict}
 use Rattle.pieces.specs.Pieces.{IsPieceLength}
 use Rattle.filetree.specs.Tests.{TestRow, First, NoneHolds}
-use Rattle.filetree.specs.TreeTests.{shape_rows, file_rows}
+use Rattle.filetree.specs.TreeTests.{file_rows, shape_rows, tree_rows}
 use Rattle.filetree.specs.FileTree.{Walk, walks, listed}
 use Rattle.filetree.specs.declared.files.ListedFile.{ListedFile}
 use Rattle.opening.specs.Trees.{roots_in, pieces_in, IsReused}
@@ -145,9 +145,10 @@ abbrev pub all_key_rows : Bencode → List TestRow
 all_key_rows v = top_rows v
     ++ (info_rows (info_in v) ++ (layers_rows v ++ piece_length_rows (piece_length_in v)))
 
--- the tests that take no memory: those of the keys, and of the shape and the paths of the file tree
+-- the tests that come before any memory is taken, but for decoding: those of the keys, of the file
+-- tree and of its files
 abbrev pub plain_rows : Bencode → List TestRow
-plain_rows v = all_key_rows v ++ shape_rows (file_tree_in v)
+plain_rows v = all_key_rows v ++ tree_rows (file_tree_in v)
 
 abbrev pub count_rows : ℕ → List ListedFile → List TestRow
 count_rows piece_length fs =
@@ -215,6 +216,7 @@ table v = joined_rows (
     ∷ hybrid_rows (piece_length_in v) (info_in v) (name_in v) (files_of v)
     ∷ [])
 
+-- the most bytes that a torrent file may have
 abbrev pub max_torrent : ℕ
 max_torrent = 2 ^ 26
 
@@ -226,8 +228,8 @@ RefusesTorrent b r = ((max_torrent < length b) × (r ≡ refusals.TooLarge))
     ⊎ ((v : Bencode) × Spells v b × First (table v) r)))
 
 -- opening these bytes may take memory: they are not too many and spell a value, and decoding comes
--- to a list or a dictionary that has to grow, or no test of the keys, of the shape and of the paths
--- holds
+-- to a list or a dictionary that has to grow, or no test of the keys, of the file tree and of its
+-- files holds
 pub record OpeningTakesMemory (b : List ℕ) : Type 0 where
   pub small : length b ≤ max_torrent
   pub value : Bencode

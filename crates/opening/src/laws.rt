@@ -1,7 +1,10 @@
 //! What holds of each torrent file. A function that calls one of these knows its law.
 
+ghost use Rattle.std.specs.Prelude.{◌≡◌};
+ghost use Rattle.opening.specs.Refusals.{max_torrent};
 ghost use Rattle.opening.specs.Laws.{TorrentIsOne, TorrentIsNotRefused, PlaceIsBlockPlace, RefusalIsOne, TreesAreRoots, TorrentOrRefusal};
 
+use crate::open::MAX_TORRENT;
 use benc::laws::{
     fault_is_one, no_spelling_begins_another, spelling_has_no_fault, spells_or_fails,
 };
@@ -36,6 +39,11 @@ pub fn torrent_or_refusal()
 {
     spells_or_fails();
 }
+
+/// The constant is the most bytes that a torrent file may have.
+pub fn max_torrent_is_the_limit()
+    ensures { MAX_TORRENT ≡ max_torrent }
+{}
 
 /// In a torrent the place that `place_of` computes is the file and block that stand there.
 pub fn place_is_block_place()

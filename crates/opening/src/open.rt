@@ -68,7 +68,7 @@ impl<'a> Torrent<'a> {
             → MatchResult result (λ _. ⊥) (λ s. s ≢ Refusal.NoMemory → s ≡ r) }
         // Out of memory is possible only for bytes within the limit that spell a value, and then
         // only where decoding comes to a list or dictionary with an item, or where no test of the
-        // keys, of the shape and of the paths holds.
+        // keys, of the file tree and of its files holds.
         ensures memory { IfErr result (λ r. r ≡ Refusal.NoMemory → OpeningTakesMemory input.now) }
     {
         torrent_is_one();

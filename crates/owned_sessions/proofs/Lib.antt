@@ -1,3 +1,4 @@
 -- What proofs share.
 pub mod Torrents
 pub mod Trees
+pub mod Settlements

@@ -4,9 +4,11 @@ use Rattle.std.specs.Result.{result_ok}
 use Rattle.node_maps.specs.Digest.{Hash}
 use Rattle.partial_tree.specs.declared.refusal.HashRefusal.{HashRefusal}
 use Rattle.partial_tree.specs.declared.refusal.BlockRefusal.{BlockRefusal}
+use Rattle.partial_tree.specs.declared.refusal.PieceRefusal.{PieceRefusal}
 use Rattle.partial_tree.specs.declared.answer.Answer.{Answer}
 use Rattle.session.proofs.Runs.{step-torrent}
 use Rattle.session.specs.Blocks.{BlocksSeen}
+use Rattle.session.specs.Pieces.{IsPieceRefused, IsTakenPiece}
 use Rattle.session.specs.Session.{SessionSeen, IsStored, IsHashRefused, IsVerified, IsBlockRefused, IsAnswered, AreTaken, AreRefused}
 use Rattle.session.specs.declared.verdict.Verdict.TheVariants as verdict
 use Rattle.wire.specs.declared.message.Message.TheVariants as message
@@ -36,6 +38,12 @@ pub torrent_after_blocks : (S S' : SessionSeen) (index begin : ℕ) (bytes : Bor
 torrent_after_blocks S S' index begin bytes (Ok v) taken refused =
     step-torrent S (message.Piece index begin bytes) (verdict.Blocks v) S' taken
 torrent_after_blocks S S' index begin bytes (Err r) taken refused = same_torrent refused.1
+
+pub torrent_after_piece : (S S' : SessionSeen) (index : ℕ) (bytes : List ℕ) (answer : Result (ℕ × ℕ) PieceRefusal)
+    → IfOk answer (λ p. IsTakenPiece S index bytes p.0 p.1 S')
+    → IfErr answer (λ r. IsPieceRefused S index bytes r × (S' ≡ S)) → S'.torrent ≡ S.torrent
+torrent_after_piece S S' index bytes (Ok p) taken refused = same_torrent taken.1.state_after
+torrent_after_piece S S' index bytes (Err r) taken refused = same_torrent refused.1
 
 pub torrent_after_answer : (S S' : SessionSeen) (ask : Ask) (hashes : List Hash) (answer : Result ℕ HashRefusal)
     → IfOk answer (λ c. IsAnswerStored S ask hashes c S') → IfErr answer (λ r. IsAnswerRefused S ask hashes r × (S' ≡ S))

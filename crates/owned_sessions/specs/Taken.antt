@@ -8,12 +8,15 @@ use Rattle.partial_tree.specs.Gaps.{want_of}
 use Rattle.partial_tree.specs.TreeRoot.{TreeRoot}
 use Rattle.partial_tree.specs.declared.refusal.HashRefusal.{HashRefusal}
 use Rattle.partial_tree.specs.declared.refusal.BlockRefusal.{BlockRefusal}
+use Rattle.partial_tree.specs.declared.refusal.PieceRefusal.{PieceRefusal}
 use Rattle.partial_tree.specs.declared.answer.Answer.{Answer}
 use Rattle.session.specs.Session.{SessionSeen, TreeState, IsTree, IsStored, IsHashRefused, IsVerified, IsBlockRefused}
 use Rattle.session.specs.Session.{IsBlock, IsAnswered, AreTaken, AreRefused, AreBlocks}
 use Rattle.session.specs.Answers.{IsAnswerTo}
 use Rattle.session.specs.Noted.{IsOpenAsk, IsAnswerStored, IsAnswerRefused, with_ask}
 use Rattle.session.specs.Blocks.{BlocksSeen}
+use Rattle.session.specs.Pieces.{ArePieceBlocks, IsPieceRefused, IsTakenPiece, TakesTruePiece}
+use Rattle.session.specs.Rounds.{HasNoMoreGaps}
 use Rattle.session.specs.SafeStep.{KeepsKnown, StoresTrueHashes, StoresAnswers, VerifiesTrueBlock, VerifiesTrueBlocks}
 use Rattle.session.specs.Wanted.{WantedClosesOneGap}
 use Rattle.wire.specs.declared.message.Ask.{Ask}
@@ -45,6 +48,16 @@ pub record BlocksTaken (S : SessionSeen) (index begin : ℕ) (bytes : List ℕ)
   pub verified_are_the_blocks : IfOk answer (AreBlocks S index begin bytes)
   pub keeps_known : KeepsKnown S S'
   pub verifies_true_blocks : IfOk answer (VerifiesTrueBlocks S bytes)
+
+-- a session takes the bytes of a whole piece, and this is its answer
+pub record PieceTaken (S : SessionSeen) (index : ℕ) (bytes : List ℕ)
+    (answer : Result (ℕ × ℕ) PieceRefusal) (S' : SessionSeen) : Type 0 where
+  pub taken : IfOk answer (λ p. IsTakenPiece S index bytes p.0 p.1 S')
+  pub refused : IfErr answer (λ r. IsPieceRefused S index bytes r × (S' ≡ S))
+  pub taken_are_the_blocks : IfOk answer (λ p. ArePieceBlocks S' bytes p.0 p.1)
+  pub keeps_known : KeepsKnown S S'
+  pub gaps : HasNoMoreGaps S S'
+  pub takes_true_piece : TakesTruePiece S index bytes answer
 
 -- a session takes a hashes message in answer to an open ask
 pub record AnswerTaken (S : SessionSeen) (ask : Ask) (hashes : List Hash)

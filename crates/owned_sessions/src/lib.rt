@@ -3,6 +3,7 @@
 //! behind a handle of C.
 #![tactic(auto)]
 
+mod holding;
 mod owned_session;
 
 pub use owned_session::OwnedSession;

@@ -8,13 +8,13 @@ ghost use Rattle.session.specs.Fresh.{IsFresh};
 ghost use Rattle.session.specs.Layouts.{IsBlockOf};
 ghost use Rattle.session.specs.Session.{IsAnswered};
 ghost use Rattle.owned_sessions.specs.TreeStates.{HasState};
-ghost use Rattle.owned_sessions.specs.Taken.{HashesTaken, BlockTaken, AnswerTaken, AskNoted, AnswerGiven, BlocksTaken, HasTreeBlock, WantIs};
+ghost use Rattle.owned_sessions.specs.Taken.{HashesTaken, BlockTaken, AnswerTaken, AskNoted, AnswerGiven, BlocksTaken, HasTreeBlock, PieceTaken, WantIs};
 ghost use Rattle.session.specs.SafeStep.{IsSafeStep};
 
 use hashtree::{BLOCK_LENGTH, NoMemory};
 use node_maps::Paged;
 use opening::Torrent;
-use partial_tree::{Answer, BlockRefusal, HashRefusal};
+use partial_tree::{Answer, BlockRefusal, HashRefusal, PieceRefusal};
 use session::{Blocks, Paused, Session, Verdict};
 use std::alloc::Global;
 use std::marker::Model;
@@ -27,9 +27,9 @@ use wire::{Ask, Hash, Message};
 /// too.
 #[derive(Drop)]
 pub struct OwnedSession {
-    alloc: Global,
-    torrent: Torrent<'static>,
-    paused: Paused<Paged>,
+    pub(crate) alloc: Global,
+    pub(crate) torrent: Torrent<'static>,
+    pub(crate) paused: Paused<Paged>,
 }
 
 impl Model for OwnedSession {
@@ -114,6 +114,18 @@ impl OwnedSession {
         let paused = replace(&mut self.paused, Paused::nothing(self.alloc));
         let mut session = Session::resume(self.alloc, &self.torrent, paused);
         let result = session.take_blocks(index, begin, bytes);
+        let kept = session.pause();
+        self.paused = kept;
+        result
+    }
+
+    /// As [`Session::take_piece`].
+    pub fn take_piece(&mut self, index: u32, bytes: &[u8]) -> Result<(usize, u64), PieceRefusal>
+        ensures { PieceTaken self.old index bytes.now result self.new }
+    {
+        let paused = replace(&mut self.paused, Paused::nothing(self.alloc));
+        let mut session = Session::resume(self.alloc, &self.torrent, paused);
+        let result = session.take_piece(index, bytes);
         let kept = session.pause();
         self.paused = kept;
         result

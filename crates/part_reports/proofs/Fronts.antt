@@ -1,17 +1,19 @@
 -- Numbers and lines at the front of a text.
-use Rattle.std.proofs.Common.{◌≡◌, ℕ, ◌-◌, ◌<◌, ◌^◌, true, false, Bool, List, [], ◌∷◌, ◌++◌, length}
-use Rattle.std.proofs.Common.{nat_eq, take, drop, decimal, refl, sym, ap, subst, ◌∙◌, append_assoc, arith}
+use Rattle.std.proofs.Common.{◌≡◌, ℕ, ◌+◌, ◌<◌, ◌^◌, true, false, Bool, Bor, List, Option, Some, None, [], ◌∷◌, ◌++◌, length}
+use Rattle.std.proofs.Common.{nat_eq, take, drop, decimal, refl, sym, ap, subst, ◌∙◌, arith}
 use Rattle.std.specs.Char.{digit_value, is_ascii_digit}
-use Rattle.std.specs.Cmp.Lexicographic.{other_text, pointwise}
+use Rattle.std.specs.Cmp.Lexicographic.{other_text, pointwise, same_text}
 use Rattle.std.specs.List.{list_all, prefix_len}
+use Rattle.std.specs.Option.{MatchOption}
 use Rattle.std.specs.Str.{IsUtf8}
 use Rattle.std.specs.Str.Parse.{AllDigits}
 use Rattle.std.proofs.lemmas.Bool.Decides.{nat_tests}
 use Rattle.std.proofs.lemmas.Fmt.{IsAscii-decimal, decimal_is_IsNumeral}
 use Rattle.std.proofs.lemmas.Str.{IsUtf8-from_ascii}
-use Rattle.std.proofs.lemmas.List.{drop_at, length-drop, take_all, take_at}
+use Rattle.std.proofs.lemmas.List.{drop_at, take-append-drop, take_at}
 use Rattle.std.proofs.lemmas.Bool.{and_parts}
-use Rattle.part_reports.specs.Scan.{IsLine, is_in_line, line_feed}
+use Rattle.std.proofs.lemmas.Option.{same_Some}
+use Rattle.part_reports.specs.Scan.{BeginsWith, is_in_line, line_feed}
 
 -- a run of bytes that pass a test stands before one that does not
 pub front_len : (p : ℕ → Bool) (run : List ℕ) (c : ℕ) (rest : List ℕ) → list_all p run ≡ true → p c ≡ false → prefix_len p (run ++ c ∷ rest) ≡ length run
@@ -37,15 +39,7 @@ decimal_len n c rest small stops = front_len is_ascii_digit (decimal n) c rest (
 pub decimal_utf8 : (n : ℕ) (digits : List ℕ) → n < 2 ^ 64 → digits ≡ decimal n → IsUtf8 digits
 decimal_utf8 n digits small is = subst IsUtf8 (sym is) (IsUtf8-from_ascii (decimal n) (IsAscii-decimal n small))
 
--- what stands behind a line
-pub behind_line : (text line more : List ℕ) (k : ℕ) → IsLine line → text ≡ line ++ more → k ≡ prefix_len is_in_line text
-    → take (length text - k) (drop k text) ≡ line_feed ∷ more
-behind_line text line more k l is length_is =
-    let whole : text ≡ l.bytes ++ line_feed ∷ more = is ∙ ap (λ x. x ++ more) l.is ∙ append_assoc l.bytes (line_feed ∷ []) more in
-    let len : k ≡ length l.bytes = length_is ∙ ap (prefix_len is_in_line) whole ∙ front_len is_in_line l.bytes line_feed more l.inside refl in
-    take_all (length text - k) (drop k text) (omega (arith, length-drop k text))
-    ∙ ap (drop k) whole ∙ drop_at l.bytes (line_feed ∷ more) k (sym len)
-
+-- the bytes before the first line feed
 pub line_front : (text line more : List ℕ) (k : ℕ) → list_all is_in_line line ≡ true → text ≡ line ++ line_feed ∷ more → k ≡ prefix_len is_in_line text
     → take k text ≡ line
 line_front text line more k inside is length_is =
@@ -66,3 +60,32 @@ pub front_digits : (text : List ℕ) (n c k : ℕ) (more : List ℕ) → n < 2 ^
 front_digits text n c k more small stops is length_is =
     let len : k ≡ length (decimal n) = length_is ∙ ap (prefix_len is_ascii_digit) is ∙ decimal_len n c more small stops in
     (ap (take k) is ∙ take_at (decimal n) (c ∷ more) k (sym len), ap (drop k) is ∙ drop_at (decimal n) (c ∷ more) k (sym len))
+
+-- a text that passes the test of its front begins so
+pub front_there : (front text rest : List ℕ) → true ≡ pointwise nat_eq (take (length front) text) front → rest ≡ drop (length front) text
+    → text ≡ front ++ rest
+front_there front text rest same is =
+    sym (take-append-drop (length front) text)
+    ∙ ap (λ x. x ++ drop (length front) text) (same_text (take (length front) text) front same)
+    ∙ ap (λ x. front ++ x) (sym is)
+
+-- what is stripped of a front, by its cases
+pub stripped : (front want text : List ℕ) (o : Option (Bor (List ℕ))) → front ≡ want
+    → MatchOption o (pointwise nat_eq (take (length front) text) front ≡ false)
+    (λ x. (pointwise nat_eq (take (length front) text) front ≡ true) × (x.now ≡ drop (length front) text)
+    × (length x.now + length front ≡ length text))
+    → MatchOption o (BeginsWith want text → ⊥) (λ x. text ≡ want ++ x.now)
+stripped front want text None is cases = λ begins.
+    front_same front text begins.0 (begins.1 ∙ ap (λ x. x ++ begins.0) (sym is)) (sym cases)
+stripped front want text (Some x) is cases = front_there front text x.now (sym cases.0) cases.1 ∙ ap (λ f. f ++ x.now) is
+
+-- what is read of a number at the front, and of what follows it
+abbrev pub AreRead : ℕ → List ℕ → ℕ → List ℕ → Type 0
+AreRead number rest n text = (number ≡ n) × (rest ≡ text)
+
+pub same_pair : (a b : ℕ) (xs ys : List ℕ) → ◌≡◌ {A = Option (ℕ × List ℕ)} (Some (a, xs)) (Some (b, ys)) → AreRead a xs b ys
+same_pair a b xs ys same =
+    let one : ℕ × List ℕ = (a, xs) in
+    let other : ℕ × List ℕ = (b, ys) in
+    let is = same_Some one other same in
+    (ap (λ x. x.0) is, ap (λ x. x.1) is)

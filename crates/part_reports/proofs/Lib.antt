@@ -1,6 +1,21 @@
 -- Lemmas on the reports of parts.
 pub mod Faults
 pub mod Fronts
-pub mod Lined
-pub mod ReadLines
+pub mod Heads
+pub mod LinesAll
+pub mod Listed
+pub mod MarkedFiles
+pub mod MarkedRuns
+pub mod PassedFiles
+pub mod Readings
 pub mod Reports
+pub mod Rooms
+pub mod RunLines
+pub mod RunMarks
+pub mod Said
+pub mod SameLines
+pub mod SoFar
+pub mod TextReads
+pub mod Texts
+pub mod WholePrints
+pub mod Windows

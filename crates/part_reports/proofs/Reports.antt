@@ -1,9 +1,9 @@
 -- Reports that are read and joined one after the other.
-use Rattle.std.proofs.Common.{◌≡◌, ℕ, zero, suc, ◌<◌, true, List, [], ◌∷◌, ◌++◌, length, map, replicate, get_or, slice_get, option_map, is_some}
-use Rattle.std.proofs.Common.{Option, Some, unwrap_or, inl, inr, sym, ap, subst, ◌∙◌, arith, Bor}
+use Rattle.std.proofs.Common.{◌≡◌, ℕ, ◌<◌, ◌^◌, true, List, [], ◌∷◌, ◌++◌, length, map, replicate, get_or, slice_get, option_map, is_some}
+use Rattle.std.proofs.Common.{Option, Some, unwrap_or, inl, inr, refl, sym, ap, subst, ◌∙◌, arith, Bor}
 use Rattle.std.proofs.lemmas.List.{length-replicate}
-use Rattle.std.proofs.lemmas.Option.{none-some, same_Some, slice_get-get_or, slice_get-map, slice_get_within}
-use Rattle.chains.proofs.Cases.{item_at, some_of}
+use Rattle.std.proofs.lemmas.Option.{get_or_from_slice_get, none-some, same_Some, slice_get-get_or, slice_get-map, slice_get_within}
+use Rattle.chains.proofs.Cases.{item_at, item_stays, pushed_at, pushed_last, some_of}
 use Rattle.opening.proofs.SoundTrees.{push_at}
 use Rattle.opening.specs.Description.{Description}
 use Rattle.folders.specs.declared.report.FileVerdict.{FileVerdict}
@@ -12,14 +12,20 @@ use Rattle.folders.specs.declared.report.V1Verdict.{V1Verdict}
 use Rattle.folders.specs.declared.report.V1Verdict.TheVariants as version1
 use Rattle.parts.specs.Joins.{IsJoin, IsWorst, NoWorse, NoWorseV1, says_of, says_of_v1}
 use Rattle.parts.specs.Laws.{WorseJoins, WorseJoinsV1}
+use Rattle.parts.specs.MarkedLines.{verdicts_of}
 use Rattle.parts.specs.Parts.{PartReport}
 use Rattle.parts.specs.Worse.{worse, worse_v1}
-use Rattle.part_reports.specs.Joined.{AreRead, IsRead}
-
-good_at : (n k : ℕ) (v : FileVerdict) → slice_get (replicate n file.Good) k ≡ Some v → v ≡ file.Good
-good_at zero k v at = absurd (none-some v at)
-good_at (suc n) zero v at = sym (same_Some file.Good v at)
-good_at (suc n) (suc k) v at = good_at n k v at
+use Rattle.part_reports.specs.Lines.{JoinsMore, MarkedPart}
+use Rattle.part_reports.specs.MarkedJoins.{AreMarksOf, AreReadAs, IsReadAs, IsTextAs, text_of}
+use Rattle.part_reports.specs.Marks.{IsMarked, IsTold, MarksMore}
+use Rattle.part_reports.specs.Reported.{CanReport}
+use Rattle.part_reports.specs.Reasons.{AreNamed, IsReportOf, own_words}
+use Rattle.part_reports.proofs.Faults.{head_of}
+use Rattle.part_reports.proofs.Heads.{one_head}
+use Rattle.part_reports.specs.declared.kind.Kind.{Kind}
+use Rattle.part_reports.specs.declared.kind.Kind.TheVariants as kind
+use Rattle.part_reports.specs.declared.marked_report.MarkedReport.{MarkedReport}
+use Rattle.part_reports.proofs.Listed.{good_at}
 
 -- no report says anything
 pub none_joined : (t : Description) (files : List FileVerdict) (v1 : Option V1Verdict) → files ≡ replicate (length t.files) file.Good
@@ -33,13 +39,6 @@ none_joined t files v1 are hybrid good = record {
   };
   version1 = λ v is. record { no_worse = λ i p there. absurd (none-some p there); one = inl (good v is) };
 }
-
--- how a report is joined to those before it
-pub record JoinsMore (p : PartReport) (old new : List FileVerdict) (v w : Option V1Verdict) : Type 0 where
-  pub count : length new ≡ length old
-  pub each : (n : ℕ) (a b : FileVerdict) → slice_get old n ≡ Some a → slice_get p.files n ≡ Some b → slice_get new n ≡ Some (worse a b)
-  pub hybrid : is_some w ≡ is_some v
-  pub version1 : (a b : V1Verdict) → v ≡ Some a → p.v1 ≡ Some b → w ≡ Some (worse_v1 a b)
 
 -- one more report is joined
 pub joined_more : (t : Description) (reports : List PartReport) (p : PartReport) (old new : List FileVerdict) (v w : Option V1Verdict)
@@ -65,11 +64,11 @@ joined_more t reports p old new v w joins joins_v1 files hybrid more j = record 
 }
 
 -- one more report is read
-pub read_more : (t : Description) (texts : List (List ℕ)) (count : ℕ) (reports : List PartReport) (p : PartReport) → AreRead t texts count reports
-    → IsRead t texts (length reports) count p → AreRead t texts count (reports ++ p ∷ [])
-read_more t texts count reports p are next i q at = elim (push_at reports p i q at) [
+pub read_more : (k : Kind) (t : Description) (texts : List (List ℕ)) (count : ℕ) (parts : List MarkedPart) (p : MarkedPart)
+    → AreReadAs k t texts count parts → IsReadAs k t texts (length parts) count p → AreReadAs k t texts count (parts ++ p ∷ [])
+read_more k t texts count parts p are next i q at = elim (push_at parts p i q at) [
   | inl old ↦ are i q old
-  | inr new ↦ subst (λ (x : PartReport). IsRead t texts i count x) new.0 (subst (λ k. IsRead t texts k count p) new.1 next)
+  | inr new ↦ subst (λ (x : MarkedPart). IsReadAs k t texts i count x) new.0 (subst (λ n. IsReadAs k t texts n count p) new.1 next)
 ]
 
 -- the text at this place
@@ -79,3 +78,82 @@ text_there texts i other text within is =
     slice_get-map (λ x. x.now) texts i
     ∙ ap (option_map (λ x. x.now)) (slice_get-get_or texts i other within)
     ∙ ap Some is
+
+-- the report of a part, which was read, is one
+pub read_report : (k : Kind) (t : Description) (texts : List (List ℕ)) (part count : ℕ) (p : MarkedPart) → part < count → count < 2 ^ 64
+    → IsReadAs k t texts part count p → IsReportOf k t part count (text_of k t part count p)
+read_report kind.Plain t texts part count p there small read = record {
+  there = there;
+  small = small;
+  files = verdicts_of p.marked;
+  v1 = p.v1;
+  can = subst (λ r. CanReport t r (verdicts_of p.marked) p.v1) read.places read.can.says;
+  is = refl;
+}
+read_report kind.Marked t texts part count p there small read = record {
+  there = there;
+  small = small;
+  said = p;
+  places = read.places;
+  can = read.can;
+  is = refl;
+}
+
+-- if the report of each part was read, each text is one of them
+pub no_other_text : (k : Kind) (t : Description) (texts : List (List ℕ)) (parts : List ℕ) (reports : List MarkedPart)
+    → AreNamed k t texts parts (length reports) → length parts ≡ length texts → AreReadAs k t texts (length reports) reports → (i : ℕ) (text : List ℕ)
+    → slice_get texts i ≡ Some text → IsTextAs k t reports (get_or parts i 0) text
+no_other_text k t texts parts reports named all are i text at =
+    let own = own_words k t in
+    let part = item_at parts i (omega (arith, all, slice_get_within texts i text at)) in
+    let part_is : get_or parts i 0 ≡ part.0 = get_or_from_slice_get parts i part.0 0 part.1 in
+    let head = named.heads i part.0 text at part.1 in
+    let p = item_at reports part.0 head.there in
+    let read = are part.0 p.0 p.1 in
+    let said : List ℕ = text_of k t part.0 (length reports) p.0 in
+    let other = item_at parts read.number (omega (arith, all, slice_get_within texts read.number said read.there)) in
+    let other_head = named.heads read.number other.0 said read.there other.1 in
+    let own_head = head_of k t part.0 (length reports) said (read_report k t texts part.0 (length reports) p.0 head.there head.small read) in
+    let same : other.0 ≡ part.0 = (one_head said other.0 (length reports) part.0 (length reports) own own other_head own_head).0 in
+    let place : read.number ≡ i = named.once read.number i part.0 (other.1 ∙ ap Some same) part.1 in
+    let is : text ≡ said = same_Some text said (sym at ∙ ap (slice_get texts) (sym place) ∙ read.there) in
+    subst (λ n. IsTextAs k t reports n text) (sym part_is) (record { part = p.0; there = p.1; is = is })
+
+pub each_once : (k : Kind) (t : Description) (texts : List (List ℕ)) (parts : List ℕ) (count : ℕ) → AreNamed k t texts parts count
+    → length parts ≡ length texts → (i j : ℕ) → i < length texts → j < length texts → get_or parts i 0 ≡ get_or parts j 0 → i ≡ j
+each_once k t texts parts count named all i j i_in j_in same =
+    let one = slice_get-get_or parts i 0 (omega (arith, all, i_in)) in
+    let other = slice_get-get_or parts j 0 (omega (arith, all, j_in)) in
+    named.once i j (get_or parts i 0) one (other ∙ ap Some (sym same))
+
+-- how many parts there are fits 64 bits, since their first lines say it
+pub few_parts : (k : Kind) (t : Description) (texts : List (List ℕ)) (parts : List ℕ) (reports : List MarkedPart)
+    → AreNamed k t texts parts (length reports) → length parts ≡ length texts → AreReadAs k t texts (length reports) reports → 0 < length reports
+    → length reports < 2 ^ 64
+few_parts k t texts parts reports named all are some =
+    let p = item_at reports 0 some in
+    let read = are 0 p.0 p.1 in
+    let said : List ℕ = text_of k t 0 (length reports) p.0 in
+    let part = item_at parts read.number (omega (arith, all, slice_get_within texts read.number said read.there)) in
+    (named.heads read.number part.0 said read.there part.1).small
+
+-- no part tells of a piece
+pub no_marks : (t : Description) (joined : MarkedReport) → ((q : ℕ) → IsMarked joined.bad q → ⊥) → AreMarksOf t [] joined
+no_marks t joined none q = (λ on. absurd (none q on), λ told. absurd (none-some told.part told.there))
+
+-- the marks of one part more
+pub marks_more : (t : Description) (parts : List MarkedPart) (p : MarkedPart) (old new : MarkedReport) → AreMarksOf t parts old
+    → MarksMore (IsTold t p.marked) old.bad new.bad → AreMarksOf t (parts ++ p ∷ []) new
+marks_more t parts p old new are more q = (
+  λ on. elim ((more.each q).0 on) [
+    | inl before ↦
+        let told = (are q).0 before in
+        record { number = told.number; part = told.part; there = item_stays parts (p ∷ []) told.number told.part told.there; told = told.told }
+    | inr last ↦ record { number = length parts; part = p; there = pushed_last parts p (length parts) refl; told = last }
+  ],
+  λ told. elim (pushed_at parts p told.part told.number told.there) [
+    | inl before ↦
+        (more.each q).1 (inl ((are q).1 (record { number = told.number; part = told.part; there = before; told = told.told })))
+    | inr last ↦ (more.each q).1 (inr (subst (λ (x : MarkedPart). IsTold t x.marked q) (sym last.1) told.told))
+  ],
+)

@@ -2,7 +2,14 @@
 pub mod Heads
 pub mod Joined
 pub mod Laws
+pub mod Lines
+pub mod MarkedJoins
+pub mod Marks
 pub mod Numbers
 pub mod Reasons
 pub mod Reported
+pub mod RunLines
 pub mod Scan
+pub mod Starts
+pub mod Texts
+pub mod WholeLines

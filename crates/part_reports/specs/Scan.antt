@@ -1,6 +1,5 @@
--- Lines of a text.
-use Rattle.std.specs.Prelude.{◌≡◌, ℕ, Bool, true, not, ◌==◌, List, [], ◌∷◌, ◌++◌}
-use Rattle.std.specs.List.{list_all}
+-- Texts and lines.
+use Rattle.std.specs.Prelude.{◌≡◌, ℕ, Bool, not, ◌==◌, List, ◌++◌}
 
 -- the byte that ends a line
 abbrev pub line_feed : ℕ
@@ -10,8 +9,6 @@ line_feed = 10
 abbrev pub is_in_line : ℕ → Bool
 is_in_line b = not (b == line_feed)
 
--- one line, with its end
-pub record IsLine (text : List ℕ) : Type 0 where
-  pub bytes : List ℕ
-  pub inside : list_all is_in_line bytes ≡ true
-  pub is : text ≡ bytes ++ line_feed ∷ []
+-- the text begins so
+abbrev pub BeginsWith : List ℕ → List ℕ → Type 0
+BeginsWith front text = (more : List ℕ) × (text ≡ front ++ more)

@@ -1,18 +1,28 @@
 //! The join of the reports of all parts.
-ghost use Rattle.std.specs.Prelude.{◌≡◌, ◌<◌, length, map, replicate, is_some, IfErr, IfOk, Some};
+ghost use Rattle.std.specs.Prelude.{◌≡◌, ℕ, ◌+◌, ◌<◌, length, map, replicate, is_some, IfErr, IfOk, MatchResult, Some};
 ghost use Rattle.folders.specs.declared.report.V1Verdict.{V1Verdict as OfV1};
+ghost use Rattle.parts.specs.Parts.{place_count};
+ghost use Rattle.parts.specs.Shares.{share};
 ghost use Rattle.part_reports.specs.Joined.{AreJoined};
+ghost use Rattle.part_reports.specs.Lines.{FailsToRead};
+ghost use Rattle.part_reports.specs.MarkedJoins.{AreJoinedAs, JoinsText};
+ghost use Rattle.part_reports.specs.Marks.{HasRoom, IsMarked};
 ghost use Rattle.part_reports.specs.Numbers.{text_count};
-ghost use Rattle.part_reports.specs.Reasons.{AreNamed, HasReadReason, HasReason};
-ghost use Rattle.parts.specs.PartLines.{part_text};
+ghost use Rattle.part_reports.specs.Reasons.{AreNamed, HasReason, HasReasonOf, IsReportOf};
+ghost use Rattle.part_reports.specs.declared.bad_pieces.BadPieces.{BadPieces as OfBad};
 
+use crate::bad_pieces::BadPieces;
+use crate::head::behind_head;
 use crate::join_fault::JoinFault;
+use crate::kind::Kind;
+use crate::lines::join_lines;
+use crate::marked_report::MarkedReport;
 use crate::numbers::Numbers;
-use crate::reading::read_part;
 use crate::report_fault::ReportFault;
+use crate::starts::Division;
 use folders::{FileVerdict, Report, V1Verdict};
 use opening::Torrent;
-use parts::join;
+use parts::Places;
 use parts::laws::{shares_have_all_places, worse_joins};
 use std::alloc::{AllocError, Global};
 
@@ -24,7 +34,7 @@ use std::alloc::{AllocError, Global};
 ///
 /// Each fault comes only for what it says, so that the reports of all parts, each once, are joined
 /// (`laws::all_reports_are_joined`). `NoMemory`: memory was refused for the numbers of the parts,
-/// for a report or for its text.
+/// for the report or for a line.
 pub fn join_reports(
     alloc: Global,
     torrent: &Torrent<'_>,
@@ -34,76 +44,152 @@ pub fn join_reports(
         AreJoined torrent.now (map (λ x. x.now) texts.now) r.files.items r.v1) }
     ensures reason { IfErr result (HasReason torrent.now (map (λ x. x.now) texts.now)) }
 {
-    let numbers = Numbers::of(alloc, torrent, texts)?;
+    Ok(join_all(alloc, torrent, Kind::Plain, texts)?.report)
+}
+
+/// Joins the marked reports of all parts, as `join_reports` does plain ones: each verdict is the
+/// worst of what the parts say, and a piece is bad exactly if one of the parts says so.
+///
+/// # Errors
+///
+/// Those of `join_reports`; a plain report is no marked one.
+pub fn join_marked_reports(
+    alloc: Global,
+    torrent: &Torrent<'_>,
+    texts: &[&[u8]],
+) -> Result<MarkedReport, JoinFault>
+    ensures joined { IfOk result
+        (AreJoinedAs Kind.Marked torrent.now (map (λ x. x.now) texts.now)) }
+    ensures reason { IfErr result
+        (HasReasonOf Kind.Marked torrent.now (map (λ x. x.now) texts.now)) }
+{
+    join_all(alloc, torrent, Kind::Marked, texts)
+}
+
+// Joins the reports of all parts, which are to be of this kind.
+fn join_all(
+    alloc: Global,
+    torrent: &Torrent<'_>,
+    kind: Kind,
+    texts: &[&[u8]],
+) -> Result<MarkedReport, JoinFault>
+    ensures joined { IfOk result (AreJoinedAs kind torrent.now (map (λ x. x.now) texts.now)) }
+    ensures reason { IfErr result (HasReasonOf kind torrent.now (map (λ x. x.now) texts.now)) }
+{
+    let numbers = Numbers::of(alloc, torrent, kind, texts)?;
     if numbers.count == 0 {
         return Err(JoinFault::Missing(1, 1));
     }
-    join_parts(alloc, torrent, &numbers, texts)
+    join_parts(alloc, torrent, kind, &numbers, texts)
 }
 
 // Reads the reports of all parts, one after the other, and joins them.
 fn join_parts(
     alloc: Global,
     torrent: &Torrent<'_>,
+    kind: Kind,
     numbers: &Numbers,
     texts: &[&[u8]],
-) -> Result<Report, JoinFault>
+) -> Result<MarkedReport, JoinFault>
     requires some { 0 < numbers.now.count }
     requires texts { text_count numbers.now ≡ length texts.now }
-    requires named { AreNamed torrent.now (map (λ x. x.now) texts.now) numbers.now.parts.items
-        numbers.now.count }
-    ensures joined { IfOk result (λ r.
-        AreJoined torrent.now (map (λ x. x.now) texts.now) r.files.items r.v1) }
-    ensures reason { IfErr result (HasReason torrent.now (map (λ x. x.now) texts.now)) }
+    requires named { AreNamed kind torrent.now (map (λ x. x.now) texts.now)
+        numbers.now.parts.items numbers.now.count }
+    ensures joined { IfOk result (AreJoinedAs kind torrent.now (map (λ x. x.now) texts.now)) }
+    ensures reason { IfErr result (HasReasonOf kind torrent.now (map (λ x. x.now) texts.now)) }
 {
     worse_joins();
     shares_have_all_places();
-    let mut joined = all_good(alloc, torrent)?;
+    let division = Division::of(torrent, numbers.count);
+    let mut start = division.first_start();
+    let mut joined = all_good(alloc, torrent, kind, division.pieces)?;
     'parts: for part in 0..numbers.count {
         let Some(place) = numbers.place_of(part) else {
             return Err(JoinFault::Missing(part + 1, numbers.count));
         };
-        let report = read_at(alloc, torrent, part, numbers.count, texts[place], place)?;
-        join(&mut joined, &report);
+        let end = division.start(torrent, part + 1, start);
+        let places = Places {
+            from: start.place,
+            to: end.place,
+        };
+        let text = texts[place];
+        match join_text(
+            alloc,
+            torrent,
+            kind,
+            &division,
+            part,
+            places,
+            text,
+            &mut joined,
+        ) {
+            Ok(()) => start = end,
+            Err(ReportFault::NoReport) => return Err(JoinFault::NoReport(place)),
+            Err(ReportFault::NoMemory) => return Err(JoinFault::NoMemory),
+        }
     }
     Ok(joined)
 }
 
-// Reads the report of a part, which stands at this place.
-fn read_at(
+// Joins to a report what a text says, as the report, of this kind, of this part with these places.
+fn join_text(
     alloc: Global,
     torrent: &Torrent<'_>,
+    kind: Kind,
+    division: &Division,
     part: u64,
-    parts: u64,
+    places: Places,
     text: &[u8],
-    place: usize,
-) -> Result<Report, JoinFault>
-    requires { part < parts }
-    ensures files { IfOk result (λ r. length r.files.items ≡ length torrent.now.files) }
-    ensures hybrid { IfOk result (λ r. is_some r.v1 ≡ is_some torrent.now.v1) }
-    ensures text { IfOk result (λ r.
-        text.now ≡ part_text torrent.now part parts r.files.items r.v1) }
-    ensures reason { IfErr result (HasReadReason torrent.now part parts place text.now) }
+    joined: &mut MarkedReport,
+) -> Result<(), ReportFault>
+    requires there { part < division.now.parts }
+    requires pieces { division.now.pieces + 1 ≡ place_count torrent.now }
+    requires places { places ≡ share torrent.now part division.now.parts }
+    requires files { length joined.old.report.files.items ≡ length torrent.now.files }
+    requires hybrid { is_some joined.old.report.v1 ≡ is_some torrent.now.v1 }
+    requires room { HasRoom kind division.now.pieces joined.old.bad }
+    ensures { MatchResult result
+        (λ u. JoinsText kind torrent.now part division.now.parts text.now joined.old joined.new)
+        (FailsToRead (IsReportOf kind torrent.now part division.now.parts text.now)) }
 {
-    match read_part(alloc, torrent, part, parts, text) {
-        Ok(report) => Ok(report),
-        Err(ReportFault::NoReport) => Err(JoinFault::NoReport(place)),
-        Err(ReportFault::NoMemory) => Err(JoinFault::NoMemory),
-    }
+    let Some(lines) = behind_head(torrent, kind, part, division.parts, text) else {
+        return Err(ReportFault::NoReport);
+    };
+    join_lines(alloc, torrent, kind, places, division.pieces, lines, joined)
 }
 
-// The report that says nothing: all is good.
-fn all_good(alloc: Global, torrent: &Torrent<'_>) -> Result<Report, AllocError>
+// The report that says nothing: all is good, and no piece is marked. The torrent has so many
+// pieces.
+fn all_good(
+    alloc: Global,
+    torrent: &Torrent<'_>,
+    kind: Kind,
+    pieces: u64,
+) -> Result<MarkedReport, AllocError>
     ensures files { IfOk result (λ r.
-        r.files.items ≡ replicate (length torrent.now.files) FileVerdict.Good) }
-    ensures hybrid { IfOk result (λ r. is_some r.v1 ≡ is_some torrent.now.v1) }
-    ensures version1 { IfOk result (λ r. (v : OfV1) → r.v1 ≡ Some v → v ≡ V1Verdict.Good) }
+        r.report.files.items ≡ replicate (length torrent.now.files) FileVerdict.Good) }
+    ensures hybrid { IfOk result (λ r. is_some r.report.v1 ≡ is_some torrent.now.v1) }
+    ensures version1 { IfOk result (λ r. (v : OfV1) → r.report.v1 ≡ Some v → v ≡ V1Verdict.Good) }
+    ensures room { IfOk result (λ r. HasRoom kind pieces r.bad) }
+    ensures none { IfOk result (λ r. (piece : ℕ) → IsMarked r.bad piece → ⊥) }
 {
+    let bad = BadPieces::none(alloc, mark_count(kind, pieces))?;
     let mut files = Vec::new(alloc);
     files.resize(torrent.files().len(), FileVerdict::Good)?;
     let v1 = match torrent.v1() {
         Some(_) => Some(V1Verdict::Good),
         None => None,
     };
-    Ok(Report { files, v1 })
+    let report = Report { files, v1 };
+    Ok(MarkedReport { report, bad })
+}
+
+// How many marks reports of this kind need, for so many pieces.
+fn mark_count(kind: Kind, pieces: u64) -> u64
+    ensures { (bad : OfBad) → length bad.marks.items ≡ result → HasRoom kind pieces bad }
+{
+    match kind {
+        Kind::Plain => 0,
+        Kind::Marked => pieces,
+    }
 }

@@ -1,8 +1,7 @@
-//! Numbers and lines at the front of a text.
-ghost use Rattle.std.specs.Prelude.{◌≡◌, ℕ, ◌<◌, ◌≤◌, ◌^◌, List, ◌∷◌, ◌++◌, length, decimal, option_map, Some, false, true};
+//! Numbers at the front of a text.
+ghost use Rattle.std.specs.Prelude.{◌≡◌, ℕ, ◌<◌, ◌≤◌, ◌^◌, List, ◌∷◌, ◌++◌, length, decimal, option_map, Some, false};
 ghost use Rattle.std.specs.Char.{is_ascii_digit};
-ghost use Rattle.std.specs.List.{list_all, prefix_len};
-ghost use Rattle.part_reports.specs.Scan.{IsLine, is_in_line, line_feed};
+ghost use Rattle.std.specs.List.{prefix_len};
 
 use std::str;
 
@@ -17,22 +16,13 @@ pub(crate) fn split_number(text: &[u8]) -> Option<(u64, &[u8])>
     Some((number, rest))
 }
 
-/// What follows the first line, or nothing.
-pub(crate) fn after_line(text: &[u8]) -> &[u8]
-    ensures { (line more : List ℕ) → IsLine line → text.now ≡ line ++ more → result.now ≡ more }
+/// The number behind these bytes at the front, and what follows it.
+pub(crate) fn number_behind<'a>(front: &[u8], text: &'a [u8]) -> Option<(u64, &'a [u8])>
+    ensures { (n c : ℕ) (more : List ℕ) → n < 2 ^ 64 → is_ascii_digit c ≡ false
+        → text.now ≡ front.now ++ (decimal n ++ c ∷ more)
+        → option_map {U = ℕ × List ℕ} (λ x. (x.0, x.1.now)) result ≡ Some (n, c ∷ more) }
 {
-    match &text[line_length(text)..] {
-        [_, rest @ ..] => rest,
-        [] => &[],
-    }
-}
-
-/// The first line without its end.
-pub(crate) fn first_line(text: &[u8]) -> &[u8]
-    ensures { (line more : List ℕ) → list_all is_in_line line ≡ true
-        → text.now ≡ line ++ line_feed ∷ more → result.now ≡ line }
-{
-    &text[..line_length(text)]
+    split_number(text.strip_prefix(front)?)
 }
 
 // The number that these digits write, if it fits 64 bits.
@@ -52,19 +42,6 @@ fn digit_count(text: &[u8]) -> usize
 {
     'bytes: for (i, byte) in text.iter().enumerate() {
         if !byte.is_ascii_digit() {
-            return i;
-        }
-    }
-    text.len()
-}
-
-// How many bytes stand before the first line feed.
-fn line_length(text: &[u8]) -> usize
-    ensures value { result ≡ prefix_len is_in_line text.now }
-    ensures bound { result ≤ length text.now }
-{
-    'bytes: for (i, byte) in text.iter().enumerate() {
-        if *byte == b'\n' {
             return i;
         }
     }

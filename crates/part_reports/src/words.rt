@@ -4,7 +4,7 @@ ghost use Rattle.std.specs.Char.{is_ascii_digit};
 ghost use Rattle.folders.specs.Printed.{stream_words, verdict_words};
 ghost use Rattle.folders.specs.declared.report.FileVerdict.{FileVerdict as OfFile};
 ghost use Rattle.folders.specs.declared.report.V1Verdict.{V1Verdict as OfV1};
-ghost use Rattle.part_reports.specs.Reported.{IsSmall, IsSmallV1};
+ghost use Rattle.part_reports.specs.Lines.{IsSmall, IsSmallV1};
 
 use crate::scan::split_number;
 use folders::{FileVerdict, V1Verdict};

@@ -1,4 +1,5 @@
 pub mod Digests
+pub mod EightDigests
 pub mod Powers
 pub mod LowPlaces
 pub mod ClaimValues
@@ -19,6 +20,10 @@ pub mod Ranges
 pub mod Messages
 pub mod Counting
 pub mod Layers
+pub mod LeafRows
+pub mod TakenRows
+pub mod KnownRows
+pub mod LeafPieces
 pub mod Planted
 pub mod Keeping
 pub mod AddedRows

@@ -12,6 +12,9 @@ pub mod Evidence
 pub mod FoldedRows
 pub mod WrittenRows
 pub mod Kept
+pub mod BlockDigests
+pub mod LeafRows
+pub mod LeafPieces
 pub mod Codes
 pub mod Names
 pub mod Trust

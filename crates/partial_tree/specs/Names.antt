@@ -4,6 +4,8 @@ use Rattle.partial_tree.specs.declared.refusal.HashRefusal.{HashRefusal}
 use Rattle.partial_tree.specs.declared.refusal.HashRefusal.TheVariants.{UnknownRoot, BadRange, BadCount, BadPad, Unanchored, Mismatch, NoMemory, Unasked}
 use Rattle.partial_tree.specs.declared.refusal.BlockRefusal.{BlockRefusal}
 use Rattle.partial_tree.specs.declared.refusal.BlockRefusal.TheVariants.{BadPlace, BadSize, Unproved, BadBlock}
+use Rattle.partial_tree.specs.declared.refusal.PieceRefusal.{PieceRefusal}
+use Rattle.partial_tree.specs.declared.refusal.PieceRefusal.TheVariants as piece
 
 -- the number of a refusal of hashes, which is the order of the tests of a tree
 abbrev pub hash_refusal_number : HashRefusal → ℕ
@@ -58,3 +60,11 @@ block_refusal_text BadPlace = codes "there is no block at this place"
 block_refusal_text BadSize = codes "the block has another size"
 block_refusal_text Unproved = codes "the hash of the block is not known yet"
 block_refusal_text BadBlock = codes "the block has another hash"
+
+-- what `{}` prints of a refusal of a piece
+abbrev pub piece_refusal_text : PieceRefusal → List ℕ
+piece_refusal_text piece.BadPlace = codes "there is no piece of this number"
+piece_refusal_text piece.BadSize = codes "the piece has another size"
+piece_refusal_text piece.Unproved = codes "the hash of the piece is not known yet"
+piece_refusal_text piece.NoMemory = codes "out of memory"
+piece_refusal_text piece.BadPiece = codes "the piece has another hash"

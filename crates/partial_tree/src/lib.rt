@@ -4,17 +4,20 @@
 
 mod answer;
 mod answering;
+mod block_digests;
 mod bytes;
 mod growing;
 mod marking;
 mod message;
 mod nodes;
+mod piece;
 mod refusal;
 mod tree;
 
 pub use answer::Answer;
+pub use block_digests::{BlockDigests, block_of};
 pub use bytes::{are_bytes, are_hashes, is_hash};
 pub use growing::{GrowingTree, GrownTree};
 pub use hashtree::NoMemory;
-pub use refusal::{BlockRefusal, HashRefusal};
+pub use refusal::{BlockRefusal, HashRefusal, PieceRefusal};
 pub use tree::Tree;

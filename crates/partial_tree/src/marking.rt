@@ -1,11 +1,14 @@
 //! Marking the blocks of a tree.
 
-ghost use Rattle.std.specs.Prelude.{◌≡◌, ◌+◌, ◌^◌, ◌<◌, ◌↔◌, IfOk, IfErr, IfSome, IsTrue};
+ghost use Rattle.std.specs.Prelude.{◌≡◌, ◌+◌, ◌^◌, ◌<◌, ◌↔◌, IfOk, IfErr, IfSome, IsTrue, Some};
+ghost use Rattle.std.specs.Bool.{OnTrue, OnFalse};
 ghost use Rattle.sha2.specs.Sha256.{sha256};
 ghost use Rattle.hashtree.specs.Tree.{block_count};
 ghost use Rattle.node_maps.specs.Known.{look};
 ghost use Rattle.node_maps.specs.Runs.{AreKnown};
+ghost use Rattle.node_maps.specs.Places.{IsKnown};
 ghost use Rattle.partial_tree.specs.Kept.{IsGoodTree, TreeMarks, TreeRefusesBlock};
+ghost use Rattle.partial_tree.specs.LeafRows.{TreeMarksRun, with_leaf_marked};
 
 use crate::refusal::BlockRefusal;
 use crate::tree::Tree;
@@ -54,6 +57,49 @@ impl<N: NodeMap> Tree<N> {
         }
         self.marked += self.nodes.mark(block);
         Ok(())
+    }
+
+    /// Marks a leaf, and returns true, if this digest is known there: that of a block which came.
+    /// Else nothing changes. Takes no memory. Condition: the tree is good.
+    pub fn mark_leaf(&mut self, block: u64, digest: &Hash) -> bool
+        requires good { IsGoodTree self.old }
+        ensures marked { OnTrue result
+            (self.new ≡ with_leaf_marked self.old block) }
+        ensures known { IsTrue result ↔ (look self.old.state.known 0 block ≡ Some digest.now) }
+        ensures stays { OnFalse result (self.new ≡ self.old) }
+        ensures good { IsGoodTree self.new }
+    {
+        match self.hash(0, block) {
+            Some(known) if known == *digest => {
+                self.mark_known(block);
+                true
+            }
+            _ => false,
+        }
+    }
+
+    // Marks the leaves of `count` blocks, from one on. Conditions: the tree is good, these leaves
+    // are known, and `first + count` is below 2^64.
+    pub(crate) fn mark_leaves(&mut self, first: u64, count: u64)
+        requires good { IsGoodTree self.old }
+        requires range { first + count < 2 ^ 64 }
+        requires known { AreKnown (look self.old.state.known 0) first count }
+        ensures marked { TreeMarksRun self.old first count self.new }
+        ensures good { IsGoodTree self.new }
+    {
+        'leaves: for j in 0..count {
+            self.mark_known(first + j);
+        }
+    }
+
+    // Marks one known leaf.
+    fn mark_known(&mut self, block: u64)
+        requires good { IsGoodTree self.old }
+        requires known { IsKnown (look self.old.state.known) 0 block }
+        ensures marked { self.new ≡ with_leaf_marked self.old block }
+        ensures good { IsGoodTree self.new }
+    {
+        self.marked += self.nodes.mark(block);
     }
 
     /// Whether the leaves of `count` blocks are known, from one on. Condition: `from + count` is

@@ -7,6 +7,7 @@ pub(crate) mod evidence;
 mod filling;
 mod folding;
 mod found;
+mod leaves;
 mod pads;
 pub(crate) mod row;
 mod storing;

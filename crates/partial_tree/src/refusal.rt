@@ -42,6 +42,22 @@ pub enum BlockRefusal {
     BadBlock,
 }
 
+/// Why a piece is refused. The tests run in the order of the variants, and the first that fails is
+/// the answer. A refusal leaves content and marks as they were.
+#[derive(Clone, Copy, Debug, PartialEq, Eq)]
+pub enum PieceRefusal {
+    /// No piece has the number.
+    BadPlace,
+    /// The bytes are not as many as the piece has.
+    BadSize,
+    /// The node that covers the piece is not known.
+    Unproved,
+    /// Out of memory: a place is new.
+    NoMemory,
+    /// A hash that follows from the bytes differs from a known one.
+    BadPiece,
+}
+
 impl HashRefusal {
     ghost use Rattle.std.specs.Prelude.{◌≡◌};
     ghost use Rattle.partial_tree.specs.Names.{hash_refusal_number, hash_refusal_name, hash_refusal_text};
@@ -161,3 +177,34 @@ impl fmt::Display for BlockRefusal {
 }
 
 impl Error for BlockRefusal {}
+
+impl PieceRefusal {
+    ghost use Rattle.std.specs.Prelude.{◌≡◌};
+    ghost use Rattle.partial_tree.specs.Names.{piece_refusal_text};
+
+    // What is printed of it.
+    fn text(self) -> &'static str
+        ensures { result.now ≡ piece_refusal_text self }
+    {
+        match self {
+            PieceRefusal::BadPlace => "there is no piece of this number",
+            PieceRefusal::BadSize => "the piece has another size",
+            PieceRefusal::Unproved => "the hash of the piece is not known yet",
+            PieceRefusal::NoMemory => "out of memory",
+            PieceRefusal::BadPiece => "the piece has another hash",
+        }
+    }
+}
+
+impl fmt::Display for PieceRefusal {
+    ghost use Rattle.std.specs.Prelude.{Some};
+    ghost use Rattle.partial_tree.specs.Names.{piece_refusal_text};
+
+    ghost output = { λ refusal. Some (piece_refusal_text refusal) };
+
+    fn fmt<W: fmt::Write>(&self, f: &mut fmt::Formatter<W>) -> fmt::Result {
+        f.write_str(self.text())
+    }
+}
+
+impl Error for PieceRefusal {}

@@ -13,7 +13,7 @@
 //!     0      a   b   .   .        a, b   known together, and nothing below d
 //! ```
 
-ghost use Rattle.std.specs.Prelude.{◌≡◌, ◌+◌, ◌<◌, ◌≤◌, ◌↔◌, IfOk, IfErr, OnOk, OnErr, IsTrue};
+ghost use Rattle.std.specs.Prelude.{◌≡◌, ◌+◌, ◌<◌, ◌≤◌, ◌↔◌, IfOk, IfErr, OnOk, OnErr, IsTrue, length};
 ghost use Rattle.std.specs.FinMap as finite;
 ghost use Rattle.std.specs.FinSet as set;
 ghost use Rattle.hashtree.specs.Tree.{block_count};
@@ -24,6 +24,7 @@ ghost use Rattle.node_maps.specs.Known.{look};
 ghost use Rattle.partial_tree.specs.Claims.{HasNew};
 ghost use Rattle.partial_tree.specs.Fill.{fill_claims, IsFillAccepted};
 ghost use Rattle.partial_tree.specs.Kept.{info_of, root_only, IsGoodTree, TreeJoins, TreeTakesHashes, TreeRefusesHashes, TreeTakesLayer, TreeRefusesLayer, TreeCanAnswer, TreeAnswers};
+ghost use Rattle.partial_tree.specs.LeafRows.{IsLeafRow, RowRefuses, TreeTakesRow};
 
 use crate::answer::Answer;
 use crate::answering::answer_hashes;
@@ -32,7 +33,7 @@ use crate::growing::GrownTree;
 use crate::growing::adopting::{agree, carry_marks};
 use crate::message::checks::check_range;
 use crate::nodes::TreeNodes;
-use crate::refusal::HashRefusal;
+use crate::refusal::{HashRefusal, PieceRefusal};
 use hashtree::{Hash, NoMemory, Shape};
 use node_maps::NodeMap;
 use std::alloc::Global;
@@ -46,7 +47,7 @@ const MOST_WANTED: u64 = 512;
 /// *good* if what is known is closed and each marked leaf is known.
 #[derive(Drop)]
 pub struct Tree<N: NodeMap> {
-    alloc: Global,
+    pub(crate) alloc: Global,
     root: Hash,
     pub(crate) nodes: TreeNodes<N>,
     known: u64,
@@ -97,6 +98,20 @@ impl<N: NodeMap> Tree<N> {
         self.nodes.pages()
     }
 
+    /// The shape of the tree's files.
+    pub fn shape(&self) -> Shape
+        ensures { result ≡ self.now.length }
+    {
+        self.nodes.shape()
+    }
+
+    /// The hash at a place, if it is known. Takes no memory.
+    pub fn hash(&self, layer: u32, index: u64) -> Option<Hash>
+        ensures { result ≡ look self.now.state.known layer index }
+    {
+        self.nodes.map().get(layer, index)
+    }
+
     /// How many leaves are marked.
     pub fn marked(&self) -> u64
         ensures { result ≡ set.len self.now.state.marked }
@@ -140,6 +155,31 @@ impl<N: NodeMap> Tree<N> {
     {
         are_hashes(hashes);
         let gained = self.nodes.fill(self.alloc, layer, hashes)?;
+        self.known += gained;
+        Ok(gained)
+    }
+
+    /// Takes the leaves of the blocks under the node `first >> span` of layer `span`, whose hash is
+    /// known: those of a piece, say. Returns how many places are newly known, the pads past the
+    /// file's end among them. A refusal leaves the tree unchanged; it is out of memory only if a
+    /// place is new. Conditions: the tree is good, and the hashes are as many as blocks stand under
+    /// the node, which is one of the tree and has a block under it.
+    pub fn take_leaves(
+        &mut self,
+        first: u64,
+        span: u32,
+        hashes: &[Hash],
+    ) -> Result<u64, PieceRefusal>
+        requires good { IsGoodTree self.old }
+        requires row { IsLeafRow self.old.length first span (length hashes.now) }
+        ensures taken { IfOk result (λ c. TreeTakesRow self.old first span hashes.now c self.new) }
+        ensures refused { IfErr result (λ r.
+            RowRefuses (look self.old.state.known) first span hashes.now r
+            × (self.new ≡ self.old)) }
+        ensures good { IsGoodTree self.new }
+    {
+        are_hashes(hashes);
+        let gained = self.nodes.take_leaves(self.alloc, first, span, hashes)?;
         self.known += gained;
         Ok(gained)
     }

@@ -19,7 +19,6 @@ use Rattle.folders.specs.Verdicts.{IsListedNode}
 use Rattle.folders.specs.declared.report.FileVerdict.{FileVerdict}
 use Rattle.folders.specs.declared.report.FileVerdict.TheVariants as file
 use Rattle.folders.proofs.Layers.{layer_is_low, layer_of_at, whole_layer}
-use Rattle.folders.proofs.OpenedRoots.{same_root}
 use Rattle.parts.specs.Collisions.{RowsCollide}
 use Rattle.parts.specs.Joins.{NoWorse}
 use Rattle.parts.proofs.Rows.{AreHashes, length-node, same_rows}
@@ -79,7 +78,9 @@ all_listed pl e bytes legal sound len long each =
     let same : layer_of bytes m ≡ e.layer =
     sym (fill_by_all (node bytes m) e.layer (layer_count (block_count (length bytes)) m) [] (sym l.own_count ∙ length-layer_count bytes m)
     (λ k lt. get_or_from_slice_get e.layer k (node bytes m k) [] (each k (omega (arith, lt, l.own_count, length-layer_count bytes m))))) in
-    same_root pl e m e.layer bytes (record { at_root = λ short. absurd (omega (arith, short, long)); at_pieces = λ _. (refl, refl) }) sound len same
+    let low : piece_layer pl ≤ height (block_count (length bytes)) = omega (arith, l.low, ap (λ n. height (block_count n)) len) in
+    sym (layers_lead_to_root bytes m low) ∙ ap (root_over (height (block_count (length bytes))) m) same
+    ∙ ap (λ n. root_over (height (block_count n)) m e.layer) len ∙ sound.layer_root long
 
 zero-is_hash : (m : ℕ) → length (zero_hash m) ≡ 32
 unfolding tree

@@ -5,22 +5,20 @@ use Rattle.std.proofs.lemmas.Bool.{cases_lt}
 use Rattle.std.proofs.lemmas.List.{length_push}
 use Rattle.std.proofs.lemmas.List.Sums.{sum_by-take-le}
 use Rattle.std.proofs.lemmas.Option.{same_Some, slice_get_within}
-use Rattle.chains.proofs.Cases.{last_or_before, pushed_at, pushed_last, item_stays}
+use Rattle.chains.proofs.Cases.{item_at, last_or_before, pushed_at, pushed_last, item_stays}
 use Rattle.opening.specs.Description.{Description, FileEntry, Version1}
 use Rattle.opening.specs.Sound.{IsSound}
 use Rattle.pieces.specs.Pieces.{pieces_of}
 use Rattle.folders.specs.Folder.{Contents}
-use Rattle.folders.specs.Verdicts.{Agrees}
-use Rattle.folders.specs.declared.report.FileVerdict.{FileVerdict}
+use Rattle.folders.specs.Verdicts.{AgreeWith, Agrees}
 use Rattle.folders.specs.declared.report.V1Verdict.{V1Verdict}
 use Rattle.folders.specs.declared.report.V1Verdict.TheVariants as version1
 use Rattle.folders.proofs.Places.{pieces_before, pieces_next}
-use Rattle.folders.proofs.Visiting.{Extends}
-use Rattle.parts.specs.Finding.{FindsFile, HasPieceIn, IsFileV1}
-use Rattle.parts.specs.Parts.{Holds, IsPartV1, IsPartVerdict, IsPieceAt, IsVersion1Good, place_count}
+use Rattle.parts.specs.Finding.{HasPieceIn, IsFileV1}
+use Rattle.parts.specs.Parts.{Holds, IsPartV1, IsPieceAt, IsVersion1Good, place_count}
 use Rattle.parts.specs.Worse.{worse_v1}
 use Rattle.parts.specs.declared.places.Places.{Places}
-use Rattle.parts.specs.declared.verdicts.Verdicts.{Verdicts}
+use Rattle.parts.proofs.Contents.{Extends, contents_extend, contents_of}
 use Rattle.parts.proofs.Streams.{pieces_mono}
 
 -- ---- the version 1 pieces
@@ -186,63 +184,86 @@ v1_all t v r contents n (version1.Bad q) sound all stated = (
 
 -- ---- all that is found
 
--- what is found of the first n files
-pub record IsFoundOfFirst (t : Description) (r : Places) (contents : Contents) (n : ℕ) (files : List FileVerdict) (v1 : V1Verdict) : Type 0 where
-  pub each : (m : ℕ) (f : FileEntry) (v : FileVerdict) → slice_get t.files m ≡ Some f → slice_get files m ≡ Some v → IsPartVerdict t r f (contents m) v
-  pub version1 : (v : Version1) → t.v1 ≡ Some v → IsV1SoFar t v r contents n v1
+module _ {X : Type 0} (t : Description) (r : Places) (Says : FileEntry → Option (List ℕ) → X → Type 0) where
+  -- what is found of the first n files
+  pub record IsFoundOfFirst (contents : Contents) (n : ℕ) (found : List X) (v1 : V1Verdict) : Type 0 where
+    pub each : (m : ℕ) (f : FileEntry) (x : X) → slice_get t.files m ≡ Some f → slice_get found m ≡ Some x → Says f (contents m) x
+    pub version1 : (v : Version1) → t.v1 ≡ Some v → IsV1SoFar t v r contents n v1
 
--- what was found of them, on a shelf that holds this
-pub record HasFoundFirst (t : Description) (r : Places) (under : List (List ℕ) → Option (Option (List ℕ))) (n : ℕ) (files : List FileVerdict) (v1 : V1Verdict)
-    : Type 0 where
-  pub seen : List (Option (List ℕ))
-  pub count : length seen ≡ n
-  pub agree : (k : ℕ) (f : FileEntry) (c : Option (List ℕ)) → slice_get t.files k ≡ Some f → slice_get seen k ≡ Some c → Agrees (under f.path) c
-  pub stated : (contents : Contents) → Extends seen contents → IsFoundOfFirst t r contents n files v1
+  -- what was found of them, on a shelf that holds this
+  pub record HasFoundFirst (under : List (List ℕ) → Option (Option (List ℕ))) (n : ℕ) (found : List X) (v1 : V1Verdict) : Type 0 where
+    pub seen : List (Option (List ℕ))
+    pub count : length seen ≡ n
+    pub agree : (k : ℕ) (f : FileEntry) (c : Option (List ℕ)) → slice_get t.files k ≡ Some f → slice_get seen k ≡ Some c → Agrees (under f.path) c
+    pub stated : (contents : Contents) → Extends seen contents → IsFoundOfFirst contents n found v1
 
-one_found : (t : Description) (r : Places) (contents : Contents) (n : ℕ) (files : List FileVerdict) (a : V1Verdict) (f : FileEntry)
-    (stated : Option (Option (List ℕ))) (v : Verdicts) → slice_get t.files n ≡ Some f → length files ≡ n → (found : FindsFile t r f stated v)
-    → contents n ≡ found.content → IsFoundOfFirst t r contents n files a → IsFoundOfFirst t r contents (n + 1) (files ++ v.file ∷ []) (worse_v1 a v.v1)
-one_found t r contents n files a f stated v there count found is so_far = record {
-  each = λ m g w at said. elim (pushed_at files v.file w m said) [
-    | inl before ↦ so_far.each m g w at before
-    | inr last ↦
-        let here : m ≡ n = last.0 ∙ count in
-        let same : f ≡ g = same_Some f g (sym there ∙ ap (slice_get t.files) (sym here) ∙ at) in
-        subst (λ c. IsPartVerdict t r g c w) (sym (ap contents here ∙ is))
-        (subst (λ u. IsPartVerdict t r g found.content u) last.1 (subst (λ h. IsPartVerdict t r h found.content v.file) same found.verdict))
-  ];
-  version1 = λ w hybrid. v1_one t w r contents n f a v.v1 there (so_far.version1 w hybrid)
-      (subst (λ c. IsFileV1 t w r f c v.v1) (sym is) (found.version1 w hybrid));
-}
+  -- what was found of one file, on a shelf that holds this under its path
+  pub record FindsOne (f : FileEntry) (known : Option (Option (List ℕ))) (x : X) (v1 : V1Verdict) : Type 0 where
+    pub content : Option (List ℕ)
+    pub agrees : Agrees known content
+    pub says : Says f content x
+    pub version1 : (v : Version1) → t.v1 ≡ Some v → IsFileV1 t v r f content v1
 
--- one more file
-pub found_one : (t : Description) (r : Places) (under : List (List ℕ)
-    → Option (Option (List ℕ))) (n : ℕ) (files : List FileVerdict) (a : V1Verdict) (f : FileEntry)
-    (v : Verdicts) → slice_get t.files n ≡ Some f → length files ≡ n → FindsFile t r f (under f.path) v → HasFoundFirst t r under n files a
-    → HasFoundFirst t r under (n + 1) (files ++ v.file ∷ []) (worse_v1 a v.v1)
-found_one t r under n files a f v there count found so_far = record {
-  seen = so_far.seen ++ found.content ∷ [];
-  count = length_push so_far.seen found.content ∙ ap (λ k. k + 1) so_far.count;
-  agree = λ k g c at is. elim (pushed_at so_far.seen found.content c k is) [
+  one_found : (contents : Contents) (n : ℕ) (found : List X) (a b : V1Verdict) (f : FileEntry) (known : Option (Option (List ℕ))) (x : X)
+      → slice_get t.files n ≡ Some f → length found ≡ n → (one : FindsOne f known x b) → contents n ≡ one.content → IsFoundOfFirst contents n found a
+      → IsFoundOfFirst contents (n + 1) (found ++ x ∷ []) (worse_v1 a b)
+  one_found contents n found a b f known x there count one is so_far = record {
+    each = λ m g w at said. elim (pushed_at found x w m said) [
+      | inl before ↦ so_far.each m g w at before
+      | inr last ↦
+          let here : m ≡ n = last.0 ∙ count in
+          let same : f ≡ g = same_Some f g (sym there ∙ ap (slice_get t.files) (sym here) ∙ at) in
+          subst (λ c. Says g c w) (sym (ap contents here ∙ is)) (subst (Says g one.content) last.1 (subst (λ h. Says h one.content x) same one.says))
+    ];
+    version1 = λ w hybrid. v1_one t w r contents n f a b there (so_far.version1 w hybrid)
+        (subst (λ c. IsFileV1 t w r f c b) (sym is) (one.version1 w hybrid));
+  }
+
+  -- the contents with that of one more file are known ones
+  pub agree_more : (under : List (List ℕ) → Option (Option (List ℕ))) (n : ℕ) (found : List X) (a : V1Verdict) (f : FileEntry) (content : Option (List ℕ))
+      → slice_get t.files n ≡ Some f → Agrees (under f.path) content → (so_far : HasFoundFirst under n found a) → (k : ℕ) (g : FileEntry)
+      (c : Option (List ℕ)) → slice_get t.files k ≡ Some g → slice_get (so_far.seen ++ content ∷ []) k ≡ Some c → Agrees (under g.path) c
+  agree_more under n found a f content there agrees so_far k g c at is = elim (pushed_at so_far.seen content c k is) [
     | inl before ↦ so_far.agree k g c at before
     | inr last ↦
         let same : f ≡ g = same_Some f g (sym there ∙ ap (slice_get t.files) (sym (last.0 ∙ so_far.count)) ∙ at) in
-        subst (λ h. Agrees (under h.path) c) same (subst (Agrees (under f.path)) last.1 found.agrees)
-  ];
-  stated = λ contents extends.
-      one_found t r contents n files a f (under f.path) v there count found
-      (extends n found.content (pushed_last so_far.seen found.content n (sym so_far.count)))
-      (so_far.stated contents (λ k c at. extends k c (item_stays so_far.seen (found.content ∷ []) k c at)));
-}
+        subst (λ (h : FileEntry). Agrees (under h.path) c) same (subst (Agrees (under f.path)) last.1 agrees)
+  ]
 
--- none yet
-pub found_none : (t : Description) (r : Places) (under : List (List ℕ) → Option (Option (List ℕ))) → HasFoundFirst t r under 0 [] version1.Good
-found_none t r under = record {
-  seen = [];
-  count = refl;
-  agree = λ k f c there at. absurd (let lt = slice_get_within [] k c at in omega (arith, lt));
-  stated = λ contents extends. record {
-    each = λ m f v there at. absurd (let lt = slice_get_within [] m v at in omega (arith, lt));
-    version1 = λ v hybrid bound p m k f bytes lt at held low. absurd (omega (arith, lt));
-  };
-}
+  -- one more file
+  pub found_one : (under : List (List ℕ) → Option (Option (List ℕ))) (n : ℕ) (found : List X) (a b : V1Verdict) (f : FileEntry) (x : X)
+      → slice_get t.files n ≡ Some f → length found ≡ n → FindsOne f (under f.path) x b → HasFoundFirst under n found a
+      → HasFoundFirst under (n + 1) (found ++ x ∷ []) (worse_v1 a b)
+  found_one under n found a b f x there count one so_far = record {
+    seen = so_far.seen ++ one.content ∷ [];
+    count = length_push so_far.seen one.content ∙ ap (λ k. k + 1) so_far.count;
+    agree = agree_more under n found a f one.content there one.agrees so_far;
+    stated = λ contents extends.
+        one_found contents n found a b f (under f.path) x there count one
+        (extends n one.content (pushed_last so_far.seen one.content n (sym so_far.count)))
+        (so_far.stated contents (λ k c at. extends k c (item_stays so_far.seen (one.content ∷ []) k c at)));
+  }
+
+  -- none yet
+  pub found_none : (under : List (List ℕ) → Option (Option (List ℕ))) → HasFoundFirst under 0 [] version1.Good
+  found_none under = record {
+    seen = [];
+    count = refl;
+    agree = λ k f c there at. absurd (let lt = slice_get_within [] k c at in omega (arith, lt));
+    stated = λ contents extends. record {
+      each = λ m f x there at. absurd (let lt = slice_get_within [] m x at in omega (arith, lt));
+      version1 = λ v hybrid bound p m k f bytes lt at held low. absurd (omega (arith, lt));
+    };
+  }
+
+  -- the contents of the first files are the ones that the shelf holds
+  pub first_agree : (under : List (List ℕ) → Option (Option (List ℕ))) (n : ℕ) (found : List X) (a : V1Verdict) → (so_far : HasFoundFirst under n found a)
+      → (k : ℕ) (f : FileEntry) → k < n → slice_get t.files k ≡ Some f → Agrees (under f.path) (contents_of so_far.seen k)
+  first_agree under n found a so_far k f lt there =
+      let at = item_at so_far.seen k (omega (arith, lt, so_far.count)) in
+      subst (Agrees (under f.path)) (sym (contents_extend so_far.seen k at.0 at.1)) (so_far.agree k f at.0 there at.1)
+
+  -- and those of all
+  pub all_agree : (under : List (List ℕ) → Option (Option (List ℕ))) (n : ℕ) (found : List X) (a : V1Verdict) → n ≡ length t.files
+      → (so_far : HasFoundFirst under n found a) → AgreeWith t under (contents_of so_far.seen)
+  all_agree under n found a all so_far k f there = first_agree under n found a so_far k f (omega (arith, slice_get_within t.files k f there, all)) there

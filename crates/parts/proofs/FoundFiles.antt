@@ -1,7 +1,8 @@
 -- What a part found of one file, by how its opening and its reading were answered.
-use Rattle.std.proofs.Common.{◌≡◌, ℕ, ◌*◌, ◌++◌, IsTrue, List, length, drop, replicate, slice_get, Option, Some, None}
+use Rattle.std.proofs.Common.{◌≡◌, ℕ, ◌+◌, ◌*◌, ◌≤◌, min, ◌++◌, IsTrue, List, length, drop, replicate, slice_get, Option, Some, None}
 use Rattle.std.proofs.Common.{Result, Ok, Err, IfOk, IfSome, refl, ap, sym, ◌∙◌, subst, drop_at, arith}
 use Rattle.std.specs.Option.{unwrap_or}
+use Rattle.std.proofs.Math.Nat.{mul-le-mul_left}
 use Rattle.std.proofs.lemmas.List.{length-replicate}
 use Rattle.std.proofs.lemmas.Option.{same_Some}
 use Rattle.benc.specs.declared.device.DeviceFault.{DeviceFault}
@@ -18,8 +19,10 @@ use Rattle.parts.specs.FilePieces.{AreBelow, FindsPieces, IsBelow, IsFirstBad}
 use Rattle.parts.specs.Finding.{FindsFile, IsFileV1}
 use Rattle.parts.specs.Parts.{IsPartVerdict, IsPieceGood, IsVersion1Good, Touches}
 use Rattle.parts.specs.Saying.{HasSmallPieces, IsSmallFrom, SaysFound, file_says, v1_says}
-use Rattle.parts.specs.Spans.{IsSpan, IsSpanOf}
-use Rattle.parts.specs.declared.file_pieces.Found.{Found}
+use Rattle.parts.specs.RowBits.{AreBitsOf}
+use Rattle.parts.specs.Spans.{IsSpan, IsSpanOf, end_in, first_in}
+use Rattle.parts.specs.Telling.{MarksIn}
+use Rattle.parts.specs.declared.row.Found.{Found}
 use Rattle.parts.specs.declared.places.Places.{Places}
 use Rattle.parts.specs.declared.span.Span.{Span}
 use Rattle.parts.specs.declared.verdicts.Verdicts.{Verdicts}
@@ -59,17 +62,21 @@ goes_on_so (Some (Some there)) offset left rest found gave = record {
 
 -- the file is as its verdict says
 good_or_bad : (t : Description) (r : Places) (f : FileEntry) (s : Span) (bytes : List ℕ) (bad : Option ℕ) → IsSpanOf t r f s
-    → (IsTrue s.ends → length bytes ≡ f.length) → IsFirstBad s.from s.to (IsPieceGood t f bytes) bad
+    → (IsTrue s.ends → length bytes ≡ f.length) → min (t.piece_length * s.to) f.length ≤ length bytes → IsFirstBad s.from s.to (IsPieceGood t f bytes) bad
     → IsPartVerdict t r f (Some bytes) (file_says f.first_piece bad)
-good_or_bad t r f s bytes None span ends all = λ touched. (
+good_or_bad t r f s bytes None span ends whole all = λ touched. (
   bytes,
   refl,
   record {
     end = λ held. ends (span.ends.1 held);
+    whole = λ k lt held.
+        let b = held_between t r f s k span lt held in
+        let low : t.piece_length * (k + 1) ≤ t.piece_length * s.to = mul-le-mul_left t.piece_length (let le : k + 1 ≤ s.to = omega (arith, b.1) in le) in
+        omega (arith, low, whole);
     pieces = λ k lt held. (let b = held_between t r f s k span lt held in all k b.0 b.1);
   },
 )
-good_or_bad t r f s bytes (Some p) span ends first =
+good_or_bad t r f s bytes (Some p) span ends whole first =
     let in_span = between_held t r f s p span first.0 first.1 in (
       bytes,
       refl,
@@ -85,7 +92,7 @@ good_or_bad t r f s bytes (Some p) span ends first =
     )
 
 -- and so are the version 1 pieces
-v1_good_or_bad : (t : Description) (v : Version1) (r : Places) (f : FileEntry) (s : Span) (bytes : List ℕ) (bad : Option ℕ) → IsSpanOf t r f s
+pub v1_good_or_bad : (t : Description) (v : Version1) (r : Places) (f : FileEntry) (s : Span) (bytes : List ℕ) (bad : Option ℕ) → IsSpanOf t r f s
     → IsFirstBad s.from s.to (IsVersion1Good t v f bytes) bad → IsFileV1 t v r f (Some bytes) (v1_says f.first_piece bad)
 v1_good_or_bad t v r f s bytes None span all = λ k own has.
     let b = held_between t r f s k span has.inside has.held in
@@ -109,63 +116,86 @@ says_checked first (Some p) (Some q) = refl
 -- ---- what was found
 
 -- the verdicts are these two
-as_both : (t : Description) (r : Places) (f : FileEntry) (stated : Option (Option (List ℕ))) (v : Verdicts) (a : FileVerdict) (b : V1Verdict)
-    → v.file ≡ a → v.v1 ≡ b → FindsFile t r f stated (record { file = a; v1 = b }) → FindsFile t r f stated v
-as_both t r f stated v a b at bt found = record {
+as_both : (t : Description) (r : Places) (f : FileEntry) (stated : Option (Option (List ℕ))) (bits : List ℕ) (v : Verdicts) (a : FileVerdict) (b : V1Verdict)
+    → v.file ≡ a → v.v1 ≡ b → FindsFile t r f stated bits (record { file = a; v1 = b }) → FindsFile t r f stated bits v
+as_both t r f stated bits v a b at bt found = record {
   content = found.content;
   agrees = found.agrees;
   verdict = subst (IsPartVerdict t r f found.content) (sym at) found.verdict;
   version1 = λ w hybrid. subst (IsFileV1 t w r f found.content) (sym bt) (found.version1 w hybrid);
   checked = ap is_checked bt ∙ found.checked ∙ ap is_whole (sym at);
+  marks = subst (λ w. MarksIn t r f found.content w bits) (sym at) found.marks;
 }
 
 -- the file is unreadable, and may have any content
-pub finds_unreadable : (t : Description) (r : Places) (f : FileEntry) (stated : Option (Option (List ℕ))) (v : Verdicts)
-    → v.file ≡ file.Unreadable → v.v1 ≡ version1.NotChecked → FindsFile t r f stated v
-finds_unreadable t r f stated v at bt = as_both t r f stated v file.Unreadable version1.NotChecked at bt (record {
+pub finds_unreadable : (t : Description) (r : Places) (f : FileEntry) (stated : Option (Option (List ℕ))) (bits : List ℕ) (v : Verdicts)
+    → v.file ≡ file.Unreadable → v.v1 ≡ version1.NotChecked → FindsFile t r f stated bits v
+finds_unreadable t r f stated bits v at bt = as_both t r f stated bits v file.Unreadable version1.NotChecked at bt (record {
   content = known stated;
   agrees = known_agrees stated;
   verdict = tt;
   version1 = λ w hybrid. tt;
   checked = refl;
+  marks = λ runs. (let no : ⊥ = cc in absurd no);
 })
 
 -- the file has no place in the part
-pub finds_other : (t : Description) (r : Places) (f : FileEntry) (stated : Option (Option (List ℕ))) (v : Verdicts) → (Touches t r f → ⊥)
-    → v.file ≡ file.Good → v.v1 ≡ version1.Good → FindsFile t r f stated v
-finds_other t r f stated v other at bt = as_both t r f stated v file.Good version1.Good at bt (record {
+pub finds_other : (t : Description) (r : Places) (f : FileEntry) (stated : Option (Option (List ℕ))) (bits : List ℕ) (v : Verdicts) → (Touches t r f → ⊥)
+    → v.file ≡ file.Good → v.v1 ≡ version1.Good → FindsFile t r f stated bits v
+finds_other t r f stated bits v other at bt = as_both t r f stated bits v file.Good version1.Good at bt (record {
   content = known stated;
   agrees = known_agrees stated;
   verdict = λ touched. absurd (other touched);
   version1 = λ w hybrid k bytes has. absurd (other (piece_touches t r f k has.inside has.held));
   checked = refl;
+  marks = λ runs. (let no : ⊥ = cc in absurd no);
 })
 
+-- nothing has its name
+pub finds_missing : (t : Description) (r : Places) (f : FileEntry) (stated : Option (Option (List ℕ))) (bits : List ℕ) (v : Verdicts) → Agrees stated None
+    → v.file ≡ file.Missing → v.v1 ≡ version1.NotChecked → FindsFile t r f stated bits v
+finds_missing t r f stated bits v agrees at bt = as_both t r f stated bits v file.Missing version1.NotChecked at bt (record {
+  content = None;
+  agrees = agrees;
+  verdict = refl;
+  version1 = λ w hybrid. tt;
+  checked = refl;
+  marks = λ runs. (let no : ⊥ = cc in absurd no);
+})
+
+-- the bits of the row are those of the pieces among the places
+row_marks : (t : Description) (r : Places) (f : FileEntry) (s : Span) (bytes bits : List ℕ) → IsSpanOf t r f s → AreBitsOf t f s.from s.to bytes bits
+    → AreBitsOf t f (first_in r f) (end_in t r f) bytes bits
+row_marks t r f s bytes bits span is =
+    subst (λ from. AreBitsOf t f from (end_in t r f) bytes bits) span.from_is (subst (λ to. AreBitsOf t f s.from to bytes bits) span.to_is is)
+
 -- the file was opened at the first of its pieces in the part, and read
-pub finds_read : (t : Description) (r : Places) (f : FileEntry) (s : Span) (stated : Option (Option (List ℕ))) (left : Option (List ℕ))
+pub finds_read : (t : Description) (r : Places) (f : FileEntry) (s : Span) (stated : Option (Option (List ℕ))) (left : Option (List ℕ)) (bits : List ℕ)
     (answer : Result (Option Found) DeviceFault) (v : Verdicts)
-    → IsSpanOf t r f s → IsFound (from_offset (t.piece_length * s.from) stated) (Some left) → IfOk answer (FindsPieces t f s left)
-    → SaysFound f.first_piece answer v → FindsFile t r f stated v
-finds_read t r f s stated left (Ok (Some found)) v span opened read says =
-    let on = goes_on_so stated (t.piece_length * s.from) left read.0 opened read.1 in
-    let judged = read.2 on.bytes on.from_there in
-    as_both t r f stated v (file_says f.first_piece found.bad) (v1_says f.first_piece found.bad_cut) says.0 says.1 (record {
+    → IsSpanOf t r f s → IsFound (from_offset (t.piece_length * s.from) stated) (Some left) → IfOk answer (FindsPieces t f s left bits)
+    → SaysFound f.first_piece answer v → FindsFile t r f stated bits v
+finds_read t r f s stated left bits (Ok (Some found)) v span opened read says =
+    let on = goes_on_so stated (t.piece_length * s.from) left read.rest opened read.agrees in
+    let so = read.each on.bytes on.from_there in
+    as_both t r f stated bits v (file_says f.first_piece found.bad) (v1_says f.first_piece found.bad_cut) says.0 says.1 (record {
       content = Some on.bytes;
       agrees = on.agrees;
-      verdict = good_or_bad t r f s on.bytes found.bad span judged.0 judged.1.0;
-      version1 = λ w hybrid. v1_good_or_bad t w r f s on.bytes found.bad_cut span (judged.1.1 w hybrid);
+      verdict = good_or_bad t r f s on.bytes found.bad span so.ends so.whole so.judged.0;
+      version1 = λ w hybrid. v1_good_or_bad t w r f s on.bytes found.bad_cut span (so.judged.1 w hybrid);
       checked = says_checked f.first_piece found.bad found.bad_cut;
+      marks = λ runs. (on.bytes, refl, row_marks t r f s on.bytes bits span so.bits_of);
     })
-finds_read t r f s stated left (Ok None) v span opened read says =
-    let on = goes_on_so stated (t.piece_length * s.from) left read.0 opened read.1 in
-    as_both t r f stated v file.WrongLength version1.NotChecked says.0 says.1 (record {
+finds_read t r f s stated left bits (Ok None) v span opened read says =
+    let on = goes_on_so stated (t.piece_length * s.from) left read.rest opened read.agrees in
+    as_both t r f stated bits v file.WrongLength version1.NotChecked says.0 says.1 (record {
       content = Some on.bytes;
       agrees = on.agrees;
-      verdict = (on.bytes, refl, read.2 on.bytes on.from_there);
+      verdict = (on.bytes, refl, (read.each on.bytes on.from_there).other);
       version1 = λ w hybrid. tt;
       checked = refl;
+      marks = λ runs. (on.bytes, refl, row_marks t r f s on.bytes bits span (read.each on.bytes on.from_there).bits_of);
     })
-finds_read t r f s stated left (Err e) v span opened read says = finds_unreadable t r f stated v says.0 says.1
+finds_read t r f s stated left bits (Err e) v span opened read says = finds_unreadable t r f stated bits v says.0 says.1
 
 -- ---- numbers
 

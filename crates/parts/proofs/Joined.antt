@@ -53,7 +53,7 @@ good_node t f e bytes k is good long =
     subst (λ (d : TreeEntry). IsListedNode t.piece_length d bytes k) same (good.listed (subst (λ (d : TreeEntry). t.piece_length < d.length) (sym same) long))
 
 -- all pieces are good: the root is the tree's
-root_from_pieces : (t : Description) (n : ℕ) (f : FileEntry) (e : TreeEntry) (bytes : List ℕ) → IsSound t → slice_get t.files n ≡ Some f
+pub root_from_pieces : (t : Description) (n : ℕ) (f : FileEntry) (e : TreeEntry) (bytes : List ℕ) → IsSound t → slice_get t.files n ≡ Some f
     → tree_entry_of t f ≡ Some e
     → length bytes ≡ f.length → ((k : ℕ) → k < piece_count t f → IsPieceGood t f bytes k) → root_of bytes ≡ e.root
 root_from_pieces t n f e bytes sound there is len each =
@@ -82,7 +82,7 @@ bad_collides t n f e bytes k sound there is len root inside differs =
     ]
 
 -- the first piece that is not good, if the root is another
-first_bad_piece : (t : Description) (n : ℕ) (f : FileEntry) (e : TreeEntry) (bytes : List ℕ) (k : ℕ) → IsSound t → slice_get t.files n ≡ Some f
+pub first_bad_piece : (t : Description) (n : ℕ) (f : FileEntry) (e : TreeEntry) (bytes : List ℕ) (k : ℕ) → IsSound t → slice_get t.files n ≡ Some f
     → tree_entry_of t f ≡ Some e
     → k < piece_count t f → ((j : ℕ) → j < k → IsPieceGood t f bytes j) → (IsPieceGood t f bytes k → ⊥) → IsFirstBadPiece t.piece_length e bytes k
 first_bad_piece t n f e bytes k sound there is inside before differs =

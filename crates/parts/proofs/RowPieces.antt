@@ -7,26 +7,18 @@ use Rattle.std.proofs.Math.Nat.{mul-le-mul, mul-le-mul_left}
 use Rattle.std.proofs.lemmas.Bool.{cases_lt}
 use Rattle.std.proofs.lemmas.List.{ext_get_or, get_or-take, get_or-drop, get_or_append_left, get_or-append_right, get_or-replicate, length-append}
 use Rattle.std.proofs.lemmas.List.{length-take, length-drop, length-replicate, drop-drop, drop-append-le, take-append-le, nil_from_length}
-use Rattle.std.proofs.lemmas.Option.{same_Some, slice_get-get_or}
 use Rattle.hashtree.specs.Difference.{IsComparison}
-use Rattle.hashtree.specs.Tree.{layer_of, node}
 use Rattle.hashtree.proofs.Comparing.{difference_within}
 use Rattle.opening.specs.Description.{Description, FileEntry, TreeEntry}
-use Rattle.opening.specs.Sound.{IsSound, piece_layer}
+use Rattle.opening.specs.Sound.{IsSound}
 use Rattle.pieces.specs.Cuts.{cut}
 use Rattle.pieces.specs.Pieces.{pieces_of}
 use Rattle.pieces.proofs.Cutting.{pieces_cover}
 use Rattle.folders.specs.Folder.{tree_entry_of}
-use Rattle.folders.proofs.Layers.{layer_of_at}
-use Rattle.folders.proofs.Places.{pieces_are_positive}
-use Rattle.folders.proofs.Reports.{has_tree}
 use Rattle.parts.specs.FilePieces.{IsFirstBad}
-use Rattle.parts.specs.Padded.{node_of}
-use Rattle.parts.specs.Parts.{IsPieceGood, piece_count}
+use Rattle.parts.specs.Parts.{piece_count}
 use Rattle.parts.specs.RowChecks.{row_bytes}
 use Rattle.parts.proofs.GoodPieces.{in_layer, piece_fits}
-use Rattle.parts.proofs.Joined.{good_node}
-use Rattle.parts.proofs.PieceNodes.{leaves_in, listed_node, piece_of}
 use Rattle.parts.proofs.Streams.{in_pieces, to_pieces}
 
 -- ---- two rows, compared
@@ -63,23 +55,22 @@ in_range xs from to j lt = get_or-take (to - from) (drop from xs) j [] (omega (a
 pub range_length : (xs : List (List ℕ)) (from to : ℕ) → to ≤ length xs → length (slice_range xs from to) ≡ to - from
 range_length xs from to le = omega (arith, le, length-take (to - from) (drop from xs), length-drop from xs)
 
--- the file is longer than a piece
-pub long_file : (t : Description) (f : FileEntry) (from to : ℕ) → 0 < t.piece_length → from + 1 < to → to ≤ piece_count t f
-    → (t.piece_length < f.length) × (t.piece_length * (to - 1) < f.length)
-long_file t f from to some several inside =
-    let last = in_pieces t.piece_length (to - 1) f.length some (omega (arith, several, inside)) in
-    let more : t.piece_length * 1 ≤ t.piece_length * (to - 1) =
-    mul-le-mul_left t.piece_length (let le : 1 ≤ to - 1 = omega (arith, several) in le) in
-    (omega (arith, last, more), last)
+-- the last piece of the row begins within the file
+pub last_begins : (t : Description) (f : FileEntry) (from to : ℕ) → 0 < t.piece_length → from < to → to ≤ piece_count t f
+    → t.piece_length * (to - 1) < f.length
+last_begins t f from to some piece inside = in_pieces t.piece_length (to - 1) f.length some (omega (arith, piece, inside))
 
 -- the file's part of its piece layer is there
 pub row_listed : (t : Description) (n : ℕ) (f : FileEntry) (e : TreeEntry) (from to : ℕ) → IsSound t → slice_get t.files n ≡ Some f
-    → tree_entry_of t f ≡ Some e → from + 1 < to → to ≤ piece_count t f → to ≤ length e.layer
-row_listed t n f e from to sound there is several inside =
-    let long = long_file t f from to (pieces_are_positive t sound) several inside in
-    omega (arith, in_layer t n f e (to - 1) sound there is long.0 (omega (arith, several, inside)), several)
+    → tree_entry_of t f ≡ Some e → t.piece_length < f.length → from < to → to ≤ piece_count t f → to ≤ length e.layer
+row_listed t n f e from to sound there is long piece inside =
+    omega (arith, in_layer t n f e (to - 1) sound there is long (omega (arith, piece, inside)), piece)
 
 -- ---- bytes
+
+-- the bytes of a piece
+abbrev pub piece_of : ℕ → List ℕ → ℕ → List ℕ
+piece_of pl bytes k = take pl (drop (pl * k) bytes)
 
 -- a piece of the row is a piece of the file
 same_piece : (pl from j : ℕ) (bytes own rest : List ℕ) → drop (pl * from) bytes ≡ own ++ rest → pl * j ≤ length own
@@ -131,9 +122,9 @@ filled_cut pl total j own fits le =
 
 -- ---- a row of pieces
 
--- some pieces of a file in a row, more than one, and what their bytes are
+-- some pieces of a file in a row, and what their bytes are
 pub record IsRow (t : Description) (f : FileEntry) (from to : ℕ) (own : List ℕ) : Type 0 where
-  pub several : from + 1 < to
+  pub piece : from < to
   pub inside : to ≤ piece_count t f
   pub count : length own ≡ row_bytes t f from to
 
@@ -149,30 +140,29 @@ pieces_between pl n total some positive low high =
       | inr le ↦ omega (arith, le, least, positive)
     ]
 
--- the bytes of the row: a piece length at least, at most as many as the file has, and as many pieces
--- of them
-pub row_fits : (t : Description) (f : FileEntry) (from to : ℕ) → 0 < t.piece_length → from + 1 < to → to ≤ piece_count t f
-    → (t.piece_length ≤ row_bytes t f from to) × (row_bytes t f from to ≤ f.length) × (pieces_of t.piece_length (row_bytes t f from to) ≡ to - from)
+-- the bytes of the row: some, at most as many as the file has, and as many pieces of them
+pub row_fits : (t : Description) (f : FileEntry) (from to : ℕ) → 0 < t.piece_length → from < to → to ≤ piece_count t f
+    → (0 < row_bytes t f from to) × (row_bytes t f from to ≤ f.length) × (pieces_of t.piece_length (row_bytes t f from to) ≡ to - from)
     × (t.piece_length * from ≤ min (t.piece_length * to) f.length)
-row_fits t f from to some several inside =
+row_fits t f from to some piece inside =
     let pl : ℕ = t.piece_length in
-    let last : pl * (to - 1) < f.length = (long_file t f from to some several inside).1 in
-    let end : pl * to ≡ pl * (to - 1) + pl = ap (λ k. pl * k) (let a : to ≡ to - 1 + 1 = omega (arith, several) in a) ∙ omega arith in
+    let last : pl * (to - 1) < f.length = last_begins t f from to some piece inside in
+    let end : pl * to ≡ pl * (to - 1) + pl = ap (λ k. pl * k) (let a : to ≡ to - 1 + 1 = omega (arith, piece) in a) ∙ omega arith in
     let rows : pl * (to - from - 1) + pl * from ≡ pl * (to - 1) = (let a : pl * (to - from - 1) + pl * from ≡ pl * (to - from - 1 + from) = omega arith in a)
-    ∙ ap (λ k. pl * k) (let a : to - from - 1 + from ≡ to - 1 = omega (arith, several) in a) in
-    let one : pl * 1 ≤ pl * (to - from - 1) = mul-le-mul_left pl (let a : 1 ≤ to - from - 1 = omega (arith, several) in a) in (
-      omega (arith, last, end, rows, one),
+    ∙ ap (λ k. pl * k) (let a : to - from - 1 + from ≡ to - 1 = omega (arith, piece) in a) in
+    let low : pl * from ≤ pl * (to - 1) = mul-le-mul_left pl (let a : from ≤ to - 1 = omega (arith, piece) in a) in (
+      omega (arith, last, end, low, some),
       omega arith,
-      pieces_between pl (to - from) (row_bytes t f from to) some (omega (arith, several)) (omega (arith, last, end, rows)) (omega (arith, end, rows)),
+      pieces_between pl (to - from) (row_bytes t f from to) some (omega (arith, piece)) (omega (arith, last, end, rows)) (omega (arith, end, rows)),
       omega (arith, last, end, rows),
     )
 
 -- the torrent's last place of the row, in bytes
-pub row_places : (t : Description) (n : ℕ) (f : FileEntry) (from to : ℕ) → IsSound t → slice_get t.files n ≡ Some f → from + 1 < to → to ≤ piece_count t f
+pub row_places : (t : Description) (n : ℕ) (f : FileEntry) (from to : ℕ) → IsSound t → slice_get t.files n ≡ Some f → from < to → to ≤ piece_count t f
     → (f.first_piece + to ≤ 2 ^ 32) × (t.piece_length * (f.first_piece + to) ≤ 2 ^ 62) × (t.piece_length * to ≤ 2 ^ 62)
-row_places t n f from to sound there several inside =
-    let fits = piece_fits t n f (to - 1) sound there (omega (arith, several, inside)) in
-    let few : f.first_piece + to ≤ 2 ^ 32 = omega (arith, fits.0, several) in
+row_places t n f from to sound there piece inside =
+    let fits = piece_fits t n f (to - 1) sound there (omega (arith, piece, inside)) in
+    let few : f.first_piece + to ≤ 2 ^ 32 = omega (arith, fits.0, piece) in
     let most : t.piece_length * (f.first_piece + to) ≤ 2 ^ 30 * 2 ^ 32 = mul-le-mul fits.3 few in
     let own : t.piece_length * to ≤ t.piece_length * (f.first_piece + to) =
     mul-le-mul_left t.piece_length (let a : to ≤ f.first_piece + to = omega arith in a) in
@@ -187,7 +177,7 @@ pub within_row : (t : Description) (f : FileEntry) (from to j : ℕ) (own : List
     → IsWithin t.piece_length (length own) j (to - from)
 within_row t f from to j own some row lt =
     let pl : ℕ = t.piece_length in
-    let last : pl * (to - 1) < f.length = (long_file t f from to some row.several row.inside).1 in
+    let last : pl * (to - 1) < f.length = last_begins t f from to some row.piece row.inside in
     let le : pl * (from + j) ≤ pl * (to - 1) = mul-le-mul_left pl (let a : from + j ≤ to - 1 = omega (arith, lt) in a) in
     let at : pl * (from + j) ≡ pl * from + pl * j = omega arith in
     let end : pl * (from + j + 1) ≤ pl * to = mul-le-mul_left pl (let a : from + j + 1 ≤ to = omega (arith, lt) in a) in
@@ -209,7 +199,7 @@ pub row_piece : (t : Description) (f : FileEntry) (from to j : ℕ) (bytes own r
 row_piece t f from to j bytes own rest some row lt at end =
     let pl : ℕ = t.piece_length in
     let within = within_row t f from to j own some row lt in
-    let last : pl * (to - 1) < f.length = (long_file t f from to some row.several row.inside).1 in
+    let last : pl * (to - 1) < f.length = last_begins t f from to some row.piece row.inside in
     same_piece pl from j bytes own rest at (omega (arith, within.begins)) (elim within.ends [
       | inr inside ↦ inl inside
       | inl final ↦ elim (cases_lt to (piece_count t f)) [
@@ -222,64 +212,8 @@ row_piece t f from to j bytes own rest some row lt at end =
             let len : length bytes ≡ f.length = end (omega (arith, all, row.inside)) in
             let most : f.length ≤ piece_count t f * pl = pieces_cover pl f.length some in
             let same : piece_count t f * pl ≡ pl * to = ap (λ n. n * pl) (let e : piece_count t f ≡ to = omega (arith, all, row.inside) in e) ∙ omega arith in
-            let low : pl * from ≤ pl * (to - 1) = mul-le-mul_left pl (let a : from ≤ to - 1 = omega (arith, row.several) in a) in
+            let low : pl * from ≤ pl * (to - 1) = mul-le-mul_left pl (let a : from ≤ to - 1 = omega (arith, row.piece) in a) in
             let lens : length bytes - pl * from ≡ length own + length rest = sym (length-drop (pl * from) bytes) ∙ ap length at ∙ length-append own rest in
             inr (nil_from_length rest (omega (arith, lens, len, row.count, most, same, last, low)))
       ]
     ])
-
--- ---- the piece layer
-
--- the node over a piece of the row is the one over that piece of the file
-row_node : (t : Description) (f : FileEntry) (from to j : ℕ) (bytes own rest : List ℕ) → IsSound t → IsRow t f from to own → from + j < to
-    → drop (t.piece_length * from) bytes ≡ own ++ rest → (to ≡ piece_count t f → length bytes ≡ f.length)
-    → node own (piece_layer t.piece_length) j ≡ node bytes (piece_layer t.piece_length) (from + j)
-row_node t f from to j bytes own rest sound row lt at end =
-    let pl : ℕ = t.piece_length in
-    let some : 0 < pl = pieces_are_positive t sound in
-    let e : ℕ = sound.legal.0 in
-    let m : e ≡ e - 14 + 14 = (let low = sound.legal.1 in omega arith) in
-    let within = within_row t f from to j own some row lt in
-    let first = within_row t f from to 0 own some row (omega (arith, row.several)) in
-    let lens : length bytes - pl * from ≡ length own + length rest = sym (length-drop (pl * from) bytes) ∙ ap length at ∙ length-append own rest in
-    let z : pl * 0 ≡ 0 = omega arith in
-    let place : pl * (from + j) ≡ pl * from + pl * j = omega arith in
-    let long : pl ≤ length own = elim first.ends [
-      | inr inside ↦ omega (arith, inside, z)
-      | inl only ↦ absurd (omega (arith, only, row.several))
-    ] in
-    listed_node pl e (e - 14) own j m sound.legal.3 long within.begins
-    ∙ ap (λ p. node_of (piece_layer pl) (leaves_in p)) (row_piece t f from to j bytes own rest some row lt at end)
-    ∙ sym (listed_node pl e (e - 14) bytes (from + j) m sound.legal.3 (omega (arith, lens, long)) (omega (arith, lens, within.begins, place)))
-
--- comparing the row's nodes with its part of the layer finds the first bad piece
-pub row_nodes : (t : Description) (n : ℕ) (f : FileEntry) (e : TreeEntry) (from to : ℕ) (bytes own rest : List ℕ) (found : Option ℕ) → IsSound t
-    → slice_get t.files n ≡ Some f → tree_entry_of t f ≡ Some e → IsRow t f from to own
-    → length (layer_of own (piece_layer t.piece_length)) ≡ length (slice_range e.layer from to)
-    → IsComparison (layer_of own (piece_layer t.piece_length)) (slice_range e.layer from to) found
-    → drop (t.piece_length * from) bytes ≡ own ++ rest → (to ≡ piece_count t f → length bytes ≡ f.length)
-    → IsFirstBad from to (IsPieceGood t f bytes) (option_map (λ j. from + j) found)
-row_nodes t n f e from to bytes own rest found sound there is row size compared at end =
-    let pl : ℕ = t.piece_length in
-    let some : 0 < pl = pieces_are_positive t sound in
-    let long : pl < f.length = (long_file t f from to some row.several row.inside).0 in
-    let len : e.length ≡ f.length = (has_tree t n f e sound there is).0 in
-    let count : to ≤ length e.layer = row_listed t n f e from to sound there is row.several row.inside in
-    let ys_len : length (slice_range e.layer from to) ≡ to - from = range_length e.layer from to count in
-    let xs : List (List ℕ) = layer_of own (piece_layer pl) in
-    let node_at : (j : ℕ) → j < to - from → get_or xs j [] ≡ node bytes (piece_layer pl) (from + j) =
-    λ j lt. layer_of_at own (piece_layer pl) j (omega (arith, lt, size, ys_len))
-    ∙ row_node t f from to j bytes own rest sound row (omega (arith, lt)) at end in
-    let listed_at : (j : ℕ) → j < to - from → slice_get e.layer (from + j) ≡ Some (get_or (slice_range e.layer from to) j []) =
-    λ j lt. slice_get-get_or e.layer (from + j) [] (omega (arith, lt, count)) ∙ ap Some (sym (in_range e.layer from to j (omega (arith, lt)))) in
-    first_of_rows xs (slice_range e.layer from to) found from to (to - from) (IsPieceGood t f bytes) (omega (arith, row.several)) (size ∙ ys_len) ys_len
-    compared
-    (λ j lt same. record {
-      tree = e;
-      tree_is = is;
-      only = λ short. absurd (omega (arith, short, len, long));
-      listed = λ _. listed_at j lt ∙ ap Some (sym same ∙ node_at j lt);
-    })
-    (λ j lt good.
-    let listed = good_node t f e bytes (from + j) is good (omega (arith, len, long)) in
-    node_at j lt ∙ same_Some _ _ (sym listed ∙ listed_at j lt))

@@ -1,159 +1,191 @@
 -- What reading a row of pieces found.
-use Rattle.std.proofs.Common.{◌≡◌, ℕ, ◌+◌, ◌-◌, ◌<◌, ◌≤◌, Bool, true, false, is_some, List, [], ◌++◌, length, replicate}
-use Rattle.std.proofs.Common.{slice_get, Option, Some, None, IfSome, refl, ap, sym, ◌∙◌, subst, arith}
-use Rattle.std.specs.Prelude.{slice_range}
+use Rattle.std.proofs.Common.{◌≡◌, ℕ, ◌+◌, ◌-◌, ◌*◌, ◌<◌, ◌≤◌, inl, inr, is_some, List, [], ◌∷◌, ◌++◌, length, refl, ap₂}
+use Rattle.std.proofs.Common.{slice_get, Option, Some, None, IfSome, IsTrue, false, true, replicate, ap, sym, subst, ◌∙◌, arith}
 use Rattle.std.specs.Option.{option_map}
+use Rattle.std.specs.Prelude.{◌↔◌}
+use Rattle.std.proofs.lemmas.Option.{same_Some}
+use Rattle.std.proofs.Math.Nat.{mul-le-mul_left}
+use Rattle.std.proofs.lemmas.Bool.{cases_lt}
+use Rattle.std.proofs.lemmas.List.{length-replicate}
 use Rattle.chains.proofs.Cases.{some_of}
+use Rattle.hashtree.specs.Judging.{IsJudgedRow}
+use Rattle.hashtree.specs.Bits.{AreClear}
+use Rattle.hashtree.specs.PieceCheck.{BeginsRow, chosen_layer, chosen_shape, given_hashes}
+use Rattle.hashtree.specs.Tree.{block_count, first_pad, root_of}
 use Rattle.benc.specs.Device.{SourceSeen}
-use Rattle.hashtree.specs.Difference.{IsComparison}
-use Rattle.hashtree.specs.PieceCheck.{FeedsCheck, IsFirstBadNode, given_hashes}
-use Rattle.hashtree.specs.Tree.{layer_of}
-use Rattle.hashtree.specs.declared.PieceCheck.{PieceCheck}
 use Rattle.opening.specs.Description.{Description, FileEntry, TreeEntry, Version1}
-use Rattle.opening.specs.Sound.{IsSound, piece_layer}
-use Rattle.pieces.specs.Cuts.{cut_digests}
+use Rattle.opening.specs.Sound.{IsSound}
+use Rattle.pieces.specs.Cuts.{IsComparison, cut_digests}
 use Rattle.pieces.specs.declared.v1_feed.V1Feed.{V1Feed}
-use Rattle.folders.specs.Compared.{IsDigestVerdict}
-use Rattle.folders.specs.Feeding.{FeedsBoth}
+use Rattle.folders.specs.CutFeeds.{AreCutsJudged, CutsStandAt, HasCutRoom}
 use Rattle.folders.specs.Folder.{tree_entry_of}
-use Rattle.folders.specs.declared.file_check.FileCheck.{FileCheck}
+use Rattle.folders.specs.RowFeeds.{IsFresh, JudgesRow}
+use Rattle.folders.specs.declared.row_feed.RowFeed.{RowFeed}
+use Rattle.folders.specs.declared.row_feed.RowFound.{RowFound}
+use Rattle.folders.proofs.Layers.{one_at_root, whole_layer}
 use Rattle.folders.proofs.Places.{pieces_are_positive}
-use Rattle.folders.specs.Streaming.{HasStreamRoom, IsStreamVerdict, StandsAt, Takes}
-use Rattle.folders.specs.Verdicts.{is_checked}
-use Rattle.folders.specs.declared.report.V1Verdict.{V1Verdict}
-use Rattle.folders.specs.declared.report.V1Verdict.TheVariants as version1
-use Rattle.parts.specs.Exactly.{EndsBefore, TakesExactly, TookExactly}
 use Rattle.parts.specs.FilePieces.{AreJudgedFrom, IsBelow}
 use Rattle.parts.specs.Parts.{piece_count}
-use Rattle.parts.specs.RowChecks.{BeginsRow, IsRowStream, bad_cut_of, row_bytes, stream_part}
+use Rattle.parts.specs.RowChecks.{EndsInRow, IsRowCuts, IsRowHashes, IsRowLayer, IsRowOf, ReadsRow, row_bytes, stream_part}
+use Rattle.parts.specs.declared.row.Found.{Found}
 use Rattle.parts.specs.declared.span.Span.{Span}
-use Rattle.parts.proofs.RowCuts.{as_comparison, judged_row, part_fits, row_lengths}
-use Rattle.parts.proofs.RowPieces.{IsRow, long_file, range_length, row_listed, within_rows}
-use Rattle.parts.proofs.Files.{tree_of_file}
+use Rattle.parts.proofs.RowCuts.{AreCompared, part_fits, row_cuts, row_lengths}
+use Rattle.parts.proofs.RowPieces.{IsRow, last_begins, range_length, row_fits, row_listed, within_rows}
+use Rattle.parts.proofs.CutRows.{row_bits_cut}
+use Rattle.parts.proofs.RowJudged.{other_within, row_bits, row_first}
+use Rattle.parts.proofs.RowTells.{is_only}
 
--- all bytes were there
-pub took_exactly : {T : Type 0} (took : T → List ℕ → T → Type 0) (old new : SourceSeen) (size : ℕ) (before after : T) (b : Bool) → b ≡ true
-    → TakesExactly took old new size before after b → TookExactly took old new size before after
-took_exactly took old new size before after b is read = subst (TakesExactly took old new size before after) is read
-
--- they were not
-pub ended_before : {T : Type 0} (took : T → List ℕ → T → Type 0) (old new : SourceSeen) (size : ℕ) (before after : T) (b : Bool) → b ≡ false
-    → TakesExactly took old new size before after b → EndsBefore old new size
-ended_before took old new size before after b none read = subst (TakesExactly took old new size before after) none read
-
--- the stream has room for the row
-pub row_room : (t : Description) (n : ℕ) (f : FileEntry) (s : Span) (feed : Option V1Feed) → IsSound t → slice_get t.files n ≡ Some f → s.from + 1 < s.to
-    → s.to ≤ piece_count t f → is_some feed ≡ is_some t.v1 → StandsAt feed 0 → ((v : Version1) → t.v1 ≡ Some v → IsRowStream t f s v feed)
-    → HasStreamRoom feed (row_bytes t f s.from s.to)
-row_room t n f s None sound there several inside begins stands part = tt
-row_room t n f s (Some g) sound there several inside begins stands part =
+-- the cuts have room for the row
+pub row_room : (t : Description) (n : ℕ) (f : FileEntry) (s : Span) (feed : Option V1Feed) → IsSound t → slice_get t.files n ≡ Some f → s.from < s.to
+    → s.to ≤ piece_count t f → is_some feed ≡ is_some t.v1 → CutsStandAt feed 0 → ((v : Version1) → t.v1 ≡ Some v → IsRowCuts t f s v feed)
+    → HasCutRoom feed (row_bytes t f s.from s.to)
+row_room t n f s None sound there piece inside begins stands part = tt
+row_room t n f s (Some g) sound there piece inside begins stands part =
     let v = some_of t.v1 (sym begins) in
-    omega (arith, stands, (part v.0 v.1).ends, (part_fits t v.0 n f s.from s.to sound there v.1 several inside).1)
+    omega (arith, stands, (part v.0 v.1).ends, (part_fits t v.0 n f s.from s.to sound there v.1 piece inside).1)
 
--- what the check of the nodes found
-pub row_found : (t : Description) (f : FileEntry) (s : Span) (e : TreeEntry) (before after : PieceCheck) (own : List ℕ) (other : Option ℕ)
-    → tree_entry_of t f ≡ Some e → BeginsRow t f s before → FeedsCheck before own after → IsFirstBadNode after own other
-    → (length (layer_of own (piece_layer t.piece_length)) ≡ length (slice_range e.layer s.from s.to))
-    × IsComparison (layer_of own (piece_layer t.piece_length)) (slice_range e.layer s.from s.to) other
-row_found t f s e before after own other is begins fed bad =
-    let layer : after.layer ≡ piece_layer t.piece_length = fed.layer ∙ begins.layer in
-    let hashes : given_hashes after ≡ slice_range e.layer s.from s.to = fed.hashes ∙ begins.hashes e is in (
-      ap (λ l. length (layer_of own l)) (sym layer) ∙ bad.size_is ∙ ap length hashes,
-      subst (λ h. IsComparison (layer_of own (piece_layer t.piece_length)) h other) hashes
-          (subst (λ l. IsComparison (layer_of own l) (given_hashes after) other) layer bad.compared),
-    )
-
--- what the check of the stream's part found
-pub row_verdict : (t : Description) (f : FileEntry) (s : Span) (v : Version1) (before after : Option V1Feed) (own : List ℕ) (verdict : V1Verdict)
-    → t.v1 ≡ Some v → is_some before ≡ is_some t.v1 → StandsAt before 0 → IsRowStream t f s v before → Takes before own after
-    → is_checked verdict ≡ is_some after → IsStreamVerdict after verdict
-    → (is_checked verdict ≡ true)
-    × IsDigestVerdict (cut_digests t.piece_length (own
-    ++ replicate ((stream_part t.piece_length v (f.first_piece + s.from) (f.first_piece + s.to)).total - length own) 0))
-    (slice_range v.pieces (f.first_piece + s.from) (f.first_piece + s.to)) verdict
-row_verdict t f s v None after own verdict hybrid begins stands part takes checked found = absurd (differ (begins ∙ ap is_some hybrid))
+-- what was found of the cuts, if the torrent is a hybrid
+pub cuts_compared : (t : Description) (f : FileEntry) (s : Span) (v : Version1) (feed : Option V1Feed) (own : List ℕ) (found : Option ℕ)
+    → t.v1 ≡ Some v → is_some feed ≡ is_some t.v1 → IsRowCuts t f s v feed → AreCutsJudged feed own found → AreCompared t v f s.from s.to own found
+cuts_compared t f s v None own found hybrid begins part judged = absurd (differ (begins ∙ ap is_some hybrid))
   where
     differ : false ≡ true → ⊥
     differ e = cc
-row_verdict t f s v (Some g) None own verdict hybrid begins stands part takes checked found = absurd takes
-row_verdict t f s v (Some g) (Some h) own verdict hybrid begins stands part takes checked found =
-    let p = stream_part t.piece_length v (f.first_piece + s.from) (f.first_piece + s.to) in (
-      checked,
-      found (length own) p.total p.pieces t.piece_length own (omega (arith, takes.given_is, stands)) (takes.same_total ∙ part.ends)
-          (takes.content p.pieces t.piece_length [] part.given),
-    )
-
--- a stream that was not begun compares nothing
-pub not_compared : (t : Description) (before after : Option V1Feed) (own : List ℕ) (verdict : V1Verdict) → t.v1 ≡ None → is_some before ≡ is_some t.v1
-    → Takes before own after → is_checked verdict ≡ is_some after → is_checked verdict ≡ false
-not_compared t None None own verdict none begins takes checked = checked
-not_compared t None (Some h) own verdict none begins takes checked = absurd takes
-not_compared t (Some g) after own verdict none begins takes checked = absurd (differ (begins ∙ ap is_some none))
-  where
-    differ : true ≡ false → ⊥
-    differ e = cc
+cuts_compared t f s v (Some g) own found hybrid begins part judged =
+    subst (λ total. IsComparison (cut_digests t.piece_length (own ++ replicate (total - length own) 0))
+    (stream_part t.piece_length v (f.first_piece + s.from) (f.first_piece + s.to)).pieces found) part.ends
+    (judged (stream_part t.piece_length v (f.first_piece + s.from) (f.first_piece + s.to)).pieces t.piece_length part.given)
 
 -- the first bad version 1 piece is one of the row
-pub cuts_within : (t : Description) (n : ℕ) (f : FileEntry) (from to : ℕ) (own : List ℕ) (verdict : V1Verdict) → IsSound t → slice_get t.files n ≡ Some f
-    → IsRow t f from to own
-    → ((v : Version1) → t.v1 ≡ Some v → (is_checked verdict ≡ true)
-    × IsDigestVerdict (cut_digests t.piece_length (own
-    ++ replicate ((stream_part t.piece_length v (f.first_piece + from) (f.first_piece + to)).total - length own) 0))
-    (slice_range v.pieces (f.first_piece + from) (f.first_piece + to)) verdict)
-    → (t.v1 ≡ None → is_checked verdict ≡ false) → IfSome (bad_cut_of verdict) (λ p. p < to - from)
-cuts_within t n f from to own verdict sound there row cuts none = by_stream t.v1 refl
-  where
-    unchecked : (w : V1Verdict) → is_checked w ≡ false → IfSome (bad_cut_of w) (λ p. p < to - from)
-    unchecked version1.Good is = tt
-    unchecked version1.NotChecked is = tt
-    unchecked (version1.Bad p) is = let no : ⊥ = cc in absurd no
-
-    by_stream : (o : Option Version1) → t.v1 ≡ o → IfSome (bad_cut_of verdict) (λ p. p < to - from)
-    by_stream None is = unchecked verdict (none is)
-    by_stream (Some v) is =
-        let c = cuts v is in
-        let lens = row_lengths t v n f from to own sound there is row in
-        within_rows _ _ (bad_cut_of verdict) (to - from) lens.0 lens.1 (as_comparison _ _ verdict c.0 c.1)
-
--- ---- the whole
-
--- the tree of a row's file
-row_tree : (t : Description) (n : ℕ) (f : FileEntry) (s : Span) → IsSound t → slice_get t.files n ≡ Some f → s.from + 1 < s.to → s.to ≤ piece_count t f
-    → (e : TreeEntry) × (tree_entry_of t f ≡ Some e)
-row_tree t n f s sound there several inside =
-    let long = long_file t f s.from s.to (pieces_are_positive t sound) several inside in
-    tree_of_file t n f sound there (omega (arith, long.0))
-
--- the first bad piece is one of the row
-pub bad_within : (t : Description) (n : ℕ) (f : FileEntry) (s : Span) (before after : PieceCheck) (own : List ℕ) (other : Option ℕ) → IsSound t
-    → slice_get t.files n ≡ Some f → s.from + 1 < s.to → s.to ≤ piece_count t f → BeginsRow t f s before → FeedsCheck before own after
-    → IsFirstBadNode after own other → IfSome other (λ p. p < s.to - s.from)
-bad_within t n f s before after own other sound there several inside begins fed bad =
-    let tree = row_tree t n f s sound there several inside in
-    let found = row_found t f s tree.0 before after own other tree.1 begins fed bad in
-    let len = range_length tree.0.layer s.from s.to (row_listed t n f tree.0 s.from s.to sound there tree.1 several inside) in
-    within_rows _ _ other (s.to - s.from) (found.0 ∙ len) len found.1
+pub cuts_within : (t : Description) (n : ℕ) (f : FileEntry) (s : Span) (feed : Option V1Feed) (own : List ℕ) (found : Option ℕ) → IsSound t
+    → slice_get t.files n ≡ Some f → IsRow t f s.from s.to own → is_some feed ≡ is_some t.v1
+    → ((v : Version1) → t.v1 ≡ Some v → IsRowCuts t f s v feed) → AreCutsJudged feed own found → IfSome found (λ p. p < s.to - s.from)
+cuts_within t n f s None own found sound there row begins part judged = subst (λ o. IfSome o (λ p. p < s.to - s.from)) (sym judged) tt
+cuts_within t n f s (Some g) own found sound there row begins part judged =
+    let v = some_of t.v1 (sym begins) in
+    let lens = row_lengths t v.0 n f s.from s.to own sound there v.1 row in
+    within_rows _ _ found (s.to - s.from) lens.0 lens.1 (cuts_compared t f s v.0 (Some g) own found v.1 begins (part v.0 v.1) judged)
 
 -- the pieces of a row are judged
-pub row_judged : (t : Description) (n : ℕ) (f : FileEntry) (s : Span) (before after : FileCheck) (own : List ℕ) (bad : Option ℕ) (verdict : V1Verdict)
-    → IsSound t → slice_get t.files n ≡ Some f → s.from + 1 < s.to → s.to ≤ piece_count t f → length own ≡ row_bytes t f s.from s.to
-    → BeginsRow t f s before.pieces → is_some before.stream.feed ≡ is_some t.v1 → StandsAt before.stream.feed 0
-    → ((v : Version1) → t.v1 ≡ Some v → IsRowStream t f s v before.stream.feed) → FeedsBoth before own after → IsFirstBadNode after.pieces own bad
-    → is_checked verdict ≡ is_some after.stream.feed → IsStreamVerdict after.stream.feed verdict
-    → AreJudgedFrom t f s.from s.to own (option_map (λ j. s.from + j) bad) (option_map (λ j. s.from + j) (bad_cut_of verdict))
-    × IfSome (bad_cut_of verdict) (λ p. p < s.to - s.from)
-row_judged t n f s before after own bad verdict sound there several inside count begins goes stands part fed found checked compared =
-    let tree = row_tree t n f s sound there several inside in
-    let row : IsRow t f s.from s.to own = record { several = several; inside = inside; count = count } in
-    let nodes = row_found t f s tree.0 before.pieces after.pieces own bad tree.1 begins fed.tree found in
-    let cuts : (v : Version1) → t.v1 ≡ Some v → (is_checked verdict ≡ true) × IsDigestVerdict (cut_digests t.piece_length (own
-    ++ replicate ((stream_part t.piece_length v (f.first_piece + s.from) (f.first_piece + s.to)).total - length own) 0))
-    (slice_range v.pieces (f.first_piece + s.from) (f.first_piece + s.to)) verdict =
-    λ v hybrid. row_verdict t f s v before.stream.feed after.stream.feed own verdict hybrid goes stands (part v hybrid) fed.streamed checked compared in (
-      judged_row t n f tree.0 s.from s.to own bad verdict sound there tree.1 row nodes.0 nodes.1 cuts,
-      cuts_within t n f s.from s.to own verdict sound there row cuts
-          (λ none. not_compared t before.stream.feed after.stream.feed own verdict none goes fed.streamed checked),
-    )
+pub row_judged : (t : Description) (n : ℕ) (f : FileEntry) (s : Span) (e : TreeEntry) (layer : ℕ) (hashes : List (List ℕ)) (feed : Option V1Feed)
+    (own good : List ℕ) (other found : Option ℕ) → IsSound t → slice_get t.files n ≡ Some f → tree_entry_of t f ≡ Some e → IsRow t f s.from s.to own
+    → IsRowOf t f e s.from s.to layer hashes → IsJudgedRow layer hashes own good other → is_some feed ≡ is_some t.v1
+    → ((v : Version1) → t.v1 ≡ Some v → IsRowCuts t f s v feed) → AreCutsJudged feed own found
+    → AreJudgedFrom t f s.from s.to own (option_map (λ j. s.from + j) other) (option_map (λ j. s.from + j) found)
+row_judged t n f s e layer hashes feed own good other found sound there is row of judged begins part cuts =
+    let pl : ℕ = t.piece_length in
+    let last = last_begins t f s.from s.to (pieces_are_positive t sound) row.piece row.inside in
+    let low : pl * s.from ≤ pl * (s.to - 1) = mul-le-mul_left pl (let a : s.from ≤ s.to - 1 = omega (arith, row.piece) in a) in
+    let high : pl * (s.to - 1) ≤ pl * s.to = mul-le-mul_left pl (let a : s.to - 1 ≤ s.to = omega arith in a) in
+    record {
+      count = omega (arith, row.count, last, low, high);
+      judged = λ bytes rest at end. (
+        row_first t n f e s.from s.to layer hashes bytes own rest good other sound there is row of judged at end,
+        λ v hybrid. row_cuts t v n f s.from s.to bytes own rest found sound there hybrid row
+            (cuts_compared t f s v feed own found hybrid begins (part v hybrid) cuts) at end,
+      );
+    }
+
+-- ---- the row of a file
+
+-- a row that was given nothing, of these pieces
+pub record BeginsRowOf (t : Description) (f : FileEntry) (s : Span) (e : TreeEntry) (feed : RowFeed) : Type 0 where
+  pub shape : chosen_shape feed.check ≡ row_bytes t f s.from s.to
+  pub row : IsRowOf t f e s.from s.to (chosen_layer feed.check) (given_hashes feed.check)
+  pub begins : is_some feed.cuts.feed ≡ is_some t.v1
+  pub part : (v : Version1) → t.v1 ≡ Some v → IsRowCuts t f s v feed.cuts.feed
+
+pub begins_row : (t : Description) (f : FileEntry) (s : Span) (e : TreeEntry) (feed : RowFeed) (shape layer : ℕ) (hashes : List (List ℕ))
+    → shape ≡ row_bytes t f s.from s.to → BeginsRow shape layer hashes feed.check → IsRowLayer t f layer → IsRowHashes t f e s.from s.to hashes
+    → is_some feed.cuts.feed ≡ is_some t.v1 → ((v : Version1) → t.v1 ≡ Some v → IsRowCuts t f s v feed.cuts.feed) → BeginsRowOf t f s e feed
+begins_row t f s e feed shape layer hashes size begun at of begins part = record {
+  shape = begun.shape_is ∙ size;
+  row = record {
+    at_root = λ short. (begun.layer_is ∙ at.0 short, begun.hashes_are ∙ of.0 short);
+    at_pieces = λ long. (begun.layer_is ∙ at.1 long, begun.hashes_are ∙ of.1 long);
+  };
+  begins = begins;
+  part = part;
+}
+
+pub fresh_row : (feed : RowFeed) (shape layer : ℕ) (hashes : List (List ℕ)) → BeginsRow shape layer hashes feed.check → AreClear feed.bits.items
+    → HasCutRoom feed.cuts.feed shape → IsFresh feed
+fresh_row feed shape layer hashes begun clear room = record {
+  count = begun.count;
+  room = subst (HasCutRoom feed.cuts.feed) (sym begun.shape_is) room;
+  clear = clear;
+  fed = begun.fed;
+}
+
+-- there is a hash for each piece
+pub hashes_whole : (t : Description) (n : ℕ) (f : FileEntry) (e : TreeEntry) (from to layer shape : ℕ) (hashes : List (List ℕ)) → IsSound t
+    → slice_get t.files n ≡ Some f → tree_entry_of t f ≡ Some e → from < to → to ≤ piece_count t f → IsRowLayer t f layer
+    → IsRowHashes t f e from to hashes → shape ≡ row_bytes t f from to → length hashes ≡ first_pad (block_count shape) layer
+hashes_whole t n f e from to layer shape hashes sound there is piece inside at of size = elim (cases_lt t.piece_length f.length) [
+  | inl long ↦
+      let fits = row_fits t f from to (pieces_are_positive t sound) piece inside in
+      let legal = sound.legal in
+      ap length (of.1 long) ∙ range_length e.layer from to (row_listed t n f e from to sound there is long piece inside)
+      ∙ whole_layer (row_bytes t f from to) t.piece_length legal.0 layer (to - from) legal.1 legal.3 (at.1 long) (sym fits.2)
+      ∙ ap (λ k. first_pad (block_count k) layer) (sym size)
+  | inr short ↦
+      let own : List ℕ = replicate (row_bytes t f from to) 0 in
+      let row : IsRow t f from to own = record { piece = piece; inside = inside; count = length-replicate {A = ℕ} (row_bytes t f from to) 0 } in
+      let only = is_only t f from to own (pieces_are_positive t sound) short row in
+      let all : shape ≡ f.length = size ∙ sym row.count ∙ only.count in
+      let one : length (e.root ∷ []) ≡ 1 = refl in
+      ap length (of.0 short) ∙ one ∙ sym (one_at_root f.length only.some) ∙ ap₂ (λ k l. first_pad (block_count k) l) (sym all) (sym (at.0 short))
+]
+
+module _ (t : Description) (n : ℕ) (f : FileEntry) (s : Span) (e : TreeEntry) (sound : IsSound t) (there : slice_get t.files n ≡ Some f)
+    (is : tree_entry_of t f ≡ Some e) (piece : s.from < s.to) (inside : s.to ≤ piece_count t f) (feed : RowFeed) (begun : BeginsRowOf t f s e feed)
+    (old new : SourceSeen) (bits : List ℕ) where
+  is_row : (own : List ℕ) → length own ≡ chosen_shape feed.check → IsRow t f s.from s.to own
+  is_row own count = record { piece = piece; inside = inside; count = count ∙ begun.shape }
+
+  -- what was found is within the row
+  pub found_within : (found : RowFound) → JudgesRow feed old new bits (Some found)
+      → IfSome found.other (λ p. p < s.to - s.from) × IfSome found.bad_cut (λ p. p < s.to - s.from)
+  found_within found (own, count, gave, root, judged, cuts) = (
+    other_within t n f e s.from s.to (chosen_layer feed.check) (given_hashes feed.check) own bits found.other sound there is (is_row own count) begun.row
+        judged,
+    cuts_within t n f s feed.cuts.feed own found.bad_cut sound there (is_row own count) begun.begins begun.part cuts,
+  )
+
+  -- the row was read whole
+  pub reads_row : (found : RowFound) (own_found : Found) → JudgesRow feed old new bits (Some found)
+      → (IsTrue own_found.root_is ↔ (found.root ≡ e.root)) → own_found.bad ≡ option_map (λ j. s.from + j) found.other
+      → own_found.bad_cut ≡ option_map (λ j. s.from + j) found.bad_cut → ReadsRow t f s.from s.to old new bits own_found
+  reads_row found own_found (own, count, gave, root, judged, cuts) root_is bad bad_cut =
+      let row = is_row own count in
+      let layer : ℕ = chosen_layer feed.check in
+      let hashes : List (List ℕ) = given_hashes feed.check in
+      record {
+        own = own;
+        gave = gave;
+        judged = subst (λ o. AreJudgedFrom t f s.from s.to own o own_found.bad_cut) (sym bad)
+            (subst (AreJudgedFrom t f s.from s.to own (option_map (λ j. s.from + j) found.other)) (sym bad_cut)
+            (row_judged t n f s e layer hashes feed.cuts.feed own bits found.other found.bad_cut sound there is row begun.row judged begun.begins begun.part
+            cuts));
+        bits_of = λ bytes rest at. row_bits t n f e s.from s.to layer hashes bytes own rest bits found.other sound there is row begun.row judged at;
+        root = λ some d at.
+            let same : e ≡ d = same_Some e d (sym is ∙ at) in
+            subst (λ (x : TreeEntry). IsTrue own_found.root_is ↔ (root_of own ≡ x.root)) same (
+              λ on. sym root ∙ root_is.0 on,
+              λ at_root. root_is.1 (root ∙ at_root),
+            );
+      }
+
+  -- or the source ended within it
+  pub ends_row : JudgesRow feed old new bits None → EndsInRow t f s.from s.to old new bits
+  ends_row (own, short, gave, ended, marked) = record {
+    own = own;
+    short = omega (arith, short, begun.shape);
+    gave = gave;
+    ended = ended;
+    bits_of = λ bytes at. row_bits_cut t n f e s.from s.to (chosen_layer feed.check) (given_hashes feed.check) bytes own bits sound there is inside begun.row
+        (omega (arith, short, begun.shape)) at marked;
+  }
 
 -- ---- the numbers of pieces
 

@@ -1,23 +1,19 @@
 -- The report that the parts make together.
-use Rattle.std.proofs.Common.{◌≡◌, ◌⊎◌, inl, inr, ℕ, ◌-◌, ◌*◌, ◌<◌, ◌≤◌, true, false, is_some, List, length}
-use Rattle.std.proofs.Common.{slice_get, sum_by, Option, Some, refl, ap, sym, ◌∙◌, subst, arith}
+use Rattle.std.proofs.Common.{◌≡◌, ◌⊎◌, inl, inr, ℕ, ◌-◌, ◌<◌, true, false, is_some, List, length}
+use Rattle.std.proofs.Common.{slice_get, Option, Some, refl, ap, sym, ◌∙◌, subst, arith}
 use Rattle.std.specs.List.{list_all}
 use Rattle.std.specs.Option.{unwrap_or}
 use Rattle.std.proofs.lemmas.Bool.{cases_lt, and_parts, false_from_ne_true}
 use Rattle.std.proofs.lemmas.Option.{same_Some, slice_get_within}
 use Rattle.chains.proofs.Cases.{some_of, item_at}
-use Rattle.pieces.specs.Cuts.{cut_digests}
 use Rattle.opening.specs.Description.{Description, FileEntry, Version1}
-use Rattle.pieces.specs.Pieces.{pieces_of}
 use Rattle.opening.specs.Sound.{IsSound}
-use Rattle.pieces.proofs.Cutting.{length-cut_digests}
-use Rattle.folders.specs.Folder.{Contents, GoodFolder, IsStream}
+use Rattle.folders.specs.Folder.{Contents, GoodFolder}
 use Rattle.folders.specs.Verdicts.{IsV1Verdict, IsVerdict, is_checked, is_good, is_whole, is_yes, stream_is_good}
 use Rattle.folders.specs.declared.report.FileVerdict.{FileVerdict}
 use Rattle.folders.specs.declared.report.FileVerdict.TheVariants as file
 use Rattle.folders.specs.declared.report.V1Verdict.{V1Verdict}
 use Rattle.folders.specs.declared.report.V1Verdict.TheVariants as version1
-use Rattle.folders.proofs.Places.{pieces_are_positive}
 use Rattle.folders.proofs.Reports.{yes_is_sure, all_at, all_from}
 use Rattle.parts.specs.Collisions.{FileCollides}
 use Rattle.parts.specs.Joins.{IsJoin, NoWorse, NoWorseV1, says_of, says_of_v1}
@@ -25,9 +21,9 @@ use Rattle.parts.specs.Laws.{IsReportOf}
 use Rattle.parts.specs.Parts.{AreAllPlaces, Holds, IsPartV1, IsPieceAt, IsVersion1Good, PartReport, IsTruePart}
 use Rattle.parts.specs.Parts.{place_count}
 use Rattle.parts.proofs.Joined.{ContentCollides, good_joined, joined}
-use Rattle.parts.proofs.Streams.{AreWhole, digest_is, has_piece, place_of_piece, stream_there}
-use Rattle.parts.proofs.Worst.{below_or, one_not, whole_up, checked_up, good_v1, bad_v1, whole_length, by_places}
-use Rattle.parts.proofs.Worst.{few_pieces}
+use Rattle.parts.proofs.StreamVerdict.{IsBefore, place_inside, said_of_stream}
+use Rattle.parts.proofs.Streams.{AreWhole, place_of_piece}
+use Rattle.parts.proofs.Worst.{below_or, one_not, whole_up, checked_up, good_v1, bad_v1, whole_length}
 
 module _ (t : Description) (contents : Contents) (parts : List PartReport) (files : List FileVerdict) (v1 : Option V1Verdict) (sound : IsSound t)
     (all : AreAllPlaces t parts) (are_true : (i : ℕ) (p : PartReport) → slice_get parts i ≡ Some p → IsTruePart t contents p)
@@ -129,7 +125,7 @@ module _ (t : Description) (contents : Contents) (parts : List PartReport) (file
 
     -- a piece that all parts call good, or that comes before the first that one of them calls bad
     piece_listed : (said : V1Verdict) → v1 ≡ Some said → AreWhole t contents → (p : ℕ) → p < place_count t - 1
-        → ((said ≡ version1.Good) ⊎ ((q : ℕ) × (said ≡ version1.Bad q) × (p < q)))
+        → IsBefore said p
         → (n k : ℕ) (f : FileEntry) (bytes : List ℕ) → IsPieceAt t contents p n k f bytes → IsVersion1Good t v f bytes k
     piece_listed said is whole p lt which n k f bytes at =
         let held = all p (omega (arith, lt)) in
@@ -148,61 +144,20 @@ module _ (t : Description) (contents : Contents) (parts : List PartReport) (file
         by_said u part held stated (inl good) = (subst (IsPartV1 t v part.places contents) good stated) p n k f bytes at held
         by_said u part held stated (inr bad) = (subst (IsPartV1 t v part.places contents) bad.1 stated).3 p n k f bytes at held bad.2
 
-    -- the pieces are where the stream has its cuts
-    piece_at : AreWhole t contents → (p : ℕ) → p < place_count t - 1 → (n : ℕ) × (k : ℕ) × (f : FileEntry) × (bytes : List ℕ)
-        × IsPieceAt t contents p n k f bytes
-    piece_at whole p lt =
-        let h = has_piece t p sound lt in
-        let found = whole h.number h.file h.there in
-        (h.number, h.piece, h.file, found.0, record { there = h.there; content = found.1; inside = h.inside; piece_is = h.piece_is })
-
-    same_digest : (said : V1Verdict) → v1 ≡ Some said → AreWhole t contents → (stream : List ℕ) → IsStream t contents v.total stream → (p : ℕ)
-        → p < place_count t - 1
-        → ((said ≡ version1.Good) ⊎ ((q : ℕ) × (said ≡ version1.Bad q) × (p < q))) → slice_get (cut_digests t.piece_length stream) p ≡ slice_get v.pieces p
-    same_digest said is whole stream of p lt which =
-        let at = piece_at whole p lt in
-        digest_is t contents v stream p at.0 at.1 at.2 at.3 sound hybrid whole of at.4
-        ∙ sym (piece_listed said is whole p lt which at.0 at.1 at.2 at.3 at.4)
-        ∙ ap (slice_get v.pieces) (sym at.4.piece_is)
-
-    count_is : (stream : List ℕ) → IsStream t contents v.total stream → length (cut_digests t.piece_length stream) ≡ pieces_of t.piece_length v.total
-    count_is stream of = length-cut_digests t.piece_length stream ∙ ap (pieces_of t.piece_length) of.length_is
-
-    few : pieces_of t.piece_length v.total ≤ place_count t - 1
-    few =
-        let all_pieces : ℕ = sum_by (λ (g : FileEntry). pieces_of t.piece_length g.length) t.files in
-        let count : all_pieces ≡ place_count t - 1 = omega arith in
-        few_pieces t.piece_length v.total (place_count t - 1) (pieces_are_positive t sound)
-        (subst (λ k. v.total ≤ k * t.piece_length) count (sound.in_pieces v hybrid))
-
     stream_verdict : (said : V1Verdict) → v1 ≡ Some said → IsV1Verdict t v contents said
-    stream_verdict version1.NotChecked is = tt
-    stream_verdict version1.Good is =
-        let whole = are_whole (whole_files version1.Good is refl) in
-        let s = stream_there t contents v sound hybrid whole in (
-          s.0,
-          s.1,
-          by_places (cut_digests t.piece_length s.0) v.pieces (count_is s.0 s.1 ∙ sym (sound.cuts v hybrid))
-              (λ p lt. same_digest version1.Good is whole s.0 s.1 p (omega (arith, lt, few, count_is s.0 s.1)) (inl refl)),
-        )
-    stream_verdict (version1.Bad q) is =
-        let whole = are_whole (whole_files (version1.Bad q) is refl) in
-        let s = stream_there t contents v sound hybrid whole in (
-          s.0,
-          s.1,
-          elim ((join.version1 (version1.Bad q) is).one) [
-            | inl best ↦ let no : ⊥ = cc in absurd no
-            | inr one ↦
-                let stated = subst (IsPartV1 t v one.1.places contents) one.3
-                ((are_true one.0 one.1 one.2).version1 v (says_of_v1 one.1) hybrid (says_v1 one.0 one.1 one.2 (ap is_some hybrid))) in
-                let at = piece_at whole q stated.1 in
-                record {
-                  same_before = λ p lt. same_digest (version1.Bad q) is whole s.0 s.1 p (omega (arith, lt, stated.1)) (inr (q, refl, lt));
-                  differs = λ same. stated.2 at.0 at.1 at.2 at.3 at.4
-                      (ap (slice_get v.pieces) (sym at.4.piece_is) ∙ sym same ∙ digest_is t contents v s.0 q at.0 at.1 at.2 at.3 sound hybrid whole s.1 at.4);
-                }
-          ],
-        )
+    stream_verdict said is = said_of_stream t contents v sound hybrid said
+        (λ checked. are_whole (whole_files said is checked))
+        (λ whole p n k f bytes at before. piece_listed said is whole p (place_inside t contents p n k f bytes sound at) before n k f bytes at)
+        (λ q bad. elim ((join.version1 said is).one) [
+          | inl best ↦ let no : ⊥ = bad_is_not_good q (sym bad ∙ best) in absurd no
+          | inr one ↦
+              let stated = subst (IsPartV1 t v one.1.places contents) (one.3 ∙ bad)
+              ((are_true one.0 one.1 one.2).version1 v (says_of_v1 one.1) hybrid (says_v1 one.0 one.1 one.2 (ap is_some hybrid))) in
+              (stated.1, stated.2)
+        ])
+      where
+        bad_is_not_good : (q : ℕ) → version1.Bad q ≡ version1.Good → ⊥
+        bad_is_not_good q is = cc
 
   -- ---- a yes
 

@@ -1,16 +1,14 @@
 -- The pieces of a file in a row, as a part reads and judges them.
-use Rattle.std.specs.Prelude.{◌≡◌, ◌≢◌, ℕ, ◌+◌, ◌*◌, ◌<◌, ◌≤◌, min, ◌++◌, List, length, drop, Bool, true, false, IsTrue, Option, Some, None, ⊤}
-use Rattle.opening.specs.Description.{Description, FileEntry, Version1}
+use Rattle.std.specs.Prelude.{◌≡◌, ◌≢◌, ◌↔◌, ℕ, ◌+◌, ◌*◌, ◌<◌, ◌≤◌, min, ◌++◌, List, length, drop, IsTrue, Option, Some, None, ⊤}
+use Rattle.benc.specs.Device.{SourceSeen}
+use Rattle.hashtree.specs.Tree.{root_of}
+use Rattle.opening.specs.Description.{Description, FileEntry, TreeEntry, Version1}
+use Rattle.folders.specs.Folder.{tree_entry_of}
 use Rattle.folders.specs.Verdicts.{Agrees}
 use Rattle.parts.specs.Parts.{IsPieceGood, IsVersion1Good, piece_count}
-use Rattle.parts.specs.declared.file_pieces.Found.{Found}
+use Rattle.parts.specs.RowBits.{AreBitsOf}
+use Rattle.parts.specs.declared.row.Found.{Found}
 use Rattle.parts.specs.declared.span.Span.{Span}
-
--- the first bad one, after this one
-abbrev pub first_of : Option ℕ → ℕ → Bool → Option ℕ
-first_of (Some p) n good = Some p
-first_of None n true = None
-first_of None n false = Some n
 
 -- of these numbers, from one up to another, this is the first that is bad, or all are good
 abbrev pub IsFirstBad : ℕ → ℕ → (ℕ → Type 0) → Option ℕ → Type 0
@@ -34,18 +32,42 @@ pub record AreJudgedFrom (t : Description) (f : FileEntry) (from to : ℕ) (give
       → (to ≡ piece_count t f → length bytes ≡ f.length)
       → AreJudged t f from to bytes bad bad_cut
 
--- What was found of a source that is to give a file from one of its pieces on, and had this to
--- give. It had these bytes, which are the known ones; and what is said is true of each content that
--- goes on so from there.
-abbrev pub FindsPieces : Description → FileEntry → Span → Option (List ℕ) → Option Found → Type 0
-FindsPieces t f s left None =
-    (rest : List ℕ) × Agrees left rest
-    × ((bytes : List ℕ) → drop (t.piece_length * s.from) bytes ≡ rest → length bytes ≢ f.length)
-FindsPieces t f s left (Some found) =
-    (rest : List ℕ) × Agrees left rest
-    × ((bytes : List ℕ) → drop (t.piece_length * s.from) bytes ≡ rest
-    → (IsTrue s.ends → length bytes ≡ f.length)
-    × AreJudged t f s.from s.to bytes found.bad found.bad_cut)
+-- a source had these bytes to give, which are the known ones; and this is true of each content that
+-- goes on so from a byte
+pub record HadBytes (left : Option (List ℕ)) (offset : ℕ) (IsTrueOf : List ℕ → Type 0) : Type 0
+  where
+    pub rest : List ℕ
+    pub agrees : Agrees left rest
+    pub each : (bytes : List ℕ) → drop offset bytes ≡ rest → IsTrueOf bytes
+
+-- of a content that is not as long as stated the bits tell which pieces are good
+pub record FoundOther (t : Description) (f : FileEntry) (s : Span) (bits bytes : List ℕ)
+    : Type 0 where
+  pub other : length bytes ≢ f.length
+  pub bits_of : AreBitsOf t f s.from s.to bytes bits
+
+-- what was found of these pieces of a content, to whose end was read if they go up to it
+pub record FoundPieces (t : Description) (f : FileEntry) (s : Span) (bits : List ℕ) (found : Found)
+    (bytes : List ℕ) : Type 0 where
+  pub ends : IsTrue s.ends → length bytes ≡ f.length
+  pub whole : min (t.piece_length * s.to) f.length ≤ length bytes
+  pub judged : AreJudged t f s.from s.to bytes found.bad found.bad_cut
+  pub bits_of : AreBitsOf t f s.from s.to bytes bits
+  pub root : s.from ≡ 0 → IsTrue s.ends → (e : TreeEntry) → tree_entry_of t f ≡ Some e
+      → IsTrue found.root_is ↔ (root_of bytes ≡ e.root)
+
+-- what was found of a source that is to give a file from one of its pieces on, and had this to
+-- give
+abbrev pub FindsPieces : Description → FileEntry → Span → Option (List ℕ) → List ℕ → Option Found
+    → Type 0
+FindsPieces t f s left bits None = HadBytes left (t.piece_length * s.from) (FoundOther t f s bits)
+FindsPieces t f s left bits (Some found) =
+    HadBytes left (t.piece_length * s.from) (FoundPieces t f s bits found)
+
+-- exactly so many bytes were taken of a source for what was found, and else another number
+abbrev pub TakesRow : ℕ → SourceSeen → SourceSeen → Option Found → Type 0
+TakesRow size old new None = new.limit + size ≢ old.limit
+TakesRow size old new (Some found) = new.limit + size ≡ old.limit
 
 -- a number is below this one, if there is one
 abbrev pub IsBelow : ℕ → Option ℕ → Type 0

@@ -2,13 +2,13 @@
 -- the part's places, and what was opened is read and handed back; a file that has no place there is
 -- not opened. `opens_at` and `closes` stand for what contracts see of the shelf's type, and
 -- `seen` for what they see of its files.
-use Rattle.std.specs.Prelude.{◌≡◌, ℕ, ◌+◌, ◌*◌, List, Option, Some, None, Result, Ok, Err}
+use Rattle.std.specs.Prelude.{◌≡◌, ◌≢◌, ℕ, ◌+◌, ◌*◌, true, false, List, Option, Some, None, Result, Ok, Err}
 use Rattle.benc.specs.Device.{SourceSeen}
 use Rattle.benc.specs.declared.device.DeviceFault.{DeviceFault}
 use Rattle.opening.specs.Description.{Description, FileEntry}
 use Rattle.folders.specs.Shelf.{more}
 use Rattle.folders.specs.TakeAll.{IsReadWithin}
-use Rattle.folders.specs.Verdicts.{fault_count}
+use Rattle.folders.specs.Verdicts.{fault_count, is_unreadable, is_whole}
 use Rattle.folders.specs.Visits.{FollowsAnswer}
 use Rattle.folders.specs.declared.report.FileVerdict.{FileVerdict}
 use Rattle.folders.specs.declared.report.FileVerdict.TheVariants.{Good}
@@ -17,12 +17,18 @@ use Rattle.parts.specs.Spans.{bytes_in, first_in}
 use Rattle.parts.specs.declared.places.Places.{Places}
 
 -- an opened file was read for this verdict: its bytes among these places at most, and one more if
--- its last place is among them; it is unreadable if a read failed
+-- its last place is among them. Exactly these bytes were taken if they were all there and nothing
+-- after them that should not be, and else another number. It is unreadable if a read failed, which
+-- was before the end was seen.
 pub record IsReadIn (t : Description) (r : Places) (f : FileEntry) (v : FileVerdict)
     (old new : SourceSeen) : Type 0 where
   pub within : IsReadWithin (bytes_in t r f + 1) old new
   pub own : (Holds r (last_place t f) → ⊥) → IsReadWithin (bytes_in t r f) old new
   pub own_fault : new.faults ≡ more old.faults (fault_count v)
+  pub whole : is_whole v ≡ true → new.limit + bytes_in t r f ≡ old.limit
+  pub other : is_whole v ≡ false → is_unreadable v ≡ false
+      → new.limit + bytes_in t r f ≢ old.limit
+  pub early : is_unreadable v ≡ true → IsReadWithin (bytes_in t r f) old new
 
 module _ {S F : Type 0}
     (opens_at : S → List (List ℕ) → ℕ → Result (Option F) DeviceFault → S → Type 0)

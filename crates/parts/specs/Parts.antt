@@ -53,9 +53,11 @@ pub record IsPieceGood (t : Description) (f : FileEntry) (bytes : List ℕ) (k :
 abbrev pub EndsRight : Description → Places → FileEntry → List ℕ → Type 0
 EndsRight t r f bytes = Holds r (last_place t f) → length bytes ≡ f.length
 
--- of these bytes the pieces among these places are good
+-- of these bytes the pieces among these places are there whole, and good
 pub record IsGoodIn (t : Description) (r : Places) (f : FileEntry) (bytes : List ℕ) : Type 0 where
   pub end : EndsRight t r f bytes
+  pub whole : (k : ℕ) → k < piece_count t f → Holds r (f.first_piece + k)
+      → min (t.piece_length * (k + 1)) f.length ≤ length bytes
   pub pieces : (k : ℕ) → k < piece_count t f → Holds r (f.first_piece + k)
       → IsPieceGood t f bytes k
 

@@ -1,11 +1,11 @@
 -- The verdicts on a file, from what was found of its pieces.
-use Rattle.std.specs.Prelude.{◌≡◌, ℕ, ◌+◌, ◌^◌, ◌<◌, Option, Some, None, Result, Ok, Err, ⊤}
+use Rattle.std.specs.Prelude.{◌≡◌, ℕ, ◌+◌, ◌^◌, ◌<◌, Bool, true, false, Option, Some, None, Result, Ok, Err, ⊤}
 use Rattle.benc.specs.declared.device.DeviceFault.{DeviceFault}
 use Rattle.folders.specs.declared.report.FileVerdict.{FileVerdict}
 use Rattle.folders.specs.declared.report.FileVerdict.TheVariants as file
 use Rattle.folders.specs.declared.report.V1Verdict.{V1Verdict}
 use Rattle.folders.specs.declared.report.V1Verdict.TheVariants as version1
-use Rattle.parts.specs.declared.file_pieces.Found.{Found}
+use Rattle.parts.specs.declared.row.Found.{Found}
 use Rattle.parts.specs.declared.verdicts.Verdicts.{Verdicts}
 
 -- a piece's number in the torrent is below 2 ^ 64, if there is one
@@ -35,3 +35,17 @@ SaysFound first (Ok (Some found)) v =
     (v.file ≡ file_says first found.bad) × (v.v1 ≡ v1_says first found.bad_cut)
 SaysFound first (Ok None) v = (v.file ≡ file.WrongLength) × (v.v1 ≡ version1.NotChecked)
 SaysFound first (Err e) v = (v.file ≡ file.Unreadable) × (v.v1 ≡ version1.NotChecked)
+
+-- ---- a whole file
+
+-- it is good if its root is the tree's
+abbrev pub whole_says : ℕ → Bool → Option ℕ → FileVerdict
+whole_says first true bad = file.Good
+whole_says first false bad = file_says first bad
+
+-- these are the verdicts on a file that was read from its first piece to its end
+abbrev pub SaysWhole : ℕ → Result (Option Found) DeviceFault → Verdicts → Type 0
+SaysWhole first (Ok (Some found)) v =
+    (v.file ≡ whole_says first found.root_is found.bad) × (v.v1 ≡ v1_says first found.bad_cut)
+SaysWhole first (Ok None) v = (v.file ≡ file.WrongLength) × (v.v1 ≡ version1.NotChecked)
+SaysWhole first (Err e) v = (v.file ≡ file.Unreadable) × (v.v1 ≡ version1.NotChecked)

@@ -1,6 +1,8 @@
 //! The check of some of a torrent's places.
 ghost use Rattle.std.specs.Prelude.{◌≡◌, ◌*◌, ◌^◌, ◌<◌, length, IfOk, OnErr};
+ghost use Rattle.std.specs.Vec.{vec_capacity};
 ghost use Rattle.chains.specs.Chain.{Chain};
+ghost use Rattle.hashtree.specs.Bits.{AreClear};
 ghost use Rattle.opening.specs.Seen.{file_entry};
 ghost use Rattle.folders.specs.Shelf.{more};
 ghost use Rattle.folders.specs.Verdicts.{HasVerdicts, IsFileOf, fault_count, unreadable_count};
@@ -8,12 +10,16 @@ ghost use Rattle.parts.specs.Finding.{FindsFile, IsTrueOfPlaces};
 ghost use Rattle.parts.specs.PartVisits.{OpensPart, VisitsPart};
 ghost use Rattle.parts.specs.Spans.{IsSpanOf};
 
-use crate::file_pieces::check_pieces;
-use crate::joining::worse_v1;
-use crate::places::Places;
+use crate::bits::clear_bits;
+use crate::file_pieces::read_pieces;
+use crate::nowhere::Nowhere;
+use crate::places::{Places, piece_count};
+use crate::room::Room;
 use crate::span::{Span, span_of};
+use crate::telling::Telling;
 use crate::verdicts::Verdicts;
-use folders::{BUFFER_LENGTH, FileVerdict, NoMemory, Report, SeekShelf, V1Verdict};
+use crate::visiting::{Visitor, visit_files};
+use folders::{FileVerdict, NoMemory, Report, SeekShelf};
 use opening::{File, Torrent};
 use std::alloc::Global;
 
@@ -22,11 +28,10 @@ use std::alloc::Global;
 /// is among them, and handed back; no byte behind the last of these is read, but one if the file
 /// ends there. A file that has none of them is called good, and is not opened.
 ///
-/// It takes memory for the report alone, before the first path is opened: if that is refused, the
-/// shelf stays as it is. A file is unreadable if its opening or one of its own reads failed, and
-/// the shelf's count of failures grows by the number of these files.
-// It has the buffer in its frame, so it is not inlined.
-#[inline(never)]
+/// It takes memory for the report before the first path is opened: if that is refused, the shelf
+/// stays as it is. If memory for its buffer is refused, it uses a smaller one. A file is unreadable
+/// if its opening or one of its own reads failed, and the shelf's count of failures grows by the
+/// number of these files.
 pub fn check_part<S: SeekShelf>(
     alloc: Global,
     torrent: &Torrent<'_>,
@@ -48,42 +53,60 @@ pub fn check_part<S: SeekShelf>(
     ensures stays { S.Shelf.contents shelf.new ≡ S.Shelf.contents shelf.old }
 {
     torrent.sound();
-    let entries = torrent.files();
-    let mut files = Vec::with_capacity(alloc, entries.len())?;
-    let mut v1 = V1Verdict::Good;
-    let mut buffer = [0u8; BUFFER_LENGTH];
-    'files: for file in entries {
-        let found = check_file(shelf, torrent, file, places, &mut buffer);
-        files.push_reserved(found.file);
-        v1 = worse_v1(v1, found.v1);
-    }
-    let v1 = match torrent.v1() {
-        Some(_) => Some(v1),
-        None => None,
+    let mut nowhere = Nowhere { flushes: 0 };
+    let telling = Telling::Nothing;
+    let Ok(room) = Room::of(alloc, torrent, telling) else {
+        return Err(NoMemory);
     };
-    Ok(Report { files, v1 })
+    match visit_files(room, torrent, &places, shelf, telling, &mut nowhere) {
+        Ok(report) => Ok(report),
+        Err(_) => unreachable!(),
+    }
+}
+
+// The visits of the files that have one of these places.
+impl<S: SeekShelf> Visitor<S> for Places {
+    ghost use Rattle.parts.specs.Visiting.{part_visiting};
+
+    ghost visiting = { λ r t. part_visiting S.Shelf S.opens_at S.File.seen r t };
+
+    fn visit(
+        &self,
+        shelf: &mut S,
+        torrent: &Torrent<'_>,
+        file: &File<'_>,
+        bits: &mut Vec<u8>,
+        buffer: &mut [u8],
+    ) -> Verdicts {
+        clear_bits(bits, piece_count(torrent, file.length));
+        visit_part_of(shelf, torrent, file, *self, bits, buffer)
+    }
 }
 
 // Checks the places of one file.
-fn check_file<S: SeekShelf>(
+fn visit_part_of<S: SeekShelf>(
     shelf: &mut S,
     torrent: &Torrent<'_>,
     file: &File<'_>,
     places: Places,
+    bits: &mut Vec<u8>,
     buffer: &mut [u8],
 ) -> Verdicts
     requires some { 0 < length buffer.old }
     requires file { IsFileOf torrent.now (file_entry file.now) }
+    requires clear { AreClear bits.old.items }
     ensures found { FindsFile torrent.now places (file_entry file.now)
-        ((S.Shelf.contents shelf.old).under file.now.path) result }
+        ((S.Shelf.contents shelf.old).under file.now.path) bits.new.items result }
     ensures visits { VisitsPart S.opens_at S.Shelf.closes S.File.seen torrent.now places shelf.old
         (file_entry file.now) result.file shelf.new }
     ensures counts { S.Shelf.faults shelf.new
         ≡ more (S.Shelf.faults shelf.old) (fault_count result.file) }
+    ensures length { length bits.new.items ≡ length bits.old.items }
+    ensures capacity { vec_capacity bits.new ≡ vec_capacity bits.old }
     ensures stays { S.Shelf.contents shelf.new ≡ S.Shelf.contents shelf.old }
 {
     match span_of(torrent, file, places) {
-        Some(span) => check_span(shelf, torrent, file, places, span, buffer),
+        Some(span) => visit_span(shelf, torrent, file, places, span, bits, buffer),
         None => Verdicts::of_other(),
     }
 }
@@ -97,30 +120,34 @@ fn first_byte(torrent: &Torrent<'_>, span: Span) -> u64
 }
 
 // Opens a file at the first of these pieces, checks them, and hands it back.
-fn check_span<S: SeekShelf>(
+fn visit_span<S: SeekShelf>(
     shelf: &mut S,
     torrent: &Torrent<'_>,
     file: &File<'_>,
     _places: Places,
     span: Span,
+    bits: &mut Vec<u8>,
     buffer: &mut [u8],
 ) -> Verdicts
     requires some { 0 < length buffer.old }
     requires file { IsFileOf torrent.now (file_entry file.now) }
+    requires clear { AreClear bits.old.items }
     requires span { IsSpanOf torrent.now _places (file_entry file.now) span }
     ensures found { FindsFile torrent.now _places (file_entry file.now)
-        ((S.Shelf.contents shelf.old).under file.now.path) result }
+        ((S.Shelf.contents shelf.old).under file.now.path) bits.new.items result }
     ensures visits { OpensPart S.opens_at S.Shelf.closes S.File.seen torrent.now _places shelf.old
         (file_entry file.now) result.file shelf.new }
     ensures counts { S.Shelf.faults shelf.new
         ≡ more (S.Shelf.faults shelf.old) (fault_count result.file) }
+    ensures length { length bits.new.items ≡ length bits.old.items }
+    ensures capacity { vec_capacity bits.new ≡ vec_capacity bits.old }
     ensures stays { S.Shelf.contents shelf.new ≡ S.Shelf.contents shelf.old }
 {
     torrent.sound();
     let offset = first_byte(torrent, span);
     match shelf.open_at(&file.path.parts(), offset) {
         Ok(Some(mut source)) => {
-            let found = check_pieces(&mut source, torrent, file, span, buffer);
+            let found = read_pieces(&mut source, torrent, file, span, bits, buffer);
             shelf.close(source);
             Verdicts::of_found(file, found)
         }

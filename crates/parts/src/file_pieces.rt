@@ -1,56 +1,55 @@
 //! The pieces of a file in a row, and the file's end.
-ghost use Rattle.std.specs.Prelude.{◌≡◌, ℕ, ◌+◌, ◌<◌, length, IsTrue, IfOk, IfSome, None};
+ghost use Rattle.std.specs.Prelude.{◌≡◌, ◌+◌, ◌<◌, length, IsTrue, IfOk, IfSome, OnErr};
+ghost use Rattle.std.specs.Vec.{vec_capacity};
 ghost use Rattle.benc.specs.Device.{CountsFault};
+ghost use Rattle.hashtree.specs.Bits.{AreClear};
 ghost use Rattle.opening.specs.Seen.{file_entry};
 ghost use Rattle.folders.specs.TakeAll.{IsReadWithin};
 ghost use Rattle.folders.specs.Verdicts.{IsFileOf};
-ghost use Rattle.parts.specs.FilePieces.{AreBelow, FindsPieces, first_of};
-ghost use Rattle.parts.specs.OnePiece.{piece_size};
-ghost use Rattle.parts.specs.Parts.{piece_count};
+ghost use Rattle.parts.specs.FilePieces.{AreBelow, FindsPieces, TakesRow};
 ghost use Rattle.parts.specs.RowChecks.{JudgesRow};
 ghost use Rattle.parts.specs.Spans.{IsSpan, span_bytes};
 
-use crate::judging::check_piece;
-use crate::row::check_row;
+use crate::row::{Found, read_row};
 use crate::span::Span;
 use benc::{DeviceFault, Source};
 use opening::{File, Torrent};
 
-/// The first piece of a file that is bad, and the first whose version 1 piece is, each by its
-/// number within the file.
-#[derive(Clone, Copy)]
-pub(crate) struct Found {
-    /// The first bad piece.
-    pub(crate) bad: Option<u64>,
-    /// The first whose version 1 piece is bad.
-    pub(crate) bad_cut: Option<u64>,
-}
-
-/// Reads and judges the pieces of a file that a part has, and if the file ends there, its end too.
-/// `None`: the content is not as long as it is to be. Conditions: the torrent has the file, and the
-/// buffer is not empty.
-pub(crate) fn check_pieces<F: Source>(
+/// Reads and judges some pieces of a file, and if the file ends there, its end too; and sets the
+/// bits of the pieces that are whole and good, by their places in the row. `None`: the content is
+/// not as long as it is to be. Nothing is read after the end was seen. Conditions: the torrent has
+/// the file, no bit is set, and the buffer is not empty.
+pub(crate) fn read_pieces<F: Source>(
     source: &mut F,
     torrent: &Torrent<'_>,
     file: &File<'_>,
     span: Span,
+    bits: &mut Vec<u8>,
     buffer: &mut [u8],
 ) -> Result<Option<Found>, DeviceFault>
     requires some { 0 < length buffer.old }
     requires file { IsFileOf torrent.now (file_entry file.now) }
     requires span { IsSpan torrent.now (file_entry file.now) span }
+    requires clear { AreClear bits.old.items }
     ensures found { IfOk result (FindsPieces torrent.now (file_entry file.now) span
-        (F.seen source.old).left) }
+        (F.seen source.old).left bits.new.items) }
     ensures inside { IfOk result (λ found. IfSome found (AreBelow span.to)) }
+    ensures room { vec_capacity bits.new ≡ vec_capacity bits.old }
+    ensures length { length bits.new.items ≡ length bits.old.items }
     ensures no_further { IsReadWithin (span_bytes torrent.now (file_entry file.now) span + 1)
         (F.seen source.old) (F.seen source.new) }
     ensures own { (IsTrue span.ends → ⊥)
         → IsReadWithin (span_bytes torrent.now (file_entry file.now) span)
         (F.seen source.old) (F.seen source.new) }
+    ensures taken { IfOk result (TakesRow (span_bytes torrent.now (file_entry file.now) span)
+        (F.seen source.old) (F.seen source.new)) }
+    ensures blamed { OnErr result (IsReadWithin
+        (span_bytes torrent.now (file_entry file.now) span) (F.seen source.old)
+        (F.seen source.new)) }
     ensures counts { CountsFault (F.seen source.old).faults (F.seen source.new).faults result }
 {
     torrent.sound();
-    let Some(found) = judge(source, torrent, file, span, buffer)? else {
+    let Some(found) = judge(source, torrent, file, span, bits, buffer)? else {
         return Ok(None);
     };
     if !span.ends {
@@ -69,60 +68,31 @@ fn judge<F: Source>(
     torrent: &Torrent<'_>,
     file: &File<'_>,
     span: Span,
+    bits: &mut Vec<u8>,
     buffer: &mut [u8],
 ) -> Result<Option<Found>, DeviceFault>
     requires some { 0 < length buffer.old }
     requires file { IsFileOf torrent.now (file_entry file.now) }
     requires span { IsSpan torrent.now (file_entry file.now) span }
+    requires clear { AreClear bits.old.items }
     ensures judged { IfOk result (JudgesRow torrent.now (file_entry file.now) span.from
-        span.to (F.seen source.old) (F.seen source.new)) }
+        span.to (F.seen source.old) (F.seen source.new) bits.new.items) }
     ensures inside { IfOk result (λ found. IfSome found (AreBelow span.to)) }
+    ensures room { vec_capacity bits.new ≡ vec_capacity bits.old }
+    ensures length { length bits.new.items ≡ length bits.old.items }
     ensures no_further { IsReadWithin (span_bytes torrent.now (file_entry file.now) span)
         (F.seen source.old) (F.seen source.new) }
+    ensures blamed { OnErr result ((F.seen source.old).limit
+        < (F.seen source.new).limit + span_bytes torrent.now (file_entry file.now) span) }
     ensures counts { CountsFault (F.seen source.old).faults (F.seen source.new).faults result }
 {
     torrent.sound();
-    match span.to - span.from {
-        0 => Ok(Some(Found {
+    if span.from == span.to {
+        return Ok(Some(Found {
+            root_is: true,
             bad: None,
             bad_cut: None,
-        })),
-        1 => judge_one(source, torrent, file, span.from, buffer),
-        _ => check_row(source, torrent, file, span, buffer),
+        }));
     }
-}
-
-// Reads and judges one piece. `None`: the source has fewer bytes.
-fn judge_one<F: Source>(
-    source: &mut F,
-    torrent: &Torrent<'_>,
-    file: &File<'_>,
-    number: u64,
-    buffer: &mut [u8],
-) -> Result<Option<Found>, DeviceFault>
-    requires some { 0 < length buffer.old }
-    requires file { IsFileOf torrent.now (file_entry file.now) }
-    requires inside { number < piece_count torrent.now (file_entry file.now) }
-    ensures judged { IfOk result (JudgesRow torrent.now (file_entry file.now) number
-        (number + 1) (F.seen source.old) (F.seen source.new)) }
-    ensures inside { IfOk result (λ found. IfSome found (AreBelow (number + 1))) }
-    ensures no_further { IsReadWithin (piece_size torrent.now (file_entry file.now) number)
-        (F.seen source.old) (F.seen source.new) }
-    ensures counts { CountsFault (F.seen source.old).faults (F.seen source.new).faults result }
-{
-    torrent.sound();
-    let Some(judged) = check_piece(source, torrent, file, number, torrent.v1(), buffer)? else {
-        return Ok(None);
-    };
-    Ok(Some(Found {
-        bad: unless(judged.good, number),
-        bad_cut: unless(judged.cut_good, number),
-    }))
-}
-
-// This number, if it is not good.
-fn unless(good: bool, number: u64) -> Option<u64>
-    ensures { result ≡ first_of None number good }
-{
-    if good { None } else { Some(number) }
+    read_row(source, torrent, file, span, bits, buffer)
 }

@@ -1,28 +1,35 @@
-//! A check of a folder in parts, each by a process of its own, and the join of what they report.
+//! The checks of a folder: whole, or in parts, each by a process of its own, and the join of what
+//! parts report.
 #![tactic(auto)]
 
-mod bad_fault;
-mod bad_pieces;
-mod bad_report;
+mod all_files;
+mod bits;
+mod buffer;
 mod checking;
 mod file_pieces;
 mod joining;
-mod judging;
 pub mod laws;
+mod marked;
+mod nowhere;
 mod part_lines;
-mod piece;
 mod places;
-mod reading;
+mod reporting;
+mod room;
 mod row;
 mod shares;
 mod span;
+mod telling;
 mod verdicts;
+mod visiting;
+mod whole;
 
-pub use bad_fault::{BadCheckFault, BadFault};
-pub use bad_pieces::print_bad_pieces;
-pub use bad_report::check_with_bad_pieces;
+pub use all_files::CheckFault;
 pub use checking::check_part;
 pub use joining::{join, worse, worse_v1};
+pub use marked::check_part_with_bad_pieces;
 pub use part_lines::print_part;
 pub use places::Places;
+pub use reporting::{check_onto, check_with_bad_pieces};
 pub use span::touches;
+pub use telling::{Telling, run_line};
+pub use whole::check;

@@ -1,9 +1,10 @@
 //! The lines of a part's report.
-ghost use Rattle.std.specs.Prelude.{◌≡◌, ◌<◌, length, map, is_some};
+ghost use Rattle.std.specs.Prelude.{◌≡◌, ◌+◌, ◌<◌, ◌≤◌, ◌++◌, length, map, is_some, codes, decimal};
 ghost use Rattle.benc.specs.Device.{Wrote, WroteAndFlushed};
+ghost use Rattle.hex.specs.Hex.{encode_lower};
 ghost use Rattle.opening.specs.Seen.{file_entry};
 ghost use Rattle.folders.specs.Verdicts.{IsFileOf};
-ghost use Rattle.parts.specs.PartLines.{answer_line, end_lines, has_place, head_text, held_line, lines_text, part_text};
+ghost use Rattle.parts.specs.PartLines.{answer_line, end_lines, has_place, held_line, lines_text, part_text};
 
 use crate::places::Places;
 use crate::span::touches;
@@ -48,15 +49,19 @@ fn write_part<W: Sink>(
     ensures { Wrote (W.seen out.old) (W.seen out.new) result
         (part_text torrent.now part parts report.now.files.items report.now.v1) }
 {
-    write_all(out, head(torrent, part, parts).as_slice())?;
+    write_all(out, head(torrent, part, parts, b"\n").as_slice())?;
     let places = Places::of_part(torrent, part, parts);
     write_lines(&report.files, torrent.files(), torrent, places, out)?;
     write_end(report, out)
 }
 
-fn head(torrent: &Torrent<'_>, part: u64, parts: u64) -> Line
-    requires { part < parts }
-    ensures { result ≡ head_text torrent.now part parts }
+/// The first line of a part's report, which ends so. Conditions: there is such a part, and the end
+/// has at most 16 bytes.
+pub(crate) fn head(torrent: &Torrent<'_>, part: u64, parts: u64, end: &[u8]) -> Line
+    requires there { part < parts }
+    requires short { length end.now ≤ 16 }
+    ensures { result ≡ codes "part " ++ decimal (part + 1) ++ codes "/" ++ decimal parts
+        ++ codes " " ++ encode_lower torrent.now.info_hash_v2 ++ end.now }
 {
     torrent.sound();
     let mut line = Line::new();
@@ -66,7 +71,7 @@ fn head(torrent: &Torrent<'_>, part: u64, parts: u64) -> Line
     line.put_number(parts);
     line.put(b" ");
     line.put_digest(&torrent.info_hash_v2());
-    line.put(b"\n");
+    line.put(end);
     line
 }
 
@@ -123,8 +128,8 @@ fn write_if<W: Sink>(
     }
 }
 
-// Writes what follows the lines of the files.
-fn write_end<W: Sink>(report: &Report, out: &mut W) -> Result<(), DeviceFault>
+/// Writes what follows the lines of the files.
+pub(crate) fn write_end<W: Sink>(report: &Report, out: &mut W) -> Result<(), DeviceFault>
     ensures { Wrote (W.seen out.old) (W.seen out.new) result
         (end_lines report.now.files.items report.now.v1) }
 {

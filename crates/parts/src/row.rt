@@ -1,100 +1,146 @@
-//! Several pieces of a file in a row: the nodes over them are compared with their part of the piece
-//! layer, and the version 1 pieces with their part of what is listed, by the check of a whole file.
-//! So their blocks are hashed together, and not piece by piece.
-ghost use Rattle.std.specs.Prelude.{◌≡◌, ℕ, ◌+◌, ◌-◌, ◌*◌, ◌^◌, ◌<◌, ◌≤◌, length, slice_range, is_some, option_map, IfOk, IfSome, Some};
+//! Pieces of a file in a row, read once: the nodes over them are compared with their part of the
+//! piece layer, or the only piece of a file with its root, and the version 1 pieces with their part
+//! of what is listed.
+ghost use Rattle.std.specs.Prelude.{◌≡◌, ℕ, ◌+◌, ◌-◌, ◌*◌, ◌^◌, ◌<◌, ◌≤◌, length, is_some, option_map, IfOk, IfSome, OnErr, Some};
+ghost use Rattle.std.specs.Vec.{vec_capacity};
 ghost use Rattle.benc.specs.Device.{CountsFault};
+ghost use Rattle.hashtree.specs.Bits.{AreClear};
 ghost use Rattle.opening.specs.Description.{Version1};
-ghost use Rattle.opening.specs.Seen.{file_entry, version1};
-ghost use Rattle.folders.specs.Streaming.{StandsAt, goes_on};
+ghost use Rattle.opening.specs.Seen.{file_entry, tree_entry, version1};
+ghost use Rattle.folders.specs.CutFeeds.{CutsStandAt};
 ghost use Rattle.folders.specs.TakeAll.{IsReadWithin};
 ghost use Rattle.folders.specs.Verdicts.{IsFileOf};
 ghost use Rattle.parts.specs.FilePieces.{AreBelow};
-ghost use Rattle.parts.specs.RowChecks.{BeginsRow, IsRowStream, JudgesRow, bad_cut_of, stream_part};
+ghost use Rattle.parts.specs.RowChecks.{IsRowCuts, IsRowHashes, IsRowLayer, JudgesRow, stream_part};
 ghost use Rattle.parts.specs.Spans.{IsSpan, span_bytes};
 
-use crate::file_pieces::Found;
-use crate::judging::piece_layer;
-use crate::reading::take_exactly;
 use crate::span::Span;
 use benc::{DeviceFault, Source};
-use folders::{FileCheck, Stream, V1Verdict};
+use folders::{Cuts, RowFeed};
 use hashtree::{Hash, PieceCheck, Shape};
 use opening::{File, Torrent, TreeInfo};
 use pieces::V1;
+use std::mem::replace;
+use std::slice;
 
-/// Reads and judges these pieces of a file. `None`: the source has fewer bytes than they. No byte
-/// behind them is read. Conditions: the torrent has the file, the file has the pieces, they are
-/// more than one, and the buffer is not empty.
-pub(crate) fn check_row<F: Source>(
+/// What was found of a row of pieces of one file. The numbers are those within the file.
+#[derive(Clone, Copy)]
+pub(crate) struct Found {
+    /// Whether the root over the row alone is the file's.
+    pub(crate) root_is: bool,
+    /// The first bad piece.
+    pub(crate) bad: Option<u64>,
+    /// The first whose version 1 piece is bad.
+    pub(crate) bad_cut: Option<u64>,
+}
+
+/// Reads and judges these pieces of a file, and sets the bits of those that are whole and good, by
+/// their places in the row. `None`: the source has fewer bytes than they. No byte behind them is
+/// read. Conditions: the torrent has the file, the file has the pieces, of which there is one, no
+/// bit is set, and the buffer is not empty.
+pub(crate) fn read_row<F: Source>(
     source: &mut F,
     torrent: &Torrent<'_>,
     file: &File<'_>,
     span: Span,
+    bits: &mut Vec<u8>,
     buffer: &mut [u8],
 ) -> Result<Option<Found>, DeviceFault>
     requires some { 0 < length buffer.old }
     requires file { IsFileOf torrent.now (file_entry file.now) }
     requires span { IsSpan torrent.now (file_entry file.now) span }
-    requires several { span.from + 1 < span.to }
+    requires piece { span.from < span.to }
+    requires clear { AreClear bits.old.items }
     ensures judged { IfOk result (JudgesRow torrent.now (file_entry file.now) span.from
-        span.to (F.seen source.old) (F.seen source.new)) }
+        span.to (F.seen source.old) (F.seen source.new) bits.new.items) }
     ensures inside { IfOk result (λ found. IfSome found (AreBelow span.to)) }
+    ensures room { vec_capacity bits.new ≡ vec_capacity bits.old }
+    ensures length { length bits.new.items ≡ length bits.old.items }
     ensures no_further { IsReadWithin (span_bytes torrent.now (file_entry file.now) span)
         (F.seen source.old) (F.seen source.new) }
+    ensures blamed { OnErr result ((F.seen source.old).limit
+        < (F.seen source.new).limit + span_bytes torrent.now (file_entry file.now) span) }
     ensures counts { CountsFault (F.seen source.old).faults (F.seen source.new).faults result }
 {
     torrent.sound();
+    let Some(number) = file.tree else {
+        unreachable!();
+    };
+    let tree = &torrent.trees()[number];
     let piece_length = torrent.piece_length();
     let size = (piece_length * span.to).min(file.length) - piece_length * span.from;
-    let mut row = FileCheck {
-        pieces: piece_check(torrent, file, span, size),
-        stream: stream_check(torrent, file, span),
+    let layer = compared_layer(torrent, file);
+    let mut row = RowFeed {
+        check: PieceCheck::of_row(
+            Shape::of(size).unwrap(),
+            layer,
+            hashes(torrent, file, tree, span),
+        ),
+        bits: taken(bits),
+        cuts: cuts(torrent, file, span),
     };
-    if !take_exactly(source, size, buffer, &mut row)? {
+    let judged = row.judge(source, size, layer, buffer);
+    *bits = row.bits;
+    let Some(found) = judged? else {
         return Ok(None);
-    }
-    let FileCheck { pieces, stream } = row;
-    let (_, _, bad) = pieces.finish();
+    };
     Ok(Some(Found {
-        bad: numbered(span.from, bad),
-        bad_cut: numbered(span.from, first_bad_cut(stream.finish())),
+        root_is: found.root == tree.root,
+        bad: numbered(span.from, found.other),
+        bad_cut: numbered(span.from, found.bad_cut),
     }))
 }
 
-// The check of the pieces' bytes, this many, against their part of the piece layer.
-fn piece_check<'t>(torrent: &Torrent<'t>, file: &File<'_>, span: Span, size: u64) -> PieceCheck<'t>
+// Hands a bitmap out, and leaves an empty one.
+fn taken(bits: &mut Vec<u8>) -> Vec<u8>
+    ensures { result ≡ bits.old }
+{
+    let none = Vec::new(*bits.allocator());
+    replace(bits, none)
+}
+
+// The layer in which a file's pieces are compared: that of its root if it has one piece.
+fn compared_layer(torrent: &Torrent<'_>, file: &File<'_>) -> u32
     requires file { IsFileOf torrent.now (file_entry file.now) }
-    requires span { IsSpan torrent.now (file_entry file.now) span }
-    requires several { span.from + 1 < span.to }
-    requires size { size ≡ span_bytes torrent.now (file_entry file.now) span }
-    ensures { BeginsRow torrent.now (file_entry file.now) span result }
+    requires some { 0 < file.now.length }
+    ensures layer { IsRowLayer torrent.now (file_entry file.now) result }
+    ensures bound { result ≤ 32 }
 {
     torrent.sound();
-    let Some(tree) = file.tree else {
-        unreachable!();
-    };
-    let info = &torrent.trees()[tree];
-    let shape = Shape::of(size).unwrap();
-    PieceCheck::new(shape, piece_layer(torrent), hashes(info, span))
+    Shape::of(torrent.piece_length().min(file.length))
+        .unwrap()
+        .height()
 }
 
-// The part of a piece layer that has these pieces.
-fn hashes<'t>(tree: &TreeInfo<'t>, span: Span) -> &'t [Hash]
+// The hashes with which these pieces are compared: their part of the piece layer, or the root if
+// the file has one piece.
+fn hashes<'t>(
+    torrent: &Torrent<'_>,
+    file: &File<'_>,
+    tree: &'t TreeInfo<'_>,
+    span: Span,
+) -> &'t [Hash]
     requires order { span.from ≤ span.to }
-    requires listed { span.to ≤ length tree.now.layer.now }
-    ensures { result.now ≡ slice_range tree.now.layer.now span.from span.to }
+    requires listed { torrent.now.piece_length < file.now.length
+        → span.to ≤ length tree.now.layer.now }
+    ensures { IsRowHashes torrent.now (file_entry file.now) (tree_entry tree.now) span.from span.to
+        result.now }
 {
-    &tree.layer[span.from as usize..span.to as usize]
+    if file.length <= torrent.piece_length() {
+        slice::from_ref(&tree.root)
+    } else {
+        &tree.layer[span.from as usize..span.to as usize]
+    }
 }
 
-// The part of a hybrid's stream that has these pieces, at its start.
-fn stream_check<'t>(torrent: &Torrent<'t>, file: &File<'_>, span: Span) -> Stream<'t>
+// The version 1 pieces of these pieces, of which nothing was given yet.
+fn cuts<'t>(torrent: &Torrent<'t>, file: &File<'_>, span: Span) -> Cuts<'t>
     requires file { IsFileOf torrent.now (file_entry file.now) }
     requires span { IsSpan torrent.now (file_entry file.now) span }
-    requires several { span.from + 1 < span.to }
-    ensures begins { goes_on result ≡ is_some torrent.now.v1 }
-    ensures stands { StandsAt result.feed 0 }
-    ensures part { (v : Version1) → torrent.now.v1 ≡ Some v → IsRowStream torrent.now
+    requires piece { span.from < span.to }
+    ensures begins { is_some result.feed ≡ is_some torrent.now.v1 }
+    ensures stands { CutsStandAt result.feed 0 }
+    ensures part { (v : Version1) → torrent.now.v1 ≡ Some v → IsRowCuts torrent.now
         (file_entry file.now) span v result.feed }
 {
     torrent.sound();
@@ -104,7 +150,7 @@ fn stream_check<'t>(torrent: &Torrent<'t>, file: &File<'_>, span: Span) -> Strea
         Some(v1) => Some(stream_part(v1, piece_length, first + span.from, first + span.to)),
         None => None,
     };
-    Stream::of(part.as_ref(), piece_length)
+    Cuts::of(part.as_ref(), piece_length)
 }
 
 // These pieces of the version 1 stream.
@@ -118,16 +164,6 @@ fn stream_part<'t>(v1: &V1<'t>, piece_length: u64, from: u64, to: u64) -> V1<'t>
     V1 {
         pieces: &v1.pieces[from as usize..to as usize],
         total: v1.total.min(piece_length * to) - piece_length * from,
-    }
-}
-
-// The first bad version 1 piece of a row, if there is one.
-fn first_bad_cut(verdict: V1Verdict) -> Option<u64>
-    ensures { result ≡ bad_cut_of verdict }
-{
-    match verdict {
-        V1Verdict::Bad(place) => Some(place),
-        V1Verdict::Good | V1Verdict::NotChecked => None,
     }
 }
 

@@ -1,8 +1,8 @@
 //! What a part says of one file.
 ghost use Rattle.std.specs.Prelude.{◌≡◌};
-ghost use Rattle.parts.specs.Saying.{IsSmallFrom, file_says, v1_says};
+ghost use Rattle.parts.specs.Saying.{IsSmallFrom, file_says, v1_says, whole_says};
 
-use crate::file_pieces::Found;
+use crate::row::Found;
 use benc::DeviceFault;
 use folders::{FileVerdict, V1Verdict};
 use opening::File;
@@ -17,7 +17,7 @@ pub(crate) struct Verdicts {
 }
 
 impl Verdicts {
-    ghost use Rattle.parts.specs.Saying.{HasSmallPieces, SaysFound};
+    ghost use Rattle.parts.specs.Saying.{HasSmallPieces, SaysFound, SaysWhole};
 
     /// Of a file that has no place among the part's.
     pub(crate) fn of_other() -> Verdicts
@@ -41,7 +41,7 @@ impl Verdicts {
         }
     }
 
-    /// Of a file whose pieces were read.
+    /// Of a file of which the pieces of a part were read.
     pub(crate) fn of_found(file: &File<'_>, found: Result<Option<Found>, DeviceFault>) -> Verdicts
         requires { HasSmallPieces file.now.first_piece found }
         ensures { SaysFound file.now.first_piece found result }
@@ -54,6 +54,34 @@ impl Verdicts {
             Ok(None) => Verdicts::not_whole(FileVerdict::WrongLength),
             Err(_) => Verdicts::not_whole(FileVerdict::Unreadable),
         }
+    }
+
+    /// Of a file that was read from its first piece to its end: it is good if its root is the
+    /// tree's.
+    pub(crate) fn of_whole(file: &File<'_>, found: Result<Option<Found>, DeviceFault>) -> Verdicts
+        requires { HasSmallPieces file.now.first_piece found }
+        ensures { SaysWhole file.now.first_piece found result }
+    {
+        match found {
+            Ok(Some(found)) => Verdicts {
+                file: whole_verdict(file.first_piece, found.root_is, found.bad),
+                v1: v1_verdict(file.first_piece, found.bad_cut),
+            },
+            Ok(None) => Verdicts::not_whole(FileVerdict::WrongLength),
+            Err(_) => Verdicts::not_whole(FileVerdict::Unreadable),
+        }
+    }
+}
+
+// The verdict on a whole file, whose root is the tree's or not.
+fn whole_verdict(first: u64, root_is: bool, bad: Option<u64>) -> FileVerdict
+    requires { IsSmallFrom first bad }
+    ensures { result ≡ whole_says first root_is bad }
+{
+    if root_is {
+        FileVerdict::Good
+    } else {
+        file_verdict(first, bad)
     }
 }
 

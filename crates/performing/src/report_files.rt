@@ -8,9 +8,13 @@ use real_files::System;
 use std::alloc::AllocError;
 
 /// How many bytes the first line of a report and the lines behind those of its files have at most:
-/// `part `, two numbers and an info-hash with what stands between them and a line feed; `v1 bad `
-/// and a number; and `part yes`.
-const REST: u64 = 5 + 20 + 1 + 20 + 1 + 64 + 1 + 7 + 20 + 1 + 9;
+/// `part `, two numbers and an info-hash with what stands between them, ` bad` and a line feed;
+/// `v1 bad ` and a number; and `part yes`.
+const REST: u64 = 5 + 20 + 1 + 20 + 1 + 64 + 4 + 1 + 7 + 20 + 1 + 9;
+
+/// How many bytes the line of a run of bad pieces has at most: `bad pieces `, two numbers,
+/// ` bytes ` and two more, with what stands between them and a line feed.
+const RUN: u64 = 11 + 20 + 1 + 20 + 7 + 20 + 1 + 20 + 1;
 
 /// The bytes of each of these reports, and of one that is longer than any of this torrent the first
 /// of them, one more than such a report has.
@@ -36,8 +40,19 @@ fn longest(torrent: &Torrent<'_>) -> u64 {
     };
     'files: for file in torrent.files() {
         let _ = write_verdict(FileVerdict::Bad(u64::MAX), file, &mut counter);
+        let runs = most_runs(file.length, torrent.piece_length());
+        counter.count = counter.count.saturating_add(runs.saturating_mul(RUN));
     }
     counter.count
+}
+
+// How many runs of bad pieces a file of this length has at most: between two is a good piece.
+fn most_runs(length: u64, piece_length: u64) -> u64 {
+    let pieces = length
+        .checked_div(piece_length)
+        .unwrap_or(0)
+        .saturating_add(1);
+    pieces.div_ceil(2)
 }
 
 // A sink that counts what is written.

@@ -1,6 +1,6 @@
 //! The running cut of a stream of bytes, and its SHA-1 digest (BEP 3, "pieces").
 
-ghost use Rattle.std.specs.Prelude.{◌≡◌, ℕ, ◌+◌, ◌-◌, ◌<◌, ◌≤◌, ◌++◌, [], List, length, take, min, IsTrue, ◌↔◌};
+ghost use Rattle.std.specs.Prelude.{◌≡◌, ◌≢◌, ℕ, ◌+◌, ◌-◌, ◌<◌, ◌≤◌, ◌++◌, [], List, length, take, min, None, IsTrue, ◌↔◌};
 ghost use Rattle.sha1.specs.Sha1.{sha1};
 
 use sha1::Sha1;
@@ -16,8 +16,11 @@ pub(crate) struct Cutter {
     // How many bytes the running cut holds.
     filled: u64,
     hasher: Sha1,
+    // The digest of the running cut, if it was known before its bytes were taken: all of them.
+    known: Option<[u8; 20]>,
     ghost some: { 0 < piece_length },
     ghost in_cut: { filled ≤ piece_length },
+    ghost whole: { known ≢ None → filled ≡ piece_length },
 }
 
 impl Cutter {
@@ -35,7 +38,16 @@ impl Cutter {
             piece_length,
             filled: 0,
             hasher: Sha1::new(),
+            known: None,
         }
+    }
+
+    /// How long the cuts are.
+    pub(crate) fn piece_length(&self) -> u64
+        ensures value { result ≡ self.now.piece_length }
+        ensures some { 0 < result }
+    {
+        self.piece_length
     }
 
     /// Whether the running cut has its full length.
@@ -67,6 +79,19 @@ impl Cutter {
         taken as usize
     }
 
+    /// Takes a whole cut, whose digest is known. Condition: the running cut is empty.
+    pub(crate) fn take_known(&mut self, digest: &[u8; 20], _cut: &[u8])
+        requires empty { self.old.filled ≡ 0 }
+        requires whole { length _cut.now ≡ self.old.piece_length }
+        requires digest { digest.now ≡ sha1 _cut.now }
+        ensures piece_length { self.new.piece_length ≡ self.old.piece_length }
+        ensures filled { self.new.filled ≡ self.old.piece_length }
+        ensures running { IsCutting self.new _cut.now }
+    {
+        self.filled = self.piece_length;
+        self.known = Some(*digest);
+    }
+
     /// The digest of the running cut; the next one is empty.
     pub(crate) fn close(&mut self) -> [u8; 20]
         ensures digest { (running : List ℕ) → IsCutting self.old running → result ≡ sha1 running }
@@ -74,9 +99,12 @@ impl Cutter {
         ensures empty { self.new.filled ≡ 0 }
         ensures running { IsCutting self.new [] }
     {
-        let digest = mem::replace(&mut self.hasher, Sha1::new()).finalize();
+        let hasher = mem::replace(&mut self.hasher, Sha1::new());
         self.filled = 0;
-        digest
+        match self.known.take() {
+            Some(digest) => digest,
+            None => hasher.finalize(),
+        }
     }
 
     /// The digest of the running cut, filled up with zeros to the piece length.
@@ -84,6 +112,9 @@ impl Cutter {
         ensures { (running : List ℕ) → IsCutting self.now running
             → result ≡ sha1 (filled_up self.now.piece_length running) }
     {
+        if let Some(digest) = self.known {
+            return digest;
+        }
         let Ok(hasher) = self.hasher.clone() else {
             unreachable!();
         };
@@ -91,6 +122,7 @@ impl Cutter {
             piece_length: self.piece_length,
             filled: self.filled,
             hasher,
+            known: None,
         };
         let zeros = [0u8; ZEROS];
         'zeros: while !cutter.is_full() {

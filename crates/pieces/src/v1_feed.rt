@@ -1,9 +1,10 @@
 //! What a hybrid states of its version 1 stream, and the stream compared with that as its bytes
 //! come (BEP 3, "pieces"; BEP 52, "Upgrade Path").
-ghost use Rattle.std.specs.Prelude.{◌≡◌, ℕ, ◌+◌, ◌-◌, ◌*◌, ◌<◌, ◌≤◌, ◌++◌, [], List, length, take, replicate, slice_get, Some, None, is_some, true, IsTrue, ◌↔◌};
+ghost use Rattle.std.specs.Prelude.{◌≡◌, ℕ, ◌+◌, ◌-◌, ◌*◌, ◌<◌, ◌≤◌, ◌++◌, [], List, drop, length, take, replicate, slice_get, Some, None, is_some, true, IsTrue, ◌↔◌};
 ghost use Rattle.pieces.specs.Cuts.{IsNext};
 
 use crate::cutter::{Cutter, ZEROS};
+use crate::next_cuts::NextCuts;
 
 /// The version 1 part of a hybrid.
 #[derive(Clone, Copy, Debug, PartialEq)]
@@ -33,6 +34,7 @@ pub struct V1Feed<'a> {
 
 impl<'a> V1Feed<'a> {
     ghost use Rattle.pieces.specs.Cutting.{IsCutting};
+    ghost use Rattle.pieces.specs.NextCuts.{KnowsCuts};
     ghost use Rattle.pieces.specs.Feeding.{BeginsStream, ComparesCut, CountsContent, EndsStream, FeedsStream, FillsCut, MakesRoom, bytes_given, total};
 
     /// A feed that was given nothing, for a stream of the length that the hybrid states. Condition:
@@ -73,9 +75,10 @@ impl<'a> V1Feed<'a> {
         requires { bytes_given self.old + length bytes.now ≤ total self.old }
         ensures { FeedsStream self.old bytes.now self.new }
     {
+        let mut next = NextCuts::new();
         let mut start = 0;
         'parts: while start < bytes.len() {
-            start += self.take_part(&bytes[start..]);
+            start += self.take_part(&mut next, &bytes[start..]);
         }
     }
 
@@ -112,19 +115,22 @@ impl<'a> V1Feed<'a> {
     }
 
     // Takes the first of these bytes, at most as many as there is room for in the running cut.
-    fn take_part(&mut self, bytes: &[u8]) -> usize
+    fn take_part(&mut self, next: &mut NextCuts, bytes: &[u8]) -> usize
         requires some { 0 < length bytes.now }
         requires room { bytes_given self.old + length bytes.now ≤ total self.old }
+        requires next { KnowsCuts next.old self.old.cutter.piece_length bytes.now }
         ensures some { 0 < result }
         ensures bound { result ≤ length bytes.now }
         ensures feeds { FeedsStream self.old (take result bytes.now) self.new }
+        ensures next { result < length bytes.now
+            → KnowsCuts next.new self.new.cutter.piece_length (drop result bytes.now) }
     {
         self.make_room();
         if self.bad.is_some() {
             self.skip(bytes.len() as u64);
             return bytes.len();
         }
-        self.fill(bytes)
+        self.fill(next, bytes)
     }
 
     // Closes the running cut if it is full.
@@ -132,6 +138,7 @@ impl<'a> V1Feed<'a> {
         ensures total { total self.new ≡ total self.old }
         ensures given { bytes_given self.new ≡ bytes_given self.old }
         ensures open { self.new.cutter.filled < self.new.cutter.piece_length }
+        ensures piece_length { self.new.cutter.piece_length ≡ self.old.cutter.piece_length }
         ensures content { MakesRoom self.old self.new }
     {
         if self.cutter.is_full() {
@@ -140,8 +147,9 @@ impl<'a> V1Feed<'a> {
     }
 
     // Takes the first of these bytes into the running cut, as many as there is room for in it.
-    fn fill(&mut self, bytes: &[u8]) -> usize
+    fn fill(&mut self, next: &mut NextCuts, bytes: &[u8]) -> usize
         requires some { 0 < length bytes.now }
+        requires next { KnowsCuts next.old self.old.cutter.piece_length bytes.now }
         requires room { bytes_given self.old + length bytes.now ≤ total self.old }
         requires open { self.old.cutter.filled < self.old.cutter.piece_length }
         ensures some { 0 < result }
@@ -149,8 +157,9 @@ impl<'a> V1Feed<'a> {
         ensures total { total self.new ≡ total self.old }
         ensures given { bytes_given self.new ≡ bytes_given self.old + result }
         ensures content { FillsCut self.old (take result bytes.now) self.new }
+        ensures next { KnowsCuts next.new self.new.cutter.piece_length (drop result bytes.now) }
     {
-        let taken = self.cutter.take(bytes);
+        let taken = next.fill(&mut self.cutter, bytes);
         self.given += taken as u64;
         taken
     }

@@ -4,12 +4,13 @@ ghost use Rattle.std.specs.Process.{exit_status};
 
 use crate::system::System;
 use benc::FromWrite;
-use printing::{Fault, fault_line};
+use printing::{Fault, fault_line, write_escaped};
 use std::io::{IsTerminal, Write};
 use std::process::ExitCode;
 
-/// Prints the fault's line on standard error, and on a terminal a line with the reason behind it,
-/// if the system gave one. Gives the exit status of a fault. What cannot be written is lost.
+/// Prints the fault's line on standard error, and on a terminal, or if reasons are asked for, a
+/// line with the reason behind it, if the system gave one. Gives the exit status of a fault. What
+/// cannot be written is lost.
 pub fn print_fault(system: &System, fault: &Fault<'_>) -> ExitCode
     ensures { exit_status result ≡ 2 }
 {
@@ -18,13 +19,36 @@ pub fn print_fault(system: &System, fault: &Fault<'_>) -> ExitCode
     ExitCode::from(2)
 }
 
-// Prints why a file could not be read or written, on a terminal alone.
+/// Prints on standard error why the file with this path was not read, if reasons are asked for and
+/// the system gave one. What cannot be written is lost.
+pub(crate) fn print_reason_of(system: &System, path: &str) {
+    if !system.shows_reasons() {
+        return;
+    }
+    let Some(cause) = system.cause() else {
+        return;
+    };
+    let _ = system.rt().stderr().write_all(b"reason: ");
+    let _ = write_escaped(&mut FromWrite::new(system.rt().stderr()), path.as_bytes());
+    let _ = writeln!(system.rt().stderr(), ": {cause}");
+}
+
+// Prints why a file could not be read or written, on a terminal or if reasons are asked for.
 fn print_reason(system: &System, fault: &Fault<'_>) {
-    if !has_reason(fault) || !system.rt().stderr().is_terminal() {
+    let is_shown = system.shows_reasons() || system.rt().stderr().is_terminal();
+    if !has_reason(fault) || !is_shown {
         return;
     }
     if let Some(cause) = system.cause() {
-        let _ = writeln!(system.rt().stderr(), "reason: {cause}");
+        let _ = writeln!(system.rt().stderr(), "reason: {cause}{}", hint(fault));
+    }
+}
+
+// What may be meant by the path of a fault, if it is one that other programs have for a stream.
+fn hint(fault: &Fault<'_>) -> &'static str {
+    match fault {
+        Fault::Read("-") => "; /dev/stdin is standard input",
+        _ => "",
     }
 }
 

@@ -1,19 +1,20 @@
 //! A folder of the file system as a shelf.
-ghost use Rattle.std.specs.Prelude.{◌≡◌, [], ◌∷◌, ◌++◌, None, IfOk, ⊤, map, string_bytes};
-ghost use Rattle.real_files.specs.SystemPaths.{system_path_below};
+ghost use Rattle.std.specs.Prelude.{◌≡◌, None, ⊤};
 ghost use Rattle.benc.specs.Device.{one_more};
 
+use crate::fault::print_reason_of;
 use crate::identity::Identity;
+use crate::listing::Listing;
 use crate::noted::Noted;
 use crate::offsets::Offsets;
+use crate::paths::path_below;
 use crate::progress::{Counted, Progress};
 use crate::system::{Cause, System};
 use benc::{DeviceFault, FromRead, Source};
 use folders::{SeekShelf, Shelf, ShelfFault};
 use opening::Torrent;
-use std::alloc::{AllocError, Global};
-use std::convert::AsStr;
-use std::fs::{self, DirEntry, File, Metadata};
+use std::alloc::AllocError;
+use std::fs::{self, File};
 use std::io::{self, ErrorKind, Seek, SeekFrom};
 
 /// The files below a folder. Opening follows symlinks, and fails at what is then no regular file.
@@ -109,7 +110,7 @@ impl<'a> Folder<'a> {
 
     // Which file has these path components here.
     fn identity(&self, path: &[&str]) -> Result<Option<Identity>, AllocError> {
-        let system_path = self.system_path(path)?;
+        let system_path = path_below(self.system.alloc(), self.dir, path)?;
         Ok(Identity::at(self.system.rt(), system_path.as_str()))
     }
 
@@ -120,26 +121,13 @@ impl<'a> Folder<'a> {
         DeviceFault
     }
 
-    // The file system's path of what has these path components here.
-    fn system_path<S: AsStr>(&self, path: &[S]) -> Result<String, AllocError>
-        ensures { IfOk result (λ text. string_bytes text
-            ≡ system_path_below self.now.dir.now (map S.text path.now)) }
-    {
-        let mut text = String::from_str(self.system.alloc(), self.dir)?;
-        'parts: for part in path {
-            text.push('/')?;
-            text.push_str(part.as_str())?;
-        }
-        Ok(text)
-    }
-
     // Opens the file with these path components, and gives its path with it, or answers that the
     // system finds no such name. An empty folder name is none.
     fn open_file(&self, path: &[&str]) -> io::Result<Option<(File, String)>> {
         if self.dir.is_empty() {
             return Ok(None);
         }
-        let system_path = self.system_path(path)?;
+        let system_path = path_below(self.system.alloc(), self.dir, path)?;
         match self.open_regular(system_path.as_str()) {
             Ok(file) => Ok(Some((file, system_path))),
             Err(error) => self.not_opened(error),
@@ -190,6 +178,21 @@ impl<'a> Folder<'a> {
         }
     }
 
+    // Says why a file of a torrent was not opened, where reasons are asked for.
+    fn explain_unopened(&self, path: &[&str]) {
+        if let Ok(text) = path_below(self.system.alloc(), self.dir, path) {
+            self.explain(text.as_str());
+        }
+    }
+
+    // Says why the file of a torrent with this path was not read, where reasons are asked for.
+    fn explain(&self, path: &str) {
+        if self.offsets.is_some() {
+            self.progress.clear();
+            print_reason_of(self.system, path);
+        }
+    }
+
     // What reads a file, so many bytes of all behind the first one.
     fn source(&self, file: File, name: String, before: u64) -> Reading<'a>
         ensures { result.source.faults ≡ 0 }
@@ -206,112 +209,6 @@ impl<'a> Folder<'a> {
             Some(offsets) => offsets.before(path),
             None => self.progress.read(),
         }
-    }
-
-    // Lists all files, folder by folder.
-    fn walk(&self) -> Result<Walk, ShelfFault> {
-        let alloc = self.system.alloc();
-        let mut walk = Walk::from_top(alloc)?;
-        for _ in 0..u64::MAX {
-            let Some(folder) = walk.folders.pop() else {
-                return Ok(walk);
-            };
-            self.list_folder(folder.as_slice(), &mut walk)?;
-        }
-        Err(ShelfFault::Device)
-    }
-
-    // Why a folder was not listed.
-    fn unlisted(&self, error: io::Error) -> ShelfFault {
-        self.system.note(Cause::Error(error));
-        fault_of_io(error)
-    }
-
-    // Lists one folder.
-    fn list_folder(&self, folder: &[String], walk: &mut Walk) -> Result<(), ShelfFault> {
-        let system_path = self.system_path(folder)?;
-        for entry in fs::read_dir(self.system.rt(), system_path).map_err(|e| self.unlisted(e))? {
-            self.list_entry(folder, entry, walk)?;
-        }
-        Ok(())
-    }
-
-    // Lists one entry of a folder.
-    fn list_entry(
-        &self,
-        folder: &[String],
-        entry: io::Result<DirEntry>,
-        walk: &mut Walk,
-    ) -> Result<(), ShelfFault> {
-        let entry = entry.map_err(|e| self.unlisted(e))?;
-        let found = entry.metadata().map_err(|e| self.unlisted(e))?;
-        let path = path_in(self.system.alloc(), folder, entry.file_name())?;
-        walk.note(path, &found)
-    }
-}
-
-// The path of what has this name in a folder.
-fn path_in(alloc: Global, folder: &[String], name: &str) -> Result<Vec<String>, AllocError>
-    ensures { IfOk result (λ path. map string_bytes path.items
-        ≡ map string_bytes folder.now ++ name.now ∷ []) }
-{
-    let mut path = Vec::new(alloc);
-    'parts: for part in folder {
-        path.push(part.clone()?)?;
-    }
-    path.push(String::from_str(alloc, name)?)?;
-    Ok(path)
-}
-
-// Why a folder was not listed. An error without a number is not the system's: a name that is no
-// text, or no memory.
-fn fault_of_io(error: io::Error) -> ShelfFault {
-    match (error.raw_os_error(), error.kind()) {
-        (None, ErrorKind::InvalidFilename) => ShelfFault::Name,
-        (None, ErrorKind::OutOfMemory) => ShelfFault::NoMemory,
-        _ => ShelfFault::Device,
-    }
-}
-
-// The files that were found, and the folders that are still to be listed, each by its path.
-#[derive(Drop)]
-struct Walk {
-    files: Vec<Vec<String>>,
-    folders: Vec<Vec<String>>,
-    // The lengths of the files in all.
-    bytes: u64,
-}
-
-impl Walk {
-    // Only the folder itself is to be listed.
-    fn from_top(alloc: Global) -> Result<Walk, AllocError> {
-        let mut folders = Vec::new(alloc);
-        folders.push(Vec::new(alloc))?;
-        Ok(Walk {
-            files: Vec::new(alloc),
-            folders,
-            bytes: 0,
-        })
-    }
-
-    // Takes up what has this path. Symlinks are not followed.
-    fn note(&mut self, path: Vec<String>, found: &Metadata) -> Result<(), ShelfFault> {
-        if !found.is_file() && !found.is_dir() {
-            return Err(ShelfFault::Special(path));
-        }
-        self.put(path, found)?;
-        Ok(())
-    }
-
-    // Takes up a file or a folder.
-    fn put(&mut self, path: Vec<String>, found: &Metadata) -> Result<(), AllocError> {
-        if found.is_file() {
-            self.bytes = self.bytes.saturating_add(found.len());
-            self.files.push(path)?;
-        } else {
-            self.folders.push(path)?;
-        }
-        Ok(())
     }
 }
 
@@ -330,7 +227,12 @@ impl<'a> Shelf for Folder<'a> {
     ghost faults = { λ s. s.faults };
 
     fn list(&mut self) -> Result<Vec<Vec<String>>, ShelfFault> {
-        let walk = self.walk();
+        let listing = Listing {
+            system: self.system,
+            dir: self.dir,
+            takes_special: false,
+        };
+        let walk = listing.walk();
         if matches!(walk, Err(ShelfFault::Device)) {
             self.fault();
         }
@@ -350,12 +252,19 @@ impl<'a> Shelf for Folder<'a> {
                 self.keep(&file);
                 Ok(Some(self.source(file, name, before)))
             }
-            Err(_) => Err(self.fault()),
+            Err(_) => {
+                self.explain_unopened(path);
+                Err(self.fault())
+            }
         }
     }
 
     fn close(&mut self, file: Self::File) {
-        self.faults = self.faults.wrapping_add(file.failures());
+        let failures = file.failures();
+        if failures > 0 {
+            self.explain(file.name());
+        }
+        self.faults = self.faults.wrapping_add(failures);
     }
 
     fn failures(&self) -> u64 {
@@ -368,6 +277,7 @@ impl SeekShelf for Folder<'_> {
 
     fn open_at(&mut self, path: &[&str], offset: u64) -> Result<Option<Self::File>, DeviceFault> {
         let Ok(found) = self.open_file_at(path, offset) else {
+            self.explain_unopened(path);
             return Err(self.fault());
         };
         match found {

@@ -5,17 +5,23 @@
 mod fault;
 mod folder;
 mod identity;
+mod lengths;
+mod listing;
 mod noted;
 mod offsets;
+mod others;
 mod output;
+mod paths;
 mod progress;
 mod streams;
 mod system;
 
 pub use fault::print_fault;
 pub use folder::Folder;
+pub use lengths::bytes_of;
 pub use noted::{Noted, Output};
-pub use output::create_output;
-pub use progress::{Cleared, Counted, Progress};
+pub use others::{has_folder, others_below};
+pub use output::{create_new_output, create_output, refuse_if_there};
+pub use progress::{Amount, Cleared, Counted, Progress};
 pub use streams::{Placeholders, hold_closed_streams};
 pub use system::{Cause, System};

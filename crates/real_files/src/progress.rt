@@ -9,5 +9,6 @@ mod line;
 mod screen;
 mod terminal;
 
+pub use amount::Amount;
 pub use devices::{Cleared, Counted};
 pub use screen::Progress;

@@ -25,11 +25,22 @@ pub fn hold_closed_streams(rt: &HostRuntime) -> Result<Placeholders, Fault<'stat
 // A file in place of this stream, if that is closed. It is a folder that is always there, so that
 // reading and writing fail as they do at a closed stream.
 fn placeholder<S: AsFd>(rt: &HostRuntime, stream: &S) -> Result<Option<File>, Fault<'static>> {
-    if stream.as_fd().try_clone_to_owned().is_ok() {
+    if !is_closed(stream) {
         return Ok(None);
     }
     match File::open(rt, "/") {
         Ok(folder) => Ok(Some(folder)),
         Err(_) => Err(Fault::Read("/")),
+    }
+}
+
+// What the system answers of a descriptor that is not open, EBADF. It answers something else if no
+// further one may be opened.
+const NOT_OPEN: i32 = 9;
+
+fn is_closed<S: AsFd>(stream: &S) -> bool {
+    match stream.as_fd().try_clone_to_owned() {
+        Ok(_) => false,
+        Err(error) => error.raw_os_error() == Some(NOT_OPEN),
     }
 }

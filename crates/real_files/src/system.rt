@@ -14,6 +14,7 @@ use std::io::{self, ErrorKind};
 pub struct System {
     rt: HostRuntime,
     cause: Cell<Option<Cause>>,
+    shows_reasons: Cell<bool>,
 }
 
 /// Why something could not be read or written.
@@ -31,6 +32,7 @@ impl System {
         System {
             rt: *rt,
             cause: Cell::new(None),
+            shows_reasons: Cell::new(false),
         }
     }
 
@@ -52,6 +54,16 @@ impl System {
     /// Keeps why a call failed.
     pub fn note(&self, cause: Cause) {
         self.cause.set(Some(cause));
+    }
+
+    /// Whether reasons are printed, whatever standard error is.
+    pub fn shows_reasons(&self) -> bool {
+        self.shows_reasons.get()
+    }
+
+    /// From now on reasons are printed, whatever standard error is.
+    pub fn show_reasons(&self) {
+        self.shows_reasons.set(true);
     }
 
     /// Opens the file with this path to read it. The fault is that this path cannot be read.
@@ -89,6 +101,7 @@ impl fmt::Display for Cause {
 fn name_of(kind: ErrorKind) -> Option<&'static str> {
     match kind {
         ErrorKind::NotFound => Some("no such file or folder"),
+        ErrorKind::AlreadyExists => Some("it is there already"),
         ErrorKind::PermissionDenied => Some("permission denied"),
         ErrorKind::IsADirectory => Some("it is a folder"),
         ErrorKind::NotADirectory => Some("a part of the path is no folder"),

@@ -7,32 +7,33 @@ use Rattle.std.proofs.lemmas.List.Folds.{list_any-append}
 use Rattle.std.proofs.Math.Bool.{or-false}
 use Rattle.benc.specs.Device.{SinkSeen, Sent, SentAndFlushed, one_more}
 use Rattle.benc.proofs.Known.{Appends-append}
-use Rattle.wire.specs.declared.fault.FrameFault.TheVariants as fault
-use Rattle.replays.specs.declared.report.FrameReport.{FrameReport}
 use Rattle.replays.specs.declared.report.Outcome.{Outcome}
-use Rattle.replays.specs.ReplayLines.{lines_of}
 use Rattle.replays.specs.Replay.{Handled}
-use Rattle.replays.specs.Replay.{lines_from, reports_of}
+use Rattle.replays.specs.Telling.{Teller}
+use Rattle.replays.specs.Replay.{lines_from, told_of}
 
 -- ---- one more frame, in lists
 
-lines_more : (n : ℕ) (hs : List Handled) (h : Handled) → lines_from n (hs ++ h ∷ []) ≡ lines_from n hs ++ lines_of (n + length hs) h.report
-lines_more n [] h = let same : n ≡ n + 0 = omega arith in append-nil (lines_of n h.report) ∙ ap (λ k. lines_of k h.report) same
-lines_more n (x ∷ hs) h =
+lines_more : {Kept Told : Type 0} (T : Teller Kept Told) (n : ℕ) (hs : List (Handled Told)) (h : Handled Told)
+    → lines_from T n (hs ++ h ∷ []) ≡ lines_from T n hs ++ T.lines (n + length hs) h.told
+lines_more T n [] h = let same : n ≡ n + 0 = omega arith in append-nil (T.lines n h.told) ∙ ap (λ k. T.lines k h.told) same
+lines_more T n (x ∷ hs) h =
     let same : n + 1 + length hs ≡ n + suc (length hs) = omega arith in
-    ap (λ t. lines_of n x.report ++ t) (lines_more (n + 1) hs h ∙ ap (λ k. lines_from (n + 1) hs ++ lines_of k h.report) same)
-    ∙ sym (append_assoc (lines_of n x.report) (lines_from (n + 1) hs) (lines_of (n + suc (length hs)) h.report))
+    ap (λ t. T.lines n x.told ++ t) (lines_more T (n + 1) hs h ∙ ap (λ k. lines_from T (n + 1) hs ++ T.lines k h.told) same)
+    ∙ sym (append_assoc (T.lines n x.told) (lines_from T (n + 1) hs) (T.lines (n + suc (length hs)) h.told))
 
 -- the lines of the frame after these n
-pub next_lines : (hs : List Handled) (h : Handled) (n : ℕ) → n ≡ length hs → lines_from 1 (hs ++ h ∷ []) ≡ lines_from 1 hs ++ lines_of (n + 1) h.report
-next_lines hs h n e =
+pub next_lines : {Kept Told : Type 0} (T : Teller Kept Told) (hs : List (Handled Told)) (h : Handled Told) (n : ℕ) → n ≡ length hs
+    → lines_from T 1 (hs ++ h ∷ []) ≡ lines_from T 1 hs ++ T.lines (n + 1) h.told
+next_lines T hs h n e =
     let same : 1 + length hs ≡ n + 1 = omega arith in
-    lines_more 1 hs h ∙ ap (λ k. lines_from 1 hs ++ lines_of k h.report) same
+    lines_more T 1 hs h ∙ ap (λ k. lines_from T 1 hs ++ T.lines k h.told) same
 
-pub any_more : (p : FrameReport → Bool) (hs : List Handled) (h : Handled) → list_any p (reports_of (hs ++ h ∷ [])) ≡ (list_any p (reports_of hs) || p h.report)
-any_more p hs h =
-    ap (list_any p) (map-append (λ (x : Handled). x.report) hs (h ∷ []))
-    ∙ list_any-append p (reports_of hs) (h.report ∷ []) ∙ ap (λ b. list_any p (reports_of hs) || b) (or-false (p h.report))
+pub any_more : {Told : Type 0} (p : Told → Bool) (hs : List (Handled Told)) (h : Handled Told)
+    → list_any p (told_of (hs ++ h ∷ [])) ≡ (list_any p (told_of hs) || p h.told)
+any_more {Told} p hs h =
+    ap (list_any p) (map-append (λ (x : Handled Told). x.told) hs (h ∷ []))
+    ∙ list_any-append p (told_of hs) (h.told ∷ []) ∙ ap (λ b. list_any p (told_of hs) || b) (or-false (p h.told))
 
 pub outcome_same : (o : Outcome) (a b c : Bool) → o.refused ≡ a → o.no_memory ≡ b → o.fault ≡ c → o ≡ record { refused = a; no_memory = b; fault = c }
 outcome_same o a b c p q r =

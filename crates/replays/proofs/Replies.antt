@@ -36,6 +36,7 @@ use Rattle.session.specs.declared.verdict.Verdict.TheVariants as verdict
 use Rattle.session.proofs.Sessions.{mapped}
 use Rattle.replays.specs.declared.report.FrameReport.{FrameReport}
 use Rattle.replays.specs.declared.report.FrameReport.TheVariants as frame_report
+use Rattle.replays.specs.declared.report.Reply.{Reply}
 use Rattle.replays.specs.declared.report.Reply.TheVariants as reply
 use Rattle.replays.specs.Answering.{Answers, AnswersAsk, HasFewHashes, IfWanted, IsReply, IsWanted, reply_of, reply_to}
 use Rattle.printing.specs.Cut.{BrokeAfter, FailedFlush, Flushed, Unflushed}
@@ -101,6 +102,14 @@ meets_more wanted form S S' (In, frame.Message m) d bytes (v, safe, is, none) re
 meets_more wanted form S S' (Out, frame.Message m) d bytes (v, safe, is, none) replies = (v, safe, is, no_reply wanted S' bytes replies)
 meets_more wanted form S S' (In, frame.BadSize id len) d bytes (is, none, stays) replies = (is, no_reply wanted S' bytes replies, stays)
 meets_more wanted form S S' (Out, frame.BadSize id len) d bytes (is, none, stays) replies = (is, no_reply wanted S' bytes replies, stays)
+
+-- only an answer of hashes depends on what is known
+pub reply_same : (wanted : Bool) (r : Reply) (S S' : SessionSeen) (bytes : List ℕ) → ((ask : Ask) → r ≡ reply.Hashes ask → S' ≡ S) → IsReply wanted S' r bytes
+    → IsReply wanted S r bytes
+reply_same true (reply.Hashes ask) S S' bytes same is = subst (λ x. AnswersAsk x ask bytes) (same ask refl) is
+reply_same true (reply.Reject ask) S S' bytes same is = is
+reply_same true reply.Nothing S S' bytes same is = is
+reply_same false r S S' bytes same is = is
 
 -- hashes answer only what is reported as answered
 pub hashes_answer_requests : (f : Directed Frame) (d : FrameReport) (ask : Ask) → reply_to f d ≡ reply.Hashes ask → d ≡ frame_report.Verdict verdict.Answered

@@ -1,6 +1,6 @@
 -- What a replay has read of its record, and how the record ends.
-use Rattle.std.proofs.Common.{◌≡◌, ◌+◌, ◌++◌, ℕ, Bool, List, [], ◌∷◌, Option, Some, None, refl}
-use Rattle.std.proofs.Common.{sym, ap, ◌∙◌, subst, arith}
+use Rattle.std.proofs.Common.{◌≡◌, ◌++◌, ℕ, Bool, List, [], ◌∷◌, Option, Some, None, refl}
+use Rattle.std.proofs.Common.{sym, ap, ◌∙◌, subst}
 use Rattle.std.specs.Prelude.{is_some}
 use Rattle.std.proofs.lemmas.Option.{same_Some}
 use Rattle.std.proofs.lemmas.List.Elements.{All-nil}
@@ -17,38 +17,40 @@ use Rattle.wire.specs.Reading.{Gave}
 use Rattle.wire.specs.RecordReading.{EndsRecord, GavePart, StopsAt, StopsInRecord}
 use Rattle.wire.specs.Records.{Directed, MayStand}
 use Rattle.chains.specs.Chain.{Chain}
-use Rattle.session.specs.Session.{SessionSeen}
 use Rattle.chains.proofs.Chains.{Chain-more}
 use Rattle.replays.specs.declared.report.Ending.{Ending}
 use Rattle.replays.specs.declared.report.Ending.TheVariants as ending
-use Rattle.replays.specs.Replay.{GaveRecord, Handled, Handles, HandlesNext}
+use Rattle.replays.specs.Telling.{Teller}
+use Rattle.replays.specs.Replay.{Beside, GaveRecord, Handled, Handles, HandlesNext}
 use Rattle.replays.specs.Replay.{IsEnding, CountsEnding, Replayed, ReplaySeen, FindsEnding}
 
 -- ---- what a source gave
 
 -- the steps so far, of a record whose form is known once a frame was asked for
-abbrev RunsBy : Bool → Option Form → SessionSeen → List (Directed (List ℕ)) → List Handled → SessionSeen → Type 0
-RunsBy wanted None S ds hs S' = (hs ≡ []) × (S' ≡ S)
-RunsBy wanted (Some form) S ds hs S' = Chain (Handles wanted form) S ds hs S'
+abbrev RunsBy : {Kept Told : Type 0} → Teller Kept Told → Bool → Bool → Option Form → Beside Kept → List (Directed (List ℕ)) → List (Handled Told)
+    → Beside Kept → Type 0
+RunsBy T cuts wanted None S ds hs S' = (hs ≡ []) × (S' ≡ S)
+RunsBy T cuts wanted (Some form) S ds hs S' = Chain (Handles T cuts wanted form) S ds hs S'
 
 -- the frames so far, and what was made of them
-pub record SoFar (wanted : Bool) (known : Option Form) (old now : SourceSeen) (S S' : SessionSeen) (handled : List Handled) : Type 0 where
+pub record SoFar {Kept Told : Type 0} (T : Teller Kept Told) (cuts wanted : Bool) (known : Option Form) (old now : SourceSeen) (S S' : Beside Kept)
+    (handled : List (Handled Told)) : Type 0 where
   pub frames : List (Directed (List ℕ))
   pub read : HasRead old now known frames
-  pub run : RunsBy wanted known S frames handled S'
+  pub run : RunsBy T cuts wanted known S frames handled S'
   pub counted : now.faults ≡ old.faults
 
-pub so_far_none : (wanted : Bool) (s : SourceSeen) (S : SessionSeen) → SoFar wanted None s s S S []
-so_far_none wanted s S = record { frames = []; read = read_nothing s s refl; run = (refl, refl); counted = refl }
+pub so_far_none : {Kept Told : Type 0} (T : Teller Kept Told) (cuts wanted : Bool) (s : SourceSeen) (S : Beside Kept) → SoFar T cuts wanted None s s S S []
+so_far_none T cuts wanted s S = record { frames = []; read = read_nothing s s refl; run = (refl, refl); counted = refl }
 
 -- whichever form the next part has, the frames so far have it
-pub run_at : (wanted : Bool) (known : Option Form) (form : Form) (part : List ℕ) (a b c : SourceSeen) (S S' : SessionSeen) (ds : List (Directed (List ℕ)))
-    (hs : List Handled)
-    → HasRead a b known ds → GavePart known form part b c → RunsBy wanted known S ds hs S' → Chain (Handles wanted form) S ds hs S'
-run_at wanted None form part a b c S S' ds hs r p run =
-    subst (λ xs. Chain (Handles wanted form) S xs hs S') (sym r.are.0) (subst (λ ys. Chain (Handles wanted form) S [] ys S') (sym run.0) run.1)
-run_at wanted (Some k) form part a b c S S' ds hs r p run =
-    subst (λ f. Chain (Handles wanted f) S ds hs S') (sym p.reads.0) run
+pub run_at : {Kept Told : Type 0} (T : Teller Kept Told) (cuts wanted : Bool) (known : Option Form) (form : Form) (part : List ℕ) (a b c : SourceSeen)
+    (S S' : Beside Kept) (ds : List (Directed (List ℕ))) (hs : List (Handled Told))
+    → HasRead a b known ds → GavePart known form part b c → RunsBy T cuts wanted known S ds hs S' → Chain (Handles T cuts wanted form) S ds hs S'
+run_at T cuts wanted None form part a b c S S' ds hs r p run =
+    subst (λ xs. Chain (Handles T cuts wanted form) S xs hs S') (sym r.are.0) (subst (λ ys. Chain (Handles T cuts wanted form) S [] ys S') (sym run.0) run.1)
+run_at T cuts wanted (Some k) form part a b c S S' ds hs r p run =
+    subst (λ f. Chain (Handles T cuts wanted f) S ds hs S') (sym p.reads.0) run
 
 nothing_read : (a b : SourceSeen) → b ≡ a → GaveRecord a b One [] []
 nothing_read a b e = record {
@@ -58,9 +60,10 @@ nothing_read a b e = record {
 }
 
 -- out of memory before the first frame
-pub replayed_nothing : (old new : ReplaySeen) → new.source ≡ old.source → new.session ≡ old.session → Replayed old new [] (Some (ending.Fault fault.NoMemory))
+pub replayed_nothing : {Kept Told : Type 0} (T : Teller Kept Told) (old new : ReplaySeen Kept) → new.source ≡ old.source → new.state ≡ old.state
+    → Replayed T old new [] (Some (ending.Fault fault.NoMemory))
 unfolding nothing_read
-replayed_nothing old new source session = record {
+replayed_nothing T old new source session = record {
   form = One;
   frames = [];
   rest = [];
@@ -86,19 +89,20 @@ no_frames a b ds r = record {
 }
 
 -- a replay that has not ended
-pub replayed_of : (known : Option Form) (old now : ReplaySeen) (hs : List Handled) → SoFar (is_some old.answers) known old.source now.source
-    old.session now.session hs → Replayed old now hs None
-replayed_of None old now hs s = record {
+pub replayed_of : {Kept Told : Type 0} (T : Teller Kept Told) (known : Option Form) (old now : ReplaySeen Kept) (hs : List (Handled Told))
+    → SoFar T old.cuts (is_some old.answers) known old.source now.source
+    old.state now.state hs → Replayed T old now hs None
+replayed_of T None old now hs s = record {
   form = One;
   frames = [];
   rest = [];
   read = no_frames old.source now.source s.frames s.read;
-  run = subst (λ ys. Chain (Handles (is_some old.answers) One) old.session [] ys now.session) (sym s.run.0) s.run.1;
+  run = subst (λ ys. Chain (Handles T old.cuts (is_some old.answers) One) old.state [] ys now.state) (sym s.run.0) s.run.1;
   ended = refl;
   unread = λ e. let no : ⊥ = cc in absurd no;
   counted = s.counted;
 }
-replayed_of (Some form) old now hs s = record {
+replayed_of T (Some form) old now hs s = record {
   form = form;
   frames = s.frames;
   rest = [];
@@ -110,28 +114,31 @@ replayed_of (Some form) old now hs s = record {
 }
 
 -- one more frame
-pub so_far_more : (wanted : Bool) (known : Option Form) (form : Form) (old mid new : SourceSeen) (S S' S'' : SessionSeen) (hs : List Handled) (h : Handled)
-    → SoFar wanted known old mid S S' hs → HandlesNext wanted known form mid new S' S'' h → SoFar wanted (Some form) old new S S'' (hs ++ h ∷ [])
-so_far_more wanted known form old mid new S S' S'' hs h s next = record {
+pub so_far_more : {Kept Told : Type 0} (T : Teller Kept Told) (cuts wanted : Bool) (known : Option Form) (form : Form) (old mid new : SourceSeen)
+    (S S' S'' : Beside Kept) (hs : List (Handled Told)) (h : Handled Told)
+    → SoFar T cuts wanted known old mid S S' hs → HandlesNext T cuts wanted known form mid new S' S'' h → SoFar T cuts wanted (Some form) old new S S''
+    (hs ++ h ∷ [])
+so_far_more T cuts wanted known form old mid new S S' S'' hs h s next = record {
   frames = s.frames ++ next.directed ∷ [];
   read = read_more old mid new known form s.frames next.directed s.read next.gave;
-  run = Chain-more (Handles wanted form) S s.frames hs S' next.directed h S''
-      (run_at wanted known form _ old mid new S S' s.frames hs s.read next.gave.part s.run) next.step;
+  run = Chain-more (Handles T cuts wanted form) S s.frames hs S' next.directed h S''
+      (run_at T cuts wanted known form _ old mid new S S' s.frames hs s.read next.gave.part s.run) next.step;
   counted = next.gave.faults ∙ s.counted;
 }
 
 -- less than a frame, and then the end
-pub replayed_ends : (known : Option Form) (old mid new : ReplaySeen) (hs : List Handled) (e : Ending)
-    → SoFar (is_some old.answers) known old.source mid.source old.session mid.session hs → FindsEnding known mid.source new.source e → new.session ≡ mid.session
-    → Replayed old new hs (Some e)
-replayed_ends known old mid new hs e s next stays = record {
+pub replayed_ends : {Kept Told : Type 0} (T : Teller Kept Told) (known : Option Form) (old mid new : ReplaySeen Kept) (hs : List (Handled Told)) (e : Ending)
+    → SoFar T old.cuts (is_some old.answers) known old.source mid.source old.state mid.state hs → FindsEnding known mid.source new.source e
+    → new.state ≡ mid.state → Replayed T old new hs (Some e)
+replayed_ends T known old mid new hs e s next stays = record {
   form = next.form;
   frames = s.frames;
   rest = next.part;
   read = record_of old.source new.source next.form s.frames next.part (read_to old.source mid.source new.source known next.form s.frames next.part s.read
       next.gave next.cut);
-  run = subst (Chain (Handles (is_some old.answers) next.form) old.session s.frames hs) (sym stays)
-      (run_at (is_some old.answers) known next.form next.part old.source mid.source new.source old.session mid.session s.frames hs s.read next.gave s.run);
+  run = subst (Chain (Handles T old.cuts (is_some old.answers) next.form) old.state s.frames hs) (sym stays)
+      (run_at T old.cuts (is_some old.answers) known next.form next.part old.source mid.source new.source old.state mid.state s.frames hs s.read
+      next.gave s.run);
   ended = next.ended;
   unread = λ is. absurd (next.had_room (same_Some e (ending.Fault fault.NoMemory) is));
   counted = subst (λ n. CountsEnding n new.source.faults (Some e)) s.counted next.counted;

@@ -1,5 +1,5 @@
 -- What the lines of a replay's report amount to.
-use Rattle.std.specs.Prelude.{ℕ, Bool, true, false, ◌||◌, if◌then◌else◌, List, is_some}
+use Rattle.std.specs.Prelude.{ℕ, Bool, true, false, ◌||◌, if◌then◌else◌, is_some}
 use Rattle.std.specs.List.{list_any}
 use Rattle.partial_tree.specs.declared.refusal.HashRefusal.TheVariants.{NoMemory}
 use Rattle.session.specs.declared.verdict.Verdict.TheVariants as verdict
@@ -26,14 +26,6 @@ is_no_memory t = false
 abbrev pub is_fault : Ending → Bool
 is_fault ending.End = false
 is_fault (ending.Fault why) = true
-
--- what all the lines amount to
-abbrev pub outcome_of : List FrameReport → Ending → Outcome
-outcome_of lines last = record {
-  refused = list_any is_refusal lines;
-  no_memory = list_any is_no_memory lines;
-  fault = is_fault last;
-}
 
 -- the exit status: 2 for a fault or `refused H7`, else 1 for `refused` or `bad frame`, else 0
 abbrev pub status_of : Outcome → ℕ

@@ -2,9 +2,17 @@
 #![tactic(auto)]
 
 mod answering;
+mod by_pieces;
+mod entries;
 mod lines_of_frame;
+mod naming;
 mod replaying;
+mod replaying_pieces;
 mod report;
+mod said;
+mod settlings;
+mod telling;
 
-pub use replaying::replay;
+pub use replaying::{replay, replay_as, replay_onto};
+pub use replaying_pieces::{replay_pieces, replay_pieces_onto};
 pub use report::Outcome;

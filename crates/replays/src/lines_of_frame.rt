@@ -1,173 +1,155 @@
 //! What a replay prints of one frame: one line, or a line for each block.
-ghost use Rattle.std.specs.Prelude.{◌≡◌, ◌+◌, ◌≤◌, ◌++◌, length, codes, decimal, ◌<◌};
-ghost use Rattle.replays.specs.ReplayLines.{IsOneLine, line_text, refused_text, frame_text, verdict_text, entry_lines, entry_text, place_text};
+ghost use Rattle.std.specs.Prelude.{◌≡◌, ◌<◌, [], None, length};
 ghost use Rattle.benc.specs.Device.{Wrote};
+ghost use Rattle.lines.specs.Table.{refused_row, row_of};
+ghost use Rattle.replays.specs.ReplayLines.{IsOneLine};
+ghost use Rattle.replays.specs.ReplayRows.{entry_lines_as, entry_row, lines_as, refused_entry_row, report_row, verdict_row};
 
 use crate::report::FrameReport;
-use benc::{DeviceFault, Sink, write_all};
-use printing::Line;
+use benc::DeviceFault;
+use lines::{Line, LineSink, say};
 use session::{BlockRefusal, Blocks, Verdict};
 
-/// How many bytes the number of a frame has at most, with the space after it.
-pub(crate) const NUMBER: usize = 21;
-
-/// How many bytes one line has at most after the number of its frame.
-pub(crate) const TEXT: usize = 60;
-
-// How many bytes the name of a refusal has at most.
-const NAME: usize = 11;
-
-// How many bytes the word before a count has at most, with the space after it.
-const WORD: usize = 8;
-
-/// The line of the frame of this number, which is no message of blocks.
-pub(crate) fn line_of_frame(number: u64, frame: &FrameReport) -> Line
-    requires { IsOneLine frame.now }
-    ensures { result ≡ line_text number (frame_text frame.now) }
-{
-    let mut line = Line::new();
-    line.put_number(number);
-    line.put(b" ");
-    put_frame(&mut line, frame);
-    line.put(b"\n");
-    line
-}
-
-/// A refusal: a letter, its number and its name.
-pub(crate) fn put_refused(line: &mut Line, letter: &[u8], number: u32, name: &str)
-    requires line { length line.old ≤ NUMBER }
-    requires letter { length letter.now ≤ 1 }
-    requires name { length name.now ≤ NAME }
-    ensures text { line.new ≡ line.old ++ refused_text letter.now number name.now }
-    ensures bound { length line.new ≤ length line.old + TEXT }
-{
-    line.put(b"refused ");
-    line.put(letter);
-    line.put_number(u64::from(number));
-    line.put(b" ");
-    line.put(name.as_bytes());
-}
-
-fn put_frame(line: &mut Line, frame: &FrameReport)
-    requires line { length line.old ≤ NUMBER }
-    requires frame { IsOneLine frame.now }
-    ensures text { line.new ≡ line.old ++ frame_text frame.now }
-    ensures bound { length line.new ≤ length line.old + TEXT }
+/// Writes the lines of the frame of this number.
+#[tactic(auto, unfolding(crate::specs::ReplayRows::lines_as))]
+pub(crate) fn write_frame<L: LineSink>(
+    report: &mut L,
+    number: u64,
+    frame: &FrameReport,
+) -> Result<(), DeviceFault>
+    ensures { Wrote (L.seen report.old) (L.seen report.new) result
+        (lines_as L.spelled number frame.now) }
 {
     match frame {
-        FrameReport::Verdict(verdict) => put_verdict(line, verdict),
-        FrameReport::BadFrame { id, len } => put_bad_frame(line, *id, *len),
+        FrameReport::Verdict(Verdict::Blocks(blocks)) => write_blocks(report, number, blocks),
+        _ => say(&line_of_frame(number, frame), report),
     }
 }
 
-fn put_bad_frame(line: &mut Line, id: u8, len: u32)
-    requires { length line.old ≤ NUMBER }
-    ensures text { line.new ≡ line.old ++ frame_text (FrameReport.BadFrame id len) }
-    ensures bound { length line.new ≤ length line.old + TEXT }
+// The line of the frame of this number, which is no message of blocks.
+fn line_of_frame(number: u64, frame: &FrameReport) -> Line<'static>
+    requires { IsOneLine frame.now }
+    ensures { row_of result ≡ report_row number frame.now }
 {
-    line.put(b"bad frame ");
-    line.put_number(u64::from(id));
-    line.put(b" ");
-    line.put_number(u64::from(len));
+    match frame {
+        FrameReport::Verdict(verdict) => line_of_verdict(number, verdict),
+        FrameReport::BadFrame { id, len } => Line::BadFrame {
+            frame: number,
+            id: u64::from(*id),
+            length: u64::from(*len),
+        },
+    }
 }
 
-fn put_verdict(line: &mut Line, verdict: &Verdict)
-    requires line { length line.old ≤ NUMBER }
-    requires verdict { IsOneLine (FrameReport.Verdict verdict.now) }
-    ensures text { line.new ≡ line.old ++ verdict_text verdict.now }
-    ensures bound { length line.new ≤ length line.old + TEXT }
+fn line_of_verdict(number: u64, verdict: &Verdict) -> Line<'static>
+    requires { IsOneLine (FrameReport.Verdict verdict.now) }
+    ensures { row_of result ≡ verdict_row number verdict.now }
 {
     match verdict {
-        Verdict::Stored(count) => put_counted(line, b"stored ", *count),
-        Verdict::HashRefused(refusal) => {
-            put_refused(line, b"H", refusal.number(), refusal.name());
-        }
+        Verdict::Stored(count) => Line::Stored {
+            frame: number,
+            count: *count,
+        },
+        Verdict::HashRefused(why) => refused(number, "H", why.number(), why.name()),
         Verdict::Blocks(_) => unreachable!(),
-        Verdict::BlockRefused(refusal) => {
-            put_refused(line, b"P", refusal.number(), refusal.name());
-        }
-        Verdict::Answered => line.put(b"answered"),
-        Verdict::Rejected => line.put(b"rejected"),
-        Verdict::RejectNoted => line.put(b"reject noted"),
-        Verdict::KeepAlive => line.put(b"keep-alive"),
-        Verdict::Skipped(id) => put_counted(line, b"skipped ", u64::from(*id)),
-        Verdict::Noted => line.put(b"sent request"),
-        Verdict::Sent => line.put(b"sent"),
+        Verdict::BlockRefused(why) => refused(number, "P", why.number(), why.name()),
+        Verdict::Answered => Line::Answered(number),
+        Verdict::Rejected => Line::Rejected(number),
+        Verdict::RejectNoted => Line::RejectNoted(number),
+        Verdict::KeepAlive => Line::KeepAlive(number),
+        Verdict::Skipped(id) => Line::Skipped {
+            frame: number,
+            id: u64::from(*id),
+        },
+        Verdict::Noted => Line::SentRequest(number),
+        Verdict::Sent => Line::Sent(number),
     }
 }
 
-// A word, and a number after it.
-fn put_counted(line: &mut Line, word: &[u8], number: u64)
-    requires line { length line.old ≤ NUMBER }
-    requires word { length word.now ≤ WORD }
-    ensures text { line.new ≡ line.old ++ (word.now ++ decimal number) }
-    ensures bound { length line.new ≤ length line.old + TEXT }
+/// The line of a refusal in this frame: a letter, its number and its name.
+pub(crate) fn refused(
+    frame: u64,
+    letter: &'static str,
+    number: u32,
+    name: &'static str,
+) -> Line<'static>
+    ensures { row_of result ≡ refused_row frame letter.now number name.now [] }
 {
-    line.put(word);
-    line.put_number(number);
+    Line::Refused {
+        frame,
+        letter,
+        number: u64::from(number),
+        name,
+    }
 }
 
-// How many bytes the place of a block has at most: two numbers and a space.
-const PLACE: usize = 41;
-
-/// Writes a line for each block of the message in the frame of this number.
-pub(crate) fn write_blocks<W: Sink>(
-    report: &mut W,
+// Writes a line for each block of the message in the frame of this number.
+fn write_blocks<L: LineSink>(
+    report: &mut L,
     number: u64,
     blocks: &Blocks,
 ) -> Result<(), DeviceFault>
-    ensures { Wrote (W.seen report.old) (W.seen report.new) result
-        (entry_lines number blocks.now 0 blocks.now.refusals) }
+    ensures { Wrote (L.seen report.old) (L.seen report.new) result
+        (entry_lines_as L.spelled number blocks.now 0 blocks.now.refusals) }
 {
     'entries: for entry in 0..blocks.len() {
         let line = line_of_entry(number, blocks, entry, blocks.refusal(entry));
-        write_all(report, line.as_slice())?;
+        say(&line, report)?;
     }
     Ok(())
 }
 
-fn line_of_entry(number: u64, blocks: &Blocks, entry: usize, refusal: Option<BlockRefusal>) -> Line
+/// The line of an entry of the message in the frame of this number: a verified block's place, or
+/// why it is refused. Condition: there are more than `entry` entries.
+pub(crate) fn line_of_entry(
+    number: u64,
+    blocks: &Blocks,
+    entry: usize,
+    refusal: Option<BlockRefusal>,
+) -> Line<'static>
     requires { entry < length blocks.now.refusals }
-    ensures { result ≡ line_text number (entry_text blocks.now entry refusal) }
-{
-    let mut line = Line::new();
-    line.put_number(number);
-    line.put(b" ");
-    put_entry(&mut line, blocks, entry, refusal);
-    line.put(b"\n");
-    line
-}
-
-// A verified block's place, or why it is refused, with its place if there are several.
-fn put_entry(line: &mut Line, blocks: &Blocks, entry: usize, refusal: Option<BlockRefusal>)
-    requires line { length line.old ≤ NUMBER }
-    requires entry { entry < length blocks.now.refusals }
-    ensures text { line.new ≡ line.old ++ entry_text blocks.now entry refusal }
-    ensures bound { length line.new ≤ length line.old + TEXT + 1 + PLACE }
+    ensures { row_of result ≡ entry_row number blocks.now entry refusal }
 {
     match refusal {
-        None => {
-            line.put(b"verified ");
-            put_place(line, blocks, entry);
-        }
-        Some(why) => {
-            put_refused(line, b"P", why.number(), why.name());
-            if blocks.len() != 1 {
-                line.put(b" ");
-                put_place(line, blocks, entry);
-            }
-        }
+        None => line_of_verified(number, blocks, entry),
+        Some(why) => line_of_refused(number, blocks, entry, why.number(), why.name()),
     }
 }
 
-fn put_place(line: &mut Line, blocks: &Blocks, entry: usize)
-    requires line { length line.old ≤ NUMBER + TEXT + 1 }
-    requires entry { entry < length blocks.now.refusals }
-    ensures text { line.new ≡ line.old ++ place_text blocks.now entry }
-    ensures bound { length line.new ≤ length line.old + PLACE }
+fn line_of_verified(number: u64, blocks: &Blocks, entry: usize) -> Line<'static>
+    requires { entry < length blocks.now.refusals }
+    ensures { row_of result ≡ entry_row number blocks.now entry None }
 {
     let (file, block) = blocks.place(entry);
-    line.put_number(file as u64);
-    line.put(b" ");
-    line.put_number(block);
+    Line::Verified {
+        frame: number,
+        file: file as u64,
+        block,
+    }
+}
+
+/// The line of an entry that is refused by this number and name, with its place if the message has
+/// several. Condition: there are more than `entry` entries.
+pub(crate) fn line_of_refused(
+    frame: u64,
+    blocks: &Blocks,
+    entry: usize,
+    number: u32,
+    name: &'static str,
+) -> Line<'static>
+    requires { entry < length blocks.now.refusals }
+    ensures { row_of result ≡ refused_entry_row frame blocks.now entry number name.now }
+{
+    if blocks.len() == 1 {
+        return refused(frame, "P", number, name);
+    }
+    let (file, block) = blocks.place(entry);
+    Line::RefusedAt {
+        frame,
+        letter: "P",
+        number: u64::from(number),
+        name,
+        file: file as u64,
+        block,
+    }
 }

@@ -1,20 +1,25 @@
 //! The replay of a record: its frames go to a session, and a line reports each.
-ghost use Rattle.std.specs.Prelude.{◌≡◌, [], ◌∷◌, false, None, Some, option_map, IfOk, IfErr, OnOk, OnErr};
-ghost use Rattle.benc.specs.Device.{Wrote, WroteAndFlushed};
+ghost use Rattle.std.specs.Prelude.{◌≡◌, ◌<◌, ◌+◌, ◌^◌, ◌++◌, ◌||◌, [], false, None, Some, IfOk, OnOk, OnErr};
+ghost use Rattle.benc.specs.Device.{WroteAndFlushed};
 ghost use Rattle.replays.specs.Answering.{Finishes, reply_to, sink_after, sink_before};
 ghost use Rattle.replays.specs.Outcome.{is_fault};
-ghost use Rattle.replays.specs.ReplayLines.{lines_of, ending_line_of};
-ghost use Rattle.replays.specs.Replay.{IsCutReport, IsReport, Meets, RespondsNext, StepsBy, FindsEnding, replay_seen};
+ghost use Rattle.lines.specs.Table.{row_of};
+ghost use Rattle.replays.specs.ReplayRows.{ending_row};
+ghost use Rattle.replays.specs.Replay.{IsCutReport, IsHandledAs, IsReport, Meets, StepsBy, replay_seen};
+ghost use Rattle.replays.specs.Telling.{plain, plain_as};
+ghost use Rattle.replays.specs.TellingOf.{NextReply};
 ghost use Rattle.wire.specs.Reader.{HasRoom, IsOpen, KeepsSource};
 ghost use Rattle.wire.specs.RecordReader.{form_of, frame_reader, source_of};
 ghost use Rattle.wire.specs.Records.{form_number};
 ghost use Rattle.wire.specs.declared.form.Form.{Form as FormOf};
 
 use crate::answering::{AnswerFault, Answering, Unwanted};
-use crate::lines_of_frame::{line_of_frame, write_blocks};
-use crate::report::{Ending, FrameReport, Outcome, Reply, Response};
-use benc::{DeviceFault, Sink, Source, WriteFault, write_all};
-use printing::write_line;
+use crate::report::{Ending, FrameReport, Outcome, Reply, Response, Stop};
+use crate::telling::{Plain, Telling};
+use benc::{Sink, Source, WriteFault};
+use lines::{Line, LineSink, say_last};
+use opening::Torrent;
+use padded::without_padding;
 use session::{NodeMap, Session, Verdict};
 use std::alloc::Global;
 use wire::{Direction, Frame, FrameFault, Message, RecordReader};
@@ -40,120 +45,244 @@ pub fn replay<N: NodeMap, R: Source, W: Sink, A: Sink>(
     report: &mut W,
     answers: Option<&mut A>,
 ) -> Result<Outcome, WriteFault>
-    ensures ok { IfOk result (IsReport
-        (replay_seen (R.seen source.old) session.old (W.seen report.old)
+    ensures ok { IfOk result (IsReport plain
+        (replay_seen false (R.seen source.old) session.old tt (W.seen report.old)
         (sink_before A.seen answers.entry))
-        (replay_seen (R.seen source.new) session.new (W.seen report.new)
+        (replay_seen false (R.seen source.new) session.new tt (W.seen report.new)
         (sink_after A.seen answers.exit))) }
-    ensures err { OnErr result (IsCutReport
-        (replay_seen (R.seen source.old) session.old (W.seen report.old)
+    ensures err { OnErr result (IsCutReport plain
+        (replay_seen false (R.seen source.old) session.old tt (W.seen report.old)
         (sink_before A.seen answers.entry))
-        (replay_seen (R.seen source.new) session.new (W.seen report.new)
+        (replay_seen false (R.seen source.new) session.new tt (W.seen report.new)
         (sink_after A.seen answers.exit))) }
 {
     let mut reader = RecordReader::new(alloc, source);
     match answers {
-        Some(out) => replay_reader(session, &mut reader, report, out),
-        None => replay_reader(session, &mut reader, report, &mut Unwanted),
+        Some(out) => replay_reader(session, &mut Plain, &mut reader, report, out, false),
+        None => replay_reader(
+            session,
+            &mut Plain,
+            &mut reader,
+            report,
+            &mut Unwanted,
+            false,
+        ),
+    }
+}
+
+/// The same, but with `cuts` each message is handled exactly as `without_padding` of the crate
+/// `padded` has it: the zeros behind the end of a file, with which a client makes its last block a
+/// whole one, are cut away. Bytes behind the end that are not all zeros stay, and so the message is
+/// refused.
+pub fn replay_as<N: NodeMap, R: Source, W: Sink, A: Sink>(
+    alloc: Global,
+    session: &mut Session<'_, N>,
+    source: &mut R,
+    report: &mut W,
+    answers: Option<&mut A>,
+    cuts: bool,
+) -> Result<Outcome, WriteFault>
+    ensures ok { IfOk result (IsReport plain
+        (replay_seen cuts (R.seen source.old) session.old tt (W.seen report.old)
+        (sink_before A.seen answers.entry))
+        (replay_seen cuts (R.seen source.new) session.new tt (W.seen report.new)
+        (sink_after A.seen answers.exit))) }
+    ensures err { OnErr result (IsCutReport plain
+        (replay_seen cuts (R.seen source.old) session.old tt (W.seen report.old)
+        (sink_before A.seen answers.entry))
+        (replay_seen cuts (R.seen source.new) session.new tt (W.seen report.new)
+        (sink_after A.seen answers.exit))) }
+{
+    let mut reader = RecordReader::new(alloc, source);
+    match answers {
+        Some(out) => replay_reader(session, &mut Plain, &mut reader, report, out, cuts),
+        None => replay_reader(
+            session,
+            &mut Plain,
+            &mut reader,
+            report,
+            &mut Unwanted,
+            cuts,
+        ),
+    }
+}
+
+/// The same as `replay_as`, but the lines go to anything that takes lines, spelled as it spells
+/// them: as texts, or as JSON objects.
+pub fn replay_onto<N: NodeMap, R: Source, L: LineSink, A: Sink>(
+    alloc: Global,
+    session: &mut Session<'_, N>,
+    source: &mut R,
+    report: &mut L,
+    answers: Option<&mut A>,
+    cuts: bool,
+) -> Result<Outcome, WriteFault>
+    ensures ok { IfOk result (IsReport (plain_as L.spelled)
+        (replay_seen cuts (R.seen source.old) session.old tt (L.seen report.old)
+        (sink_before A.seen answers.entry))
+        (replay_seen cuts (R.seen source.new) session.new tt (L.seen report.new)
+        (sink_after A.seen answers.exit))) }
+    ensures err { OnErr result (IsCutReport (plain_as L.spelled)
+        (replay_seen cuts (R.seen source.old) session.old tt (L.seen report.old)
+        (sink_before A.seen answers.entry))
+        (replay_seen cuts (R.seen source.new) session.new tt (L.seen report.new)
+        (sink_after A.seen answers.exit))) }
+{
+    let mut reader = RecordReader::new(alloc, source);
+    match answers {
+        Some(out) => replay_reader(session, &mut Plain, &mut reader, report, out, cuts),
+        None => replay_reader(
+            session,
+            &mut Plain,
+            &mut reader,
+            report,
+            &mut Unwanted,
+            cuts,
+        ),
     }
 }
 
 // Takes the memory, and reads frames to the end or to a fault.
-fn replay_reader<N: NodeMap, R: Source, W: Sink, B: Answering>(
+pub(crate) fn replay_reader<N: NodeMap, K: Telling, R: Source, L: LineSink, B: Answering>(
     session: &mut Session<'_, N>,
+    keeper: &mut K,
     reader: &mut RecordReader<'_, R>,
-    report: &mut W,
+    report: &mut L,
     answers: &mut B,
+    cuts: bool,
 ) -> Result<Outcome, WriteFault>
     requires open { IsOpen (frame_reader reader.old) }
     requires fresh { form_of reader.old ≡ None }
     ensures source { KeepsSource (frame_reader reader.old) (frame_reader reader.new) }
-    ensures ok { IfOk result (IsReport
-        (replay_seen (R.seen (source_of reader.old)) session.old (W.seen report.old)
-        (B.seen answers.old))
-        (replay_seen (R.seen (source_of reader.new)) session.new (W.seen report.new)
-        (B.seen answers.new))) }
-    ensures err { OnErr result (IsCutReport
-        (replay_seen (R.seen (source_of reader.old)) session.old (W.seen report.old)
-        (B.seen answers.old))
-        (replay_seen (R.seen (source_of reader.new)) session.new (W.seen report.new)
-        (B.seen answers.new))) }
+    ensures ok { IfOk result (IsReport (K.teller L.spelled)
+        (replay_seen cuts (R.seen (source_of reader.old)) session.old (K.kept keeper.old)
+        (L.seen report.old) (B.seen answers.old))
+        (replay_seen cuts (R.seen (source_of reader.new)) session.new (K.kept keeper.new)
+        (L.seen report.new) (B.seen answers.new))) }
+    ensures err { OnErr result (IsCutReport (K.teller L.spelled)
+        (replay_seen cuts (R.seen (source_of reader.old)) session.old (K.kept keeper.old)
+        (L.seen report.old) (B.seen answers.old))
+        (replay_seen cuts (R.seen (source_of reader.new)) session.new (K.kept keeper.new)
+        (L.seen report.new) (B.seen answers.new))) }
 {
     match reader.reserve() {
-        Ok(()) => replay_frames(session, reader, report, answers),
-        Err(_) => end_replay(report, answers, Outcome::default(), OUT_OF_MEMORY),
+        Ok(()) => replay_frames(session, keeper, reader, report, answers, cuts),
+        Err(_) => end_replay(report, keeper, answers, Outcome::default(), OUT_OF_MEMORY),
     }
 }
 
 // Reads frames to the end or to a fault.
-fn replay_frames<N: NodeMap, R: Source, W: Sink, B: Answering>(
+fn replay_frames<N: NodeMap, K: Telling, R: Source, L: LineSink, B: Answering>(
     session: &mut Session<'_, N>,
+    keeper: &mut K,
     reader: &mut RecordReader<'_, R>,
-    report: &mut W,
+    report: &mut L,
     answers: &mut B,
+    cuts: bool,
 ) -> Result<Outcome, WriteFault>
     requires open { IsOpen (frame_reader reader.old) }
     requires fresh { form_of reader.old ≡ None }
     requires room { HasRoom (frame_reader reader.old) }
     ensures source { KeepsSource (frame_reader reader.old) (frame_reader reader.new) }
-    ensures ok { IfOk result (IsReport
-        (replay_seen (R.seen (source_of reader.old)) session.old (W.seen report.old)
-        (B.seen answers.old))
-        (replay_seen (R.seen (source_of reader.new)) session.new (W.seen report.new)
-        (B.seen answers.new))) }
-    ensures err { OnErr result (IsCutReport
-        (replay_seen (R.seen (source_of reader.old)) session.old (W.seen report.old)
-        (B.seen answers.old))
-        (replay_seen (R.seen (source_of reader.new)) session.new (W.seen report.new)
-        (B.seen answers.new))) }
+    ensures ok { IfOk result (IsReport (K.teller L.spelled)
+        (replay_seen cuts (R.seen (source_of reader.old)) session.old (K.kept keeper.old)
+        (L.seen report.old) (B.seen answers.old))
+        (replay_seen cuts (R.seen (source_of reader.new)) session.new (K.kept keeper.new)
+        (L.seen report.new) (B.seen answers.new))) }
+    ensures err { OnErr result (IsCutReport (K.teller L.spelled)
+        (replay_seen cuts (R.seen (source_of reader.old)) session.old (K.kept keeper.old)
+        (L.seen report.old) (B.seen answers.old))
+        (replay_seen cuts (R.seen (source_of reader.new)) session.new (K.kept keeper.new)
+        (L.seen report.new) (B.seen answers.new))) }
 {
     let mut outcome = Outcome::default();
     let mut number = 0;
     'frames: loop {
-        let response = match next_response(session, reader) {
-            Ok(response) => response,
-            Err(ending) => return end_replay(report, answers, outcome, ending),
+        let reply = match next_reply(session, keeper, reader, report, number, &mut outcome, cuts) {
+            Ok(reply) => reply,
+            Err(Stop::Ended(ending)) => {
+                return end_replay(report, keeper, answers, outcome, ending);
+            }
+            Err(Stop::Write) => return Err(WriteFault::Write),
         };
         number += 1;
-        outcome.note(&response.report);
-        write_frame(report, number, &response.report)?;
-        match answers.answer(session, response.reply) {
+        match answers.answer(session, reply) {
             Ok(()) => {}
             Err(AnswerFault::NoMemory) => {
-                return end_replay(report, answers, outcome, OUT_OF_MEMORY);
+                return end_replay(report, keeper, answers, outcome, OUT_OF_MEMORY);
             }
             Err(AnswerFault::Write) => return Err(WriteFault::Write),
         }
     }
 }
 
-// What is made of the next frame, or how the record ended if there is none.
-fn next_response<N: NodeMap, R: Source>(
+// Tells the next frame, after so many: what is to be answered to it; or how the record ended if
+// there is none, or that its lines broke off.
+fn next_reply<N: NodeMap, K: Telling, R: Source, L: LineSink>(
     session: &mut Session<'_, N>,
+    keeper: &mut K,
     reader: &mut RecordReader<'_, R>,
-) -> Result<Response, Ending>
+    report: &mut L,
+    number: u64,
+    outcome: &mut Outcome,
+    cuts: bool,
+) -> Result<Reply, Stop>
     requires open { IsOpen (frame_reader reader.old) }
     requires room { HasRoom (frame_reader reader.old) }
+    requires count { number + (R.seen (source_of reader.old)).limit < 2 ^ 64 }
     ensures source { KeepsSource (frame_reader reader.old) (frame_reader reader.new) }
-    ensures frame { IfOk result (λ r. (form : FormOf) × (form_of reader.new ≡ Some form)
-        × RespondsNext (form_of reader.old) form
-        (R.seen (source_of reader.old)) (R.seen (source_of reader.new))
-        session.old session.new r.report r.reply) }
+    ensures next { NextReply (K.teller L.spelled) cuts number
+        (form_of reader.old) (form_of reader.new)
+        (replay_seen cuts (R.seen (source_of reader.old)) session.old (K.kept keeper.old)
+        (L.seen report.old) None)
+        (replay_seen cuts (R.seen (source_of reader.new)) session.new (K.kept keeper.new)
+        (L.seen report.new) None) outcome.old outcome.new result }
     ensures open { OnOk result (IsOpen (frame_reader reader.new)) }
     ensures room { HasRoom (frame_reader reader.new) }
-    ensures ending { IfErr result (FindsEnding (form_of reader.old) (R.seen (source_of reader.old))
-        (R.seen (source_of reader.new))) }
-    ensures stays { OnErr result (session.new ≡ session.old) }
 {
     match reader.advance() {
-        Ok(true) => Ok(take_frame(session, reader.form(), reader.frame())),
-        Ok(false) => Err(Ending::End),
-        Err(fault) => Err(Ending::Fault(fault)),
+        Ok(true) => {
+            let frame = frame_as(session.torrent(), reader.frame(), cuts);
+            let response = respond(session, reader.form(), frame);
+            match keeper.tell(
+                session,
+                report,
+                number + 1,
+                frame,
+                &response.report,
+                outcome,
+            ) {
+                Ok(()) => Ok(response.reply),
+                Err(_) => Err(Stop::Write),
+            }
+        }
+        Ok(false) => Err(Stop::Ended(Ending::End)),
+        Err(fault) => Err(Stop::Ended(Ending::Fault(fault))),
+    }
+}
+
+// The frame, without the zeros behind the end of a file if these are cut away.
+fn frame_as<'a>(
+    torrent: &Torrent<'_>,
+    frame: (Direction, Frame<'a>),
+    cuts: bool,
+) -> (Direction, Frame<'a>)
+    ensures { IsHandledAs torrent.now frame.entry cuts result }
+{
+    let (direction, kept) = frame;
+    match kept {
+        Frame::Message(message) if cuts => {
+            (
+                direction,
+                Frame::Message(without_padding(torrent, &message)),
+            )
+        }
+        kept => (direction, kept),
     }
 }
 
 // Gives the frame's message to the session: what is made of the frame.
-fn take_frame<N: NodeMap>(
+fn respond<N: NodeMap>(
     session: &mut Session<'_, N>,
     form: Option<u8>,
     frame: (Direction, Frame<'_>),
@@ -195,56 +324,56 @@ fn take_message<N: NodeMap>(
     }
 }
 
-// Writes the lines of the frame of this number.
-#[tactic(auto, unfolding(crate::specs::ReplayLines::lines_of))]
-fn write_frame<W: Sink>(report: &mut W, number: u64, frame: &FrameReport) -> Result<(), DeviceFault>
-    ensures { Wrote (W.seen report.old) (W.seen report.new) result (lines_of number frame.now) }
-{
-    match frame {
-        FrameReport::Verdict(Verdict::Blocks(blocks)) => write_blocks(report, number, blocks),
-        _ => write_all(report, line_of_frame(number, frame).as_slice()),
-    }
-}
-
-// Writes the last line and flushes, and then flushes the answers: what the report amounts to then.
-fn end_replay<W: Sink, B: Answering>(
-    report: &mut W,
+// Writes the last lines and flushes, and then flushes the answers: what the report amounts to then.
+fn end_replay<L: LineSink, K: Telling, B: Answering>(
+    report: &mut L,
+    keeper: &K,
     answers: &mut B,
     outcome: Outcome,
     ending: Ending,
 ) -> Result<Outcome, WriteFault>
-    ensures wrote { Finishes (W.seen report.old) (W.seen report.new)
-        (B.seen answers.old) (B.seen answers.new) (ending_line_of ending) result }
-    ensures outcome { IfOk result (λ o. o ≡ record outcome { fault = is_fault ending }) }
+    ensures wrote { Finishes (L.seen report.old) (L.seen report.new)
+        (B.seen answers.old) (B.seen answers.new)
+        ((K.teller L.spelled).rest (K.kept keeper.now)
+        ++ (K.teller L.spelled).ending ending) result }
+    ensures outcome { IfOk result (λ o. o ≡ record outcome {
+      refused = outcome.refused || (K.teller L.spelled).has_rest (K.kept keeper.now);
+      fault = is_fault ending;
+    }) }
 {
-    let outcome = end_report(report, outcome, ending)?;
+    let outcome = end_report(report, keeper, outcome, ending)?;
     answers.finish()?;
     Ok(outcome)
 }
 
-// Writes the last line, and flushes: what the report amounts to then.
-fn end_report<W: Sink>(
-    report: &mut W,
+// Writes the last lines, and flushes: what the report amounts to then.
+fn end_report<L: LineSink, K: Telling>(
+    report: &mut L,
+    keeper: &K,
     mut outcome: Outcome,
     ending: Ending,
 ) -> Result<Outcome, WriteFault>
-    ensures wrote { WroteAndFlushed (W.seen report.old) (W.seen report.new) result
-        (ending_line_of ending) }
-    ensures outcome { IfOk result (λ o. o ≡ record outcome { fault = is_fault ending }) }
+    ensures wrote { WroteAndFlushed (L.seen report.old) (L.seen report.new) result
+        ((K.teller L.spelled).rest (K.kept keeper.now) ++ (K.teller L.spelled).ending ending) }
+    ensures outcome { IfOk result (λ o. o ≡ record outcome {
+      refused = outcome.refused || (K.teller L.spelled).has_rest (K.kept keeper.now);
+      fault = is_fault ending;
+    }) }
 {
-    write_line(report, ending_line(ending))?;
+    outcome.refused |= keeper.tell_rest(report)?;
+    say_last(&line_of_ending(ending), report)?;
     outcome.fault = ending.is_fault();
     Ok(outcome)
 }
 
-fn ending_line(ending: Ending) -> &'static [u8]
-    ensures { result.now ≡ ending_line_of ending }
+fn line_of_ending(ending: Ending) -> Line<'static>
+    ensures { row_of result ≡ ending_row ending }
 {
     match ending {
-        Ending::End => b"end\n",
-        Ending::Fault(FrameFault::Truncated) => b"fault Truncated\n",
-        Ending::Fault(FrameFault::Read) => b"fault Read\n",
-        Ending::Fault(FrameFault::NoMemory) => b"fault NoMemory\n",
-        Ending::Fault(FrameFault::BadDirection) => b"fault BadDirection\n",
+        Ending::End => Line::End,
+        Ending::Fault(FrameFault::Truncated) => Line::Fault("Truncated"),
+        Ending::Fault(FrameFault::Read) => Line::Fault("Read"),
+        Ending::Fault(FrameFault::NoMemory) => Line::Fault("NoMemory"),
+        Ending::Fault(FrameFault::BadDirection) => Line::Fault("BadDirection"),
     }
 }

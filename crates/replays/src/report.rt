@@ -111,6 +111,15 @@ impl Outcome {
     }
 }
 
+/// Why a replay goes on to no further frame.
+#[derive(Clone, Copy)]
+pub(crate) enum Stop {
+    /// The record has ended so.
+    Ended(Ending),
+    /// The lines of a frame broke off.
+    Write,
+}
+
 /// How the reading of a record ended.
 #[derive(Clone, Copy)]
 pub(crate) enum Ending {

@@ -3,15 +3,13 @@ use Rattle.std.proofs.Common.{◌≡◌, ◌⊎◌, ℕ, ◌+◌, ◌-◌, ◌/�
 use Rattle.std.proofs.Common.{IfErr, inl, inr, refl, sym, ap, ◌∙◌, subst, arith, div-one, option_map}
 use Rattle.std.specs.Option.{option_to_list}
 use Rattle.std.proofs.lemmas.List.{length-append}
-use Rattle.std.proofs.lemmas.List.FromFn.{length-map-range_with_len}
-use Rattle.std.proofs.lemmas.Bool.{cond-true, le-leb}
 use Rattle.benc.specs.Device.{SourceSeen}
 use Rattle.folders.specs.TakeAll.{TookAll}
 use Rattle.folders.proofs.Pieces.{all_given}
 use Rattle.hashtree.specs.declared.root.RootBuilder.{RootBuilder}
 use Rattle.hashtree.specs.Complete.{complete_nodes}
 use Rattle.hashtree.specs.RootBuilder.{Feeds, IsFed}
-use Rattle.hashtree.specs.Tree.{block_count, height, layer_count, layer_of, node, root_of}
+use Rattle.hashtree.specs.Tree.{block_count, layer_of, root_of}
 use Rattle.hashtree.proofs.Comparing.{length-layer_of}
 use Rattle.hashtree.proofs.Complete.{length-complete_nodes}
 use Rattle.opening.specs.Description.{TreeEntry}

@@ -1,5 +1,5 @@
 -- Seeding, file by file.
-use Rattle.std.proofs.Common.{◌≡◌, ℕ, suc, ◌+◌, ◌<◌, ◌≤◌, ◌++◌, Bool, false, List, [], ◌∷◌, length, take, Option, Some, None, refl, sym, ap, ◌∙◌, subst}
+use Rattle.std.proofs.Common.{◌≡◌, ℕ, suc, ◌+◌, ◌<◌, ◌≤◌, ◌++◌, Bool, true, false, List, [], ◌∷◌, length, take, Option, Some, None, refl, sym, ap, ◌∙◌, subst}
 use Rattle.std.proofs.Common.{append_assoc, arith}
 use Rattle.std.specs.Prelude.{slice_get}
 use Rattle.std.proofs.lemmas.List.{append-nil, length_push, length-take-le}
@@ -9,23 +9,33 @@ use Rattle.folders.specs.declared.shelf.Shelf.{Ghosts}
 use Rattle.benc.specs.Device.{SourceSeen, SinkSeen, Sent}
 use Rattle.benc.proofs.Out.{Sent-append}
 use Rattle.chains.proofs.Chains.{Chain-next}
+use Rattle.lines.specs.Texts.{items_text, text_of}
 use Rattle.opening.specs.Description.{FileEntry, TreeEntry}
 use Rattle.node_maps.specs.Digest.{Hash}
 use Rattle.folders.specs.Shelf.{more}
-use Rattle.folders.specs.Visits.{OpensOnce}
 use Rattle.session.specs.Session.{SessionSeen}
-use Rattle.seeding.specs.Seeding.{Fills, Finds, HasFitting, SeedStep, SeedsAll, SeedsTree, StopsAtFile, seed_line, seed_lines, shelf_and_session}
+use Rattle.seeding.specs.Seeding.{Fills, Finds, HasFitting, OpensToSeed, SeedStep, SeedsAll, SeedsTree, StopsAtFile, seed_line, seed_line_as, seed_lines}
+use Rattle.seeding.specs.Seeding.{shelf_and_session}
 
 -- ---- lines
 
-lines_more : (fs : List FileEntry) (said : List Bool) (f : FileEntry) (b : Bool) → length said ≡ length fs
-    → seed_lines (fs ++ f ∷ []) (said ++ b ∷ []) ≡ seed_lines fs said ++ seed_line f b
-lines_more [] [] f b same = append-nil (seed_line f b)
-lines_more [] (c ∷ said) f b same = absurd (omega arith)
-lines_more (g ∷ fs) [] f b same = absurd (omega arith)
-lines_more (g ∷ fs) (c ∷ said) f b same =
+lines_more : (line : FileEntry → Bool → List ℕ) (fs : List FileEntry) (said : List Bool) (f : FileEntry) (b : Bool) → length said ≡ length fs
+    → seed_lines line (fs ++ f ∷ []) (said ++ b ∷ []) ≡ seed_lines line fs said ++ line f b
+lines_more line [] [] f b same = append-nil (line f b)
+lines_more line [] (c ∷ said) f b same = absurd (omega arith)
+lines_more line (g ∷ fs) [] f b same = absurd (omega arith)
+lines_more line (g ∷ fs) (c ∷ said) f b same =
     let rest : length said ≡ length fs = omega arith in
-    ap (λ t. seed_line g c ++ t) (lines_more fs said f b rest) ∙ sym (append_assoc (seed_line g c) (seed_lines fs said) (seed_line f b))
+    ap (λ t. line g c ++ t) (lines_more line fs said f b rest) ∙ sym (append_assoc (line g c) (seed_lines line fs said) (line f b))
+
+-- the line of a file as text is its row as it is printed
+line_is : (f : FileEntry) (seeded : Bool) → seed_line_as text_of f seeded ≡ seed_line f seeded
+unfolding items_text
+line_is f true = refl
+line_is f false = refl
+
+pub lines_are : seed_line_as text_of ≡ seed_line
+lines_are = λ i f seeded. line_is f seeded i
 
 -- ---- one file
 
@@ -36,13 +46,13 @@ module _ {S F : Type 0} (shelf : Ghosts S F) (seen : F → SourceSeen) where
 
   -- a file's leaves were found
   pub seeds_filled : (seeded : Bool) (s s' : S) (K K' : SessionSeen) (f : FileEntry) (n : ℕ) (e : TreeEntry) (leaves : List Hash)
-      → slice_get K.torrent.trees n ≡ Some e → e.length ≡ f.length → OpensOnce shelf seen s f.path (e.length + 1) s' → Found s f e (Some leaves) s'
+      → slice_get K.torrent.trees n ≡ Some e → e.length ≡ f.length → OpensToSeed shelf seen s f.path e.length true s' → Found s f e (Some leaves) s'
       → shelf.contents s' ≡ shelf.contents s → Fills K n (Some leaves) seeded K'
       → SeedsTree shelf seen (shelf_and_session s K) f n seeded (shelf_and_session s' K')
   seeds_filled seeded s s' K K' f n e leaves tree same visited found stays fills = record {
     tree = e;
     tree_is = tree;
-    visited = subst (λ k. OpensOnce shelf seen s f.path (k + 1) s') same visited;
+    visited = subst (λ k. OpensToSeed shelf seen s f.path k true s') same visited;
     found = Some leaves;
     faults_in_it = found.0;
     counted = found.1;
@@ -53,12 +63,12 @@ module _ {S F : Type 0} (shelf : Ghosts S F) (seen : F → SourceSeen) where
 
   -- a file's leaves were not found
   pub seeds_nothing : (s s' : S) (K : SessionSeen) (f : FileEntry) (n : ℕ) (e : TreeEntry) → slice_get K.torrent.trees n ≡ Some e → e.length ≡ f.length
-      → OpensOnce shelf seen s f.path (e.length + 1) s' → Found s f e None s' → shelf.contents s' ≡ shelf.contents s
+      → OpensToSeed shelf seen s f.path e.length false s' → Found s f e None s' → shelf.contents s' ≡ shelf.contents s
       → SeedsTree shelf seen (shelf_and_session s K) f n false (shelf_and_session s' K)
   seeds_nothing s s' K f n e tree same visited found stays = record {
     tree = e;
     tree_is = tree;
-    visited = subst (λ k. OpensOnce shelf seen s f.path (k + 1) s') same visited;
+    visited = subst (λ k. OpensToSeed shelf seen s f.path k false s') same visited;
     found = None;
     faults_in_it = found.0;
     counted = found.1;
@@ -69,7 +79,7 @@ module _ {S F : Type 0} (shelf : Ghosts S F) (seen : F → SourceSeen) where
 
   -- memory was refused while a file was read
   pub stops_reading : (s s' : S) (K : SessionSeen) (f : FileEntry) (n : ℕ) (e : TreeEntry) → f.tree ≡ Some n → slice_get K.torrent.trees n ≡ Some e
-      → e.length ≡ f.length → OpensOnce shelf seen s f.path (e.length + 1) s'
+      → e.length ≡ f.length → OpensToSeed shelf seen s f.path e.length true s'
       → (shelf.faults s' ≡ shelf.faults s) × HasFitting ((shelf.contents s).under f.path) e
       → StopsAtFile shelf seen (shelf_and_session s K) f (shelf_and_session s' K)
   stops_reading s s' K f n e at tree same visited (counted, fits) = record {
@@ -77,7 +87,7 @@ module _ {S F : Type 0} (shelf : Ghosts S F) (seen : F → SourceSeen) where
     number_is = at;
     tree = e;
     tree_is = tree;
-    visited = subst (λ k. OpensOnce shelf seen s f.path (k + 1) s') same visited;
+    visited = subst (λ k. OpensToSeed shelf seen s f.path k true s') same visited;
     counted = counted;
     fits = fits;
     stays = refl;
@@ -86,16 +96,17 @@ module _ {S F : Type 0} (shelf : Ghosts S F) (seen : F → SourceSeen) where
   -- ---- all files
 
   -- the first n files were looked for, and their lines went out
-  pub record InSeed (old new : S × SessionSeen) (report report' : SinkSeen) (files : List FileEntry) (n : ℕ) : Type 0 where
+  pub record InSeed (line : FileEntry → Bool → List ℕ) (old new : S × SessionSeen) (report report' : SinkSeen) (files : List FileEntry) (n : ℕ) : Type 0 where
     pub each : List Bool
     pub count : length each ≡ n
     pub run : SeedsAll shelf seen old (take n files) each new
-    pub sent : Sent report report' (seed_lines (take n files) each)
+    pub sent : Sent report report' (seed_lines line (take n files) each)
 
-  pub in_seed_more : (old mid new : S × SessionSeen) (report between report' : SinkSeen) (files : List FileEntry) (n : ℕ) (f : FileEntry) (seeded : Bool)
-      → slice_get files n ≡ Some f → InSeed old mid report between files n → SeedStep shelf seen mid f seeded new
-      → Sent between report' (seed_line f seeded) → InSeed old new report report' files (n + 1)
-  in_seed_more old mid new report between report' files n f seeded there so_far step went =
+  pub in_seed_more : (line : FileEntry → Bool
+      → List ℕ) (old mid new : S × SessionSeen) (report between report' : SinkSeen) (files : List FileEntry) (n : ℕ) (f : FileEntry) (seeded : Bool)
+      → slice_get files n ≡ Some f → InSeed line old mid report between files n → SeedStep shelf seen mid f seeded new
+      → Sent between report' (line f seeded) → InSeed line old new report report' files (n + 1)
+  in_seed_more line old mid new report between report' files n f seeded there so_far step went =
       let inside : n < length files = slice_get_within files n f there in
       let at = get_or_from_slice_get files n f f there in
       let few : n ≤ length files = omega arith in
@@ -108,6 +119,6 @@ module _ {S F : Type 0} (shelf : Ghosts S F) (seen : F → SourceSeen) where
         run = Chain-next (SeedStep shelf seen) old mid new files n so_far.each f seeded inside so_far.run
             (subst (λ h. SeedStep shelf seen mid h seeded new) (sym at) step);
         sent = subst (Sent report report')
-            (sym (ap (λ fs. seed_lines fs (so_far.each ++ seeded ∷ [])) next ∙ lines_more (take n files) so_far.each f seeded same))
-            (Sent-append report between report' (seed_lines (take n files) so_far.each) (seed_line f seeded) so_far.sent went);
+            (sym (ap (λ fs. seed_lines line fs (so_far.each ++ seeded ∷ [])) next ∙ lines_more line (take n files) so_far.each f seeded same))
+            (Sent-append report between report' (seed_lines line (take n files) so_far.each) (line f seeded) so_far.sent went);
       }

@@ -1,22 +1,26 @@
 -- What seeding a session from a shelf does: to each file of its torrent once, in order. `shelf`
 -- stands for what the shelf's type says of its shelves, and `seen` for what its files say.
-use Rattle.std.specs.Prelude.{◌≡◌, ◌≢◌, ◌⊎◌, ℕ, ◌+◌, ◌++◌, Bool, true, false, List, [], ◌∷◌, take, slice_get, codes, Option, Some, None, Result, Ok}
+use Rattle.std.specs.Prelude.{◌≡◌, ◌≢◌, ◌⊎◌, ℕ, ◌++◌, Bool, true, false, List, [], ◌∷◌, take, slice_get, codes, Option, Some, None, is_some, Result, Ok}
 use Rattle.std.specs.Prelude.{Err}
 use Rattle.benc.specs.Device.{SourceSeen, SinkSeen, Sent, Broke, SentAndFlushed}
+use Rattle.benc.specs.declared.device.DeviceFault.{DeviceFault}
 use Rattle.chains.specs.Chain.{Chain}
 use Rattle.hashtree.specs.Tree.{layer_of}
 use Rattle.printing.specs.Cut.{Unflushed}
 use Rattle.printing.specs.Text.{path_text}
+use Rattle.lines.specs.Rows.{Row, Spelling}
+use Rattle.lines.specs.Table.{not_seeded_row, seeded_row}
 use Rattle.opening.specs.Description.{FileEntry, TreeEntry}
 use Rattle.node_maps.specs.Digest.{Hash}
 use Rattle.folders.specs.Folder.{FitsTree}
 use Rattle.folders.specs.Shelf.{more}
 use Rattle.folders.specs.Verdicts.{Agrees}
-use Rattle.folders.specs.Visits.{OpensOnce}
+use Rattle.folders.specs.Visits.{Opened}
 use Rattle.folders.specs.declared.shelf.Shelf.{Ghosts}
 use Rattle.partial_tree.specs.declared.refusal.HashRefusal.{HashRefusal}
 use Rattle.partial_tree.specs.declared.refusal.HashRefusal.TheVariants.{NoMemory}
 use Rattle.session.specs.Session.{IsFilled, IsFillRefused, SessionSeen}
+use Rattle.seeding.specs.Leaves.{IsReadToSeed}
 use Rattle.seeding.specs.declared.seed_fault.SeedFault.{SeedFault}
 use Rattle.seeding.specs.declared.seed_fault.SeedFault.TheVariants as fault
 
@@ -59,11 +63,20 @@ seed_words false = codes "not seeded "
 abbrev pub seed_line : FileEntry → Bool → List ℕ
 seed_line f seeded = seed_words seeded ++ (path_text f.path ++ codes "\n")
 
--- the lines of files, by whether each was seeded
-abbrev pub seed_lines : List FileEntry → List Bool → List ℕ
-seed_lines [] seeded = []
-seed_lines (f ∷ fs) [] = []
-seed_lines (f ∷ fs) (this ∷ seeded) = seed_line f this ++ seed_lines fs seeded
+-- the same as a row of the table of lines
+abbrev pub seed_row : FileEntry → Bool → Row
+seed_row f true = seeded_row f.path
+seed_row f false = not_seeded_row f.path
+
+-- the line of a file, spelled so
+abbrev pub seed_line_as : Spelling → FileEntry → Bool → List ℕ
+seed_line_as spelled f seeded = spelled (seed_row f seeded)
+
+-- the lines of files, by whether each was seeded; `line` is that of a file
+abbrev pub seed_lines : (FileEntry → Bool → List ℕ) → List FileEntry → List Bool → List ℕ
+seed_lines line [] seeded = []
+seed_lines line (f ∷ fs) [] = []
+seed_lines line (f ∷ fs) (this ∷ seeded) = line f this ++ seed_lines line fs seeded
 
 -- a shelf and a session
 abbrev pub shelf_and_session : {S : Type 0} → S → SessionSeen → S × SessionSeen
@@ -72,13 +85,25 @@ shelf_and_session s K = (s, K)
 module _ {S F : Type 0} (shelf : Ghosts S F) (seen : F → SourceSeen) where
   -- ---- one file
 
+  -- a path was opened once, what was opened was read so far, and handed back
+  pub record OpensToSeed (s : S) (path : List (List ℕ)) (len : ℕ) (fits : Bool) (s' : S) : Type 0
+    where
+      pub answer : Result (Option F) DeviceFault
+      pub opened : Opened shelf seen (IsReadToSeed len fits) s path answer s'
+
+  -- the same by what was answered: a content that fits, or nothing; or memory was refused for one
+  -- that does
+  abbrev pub OpensToFind : {A E : Type 0} → S → List (List ℕ) → ℕ → S → Result (Option A) E → Type 0
+  OpensToFind s path len s' (Ok found) = OpensToSeed s path len (is_some found) s'
+  OpensToFind s path len s' (Err e) = OpensToSeed s path len true s'
+
   -- a file of tree n was looked for on the shelf, and its leaves were filled in if it is whole
   pub record SeedsTree (old : S × SessionSeen) (f : FileEntry) (n : ℕ) (seeded : Bool)
       (new : S × SessionSeen) : Type 0 where
     pub tree : TreeEntry
     pub tree_is : slice_get old.1.torrent.trees n ≡ Some tree
-    pub visited : OpensOnce shelf seen old.0 f.path (f.length + 1) new.0
     pub found : Option (List Hash)
+    pub visited : OpensToSeed old.0 f.path f.length (is_some found) new.0
     pub faults_in_it : ℕ
     pub counted : shelf.faults new.0 ≡ more (shelf.faults old.0) faults_in_it
     pub finds : Finds ((shelf.contents old.0).under f.path) tree found faults_in_it
@@ -102,7 +127,7 @@ module _ {S F : Type 0} (shelf : Ghosts S F) (seen : F → SourceSeen) where
     pub number_is : f.tree ≡ Some number
     pub tree : TreeEntry
     pub tree_is : slice_get old.1.torrent.trees number ≡ Some tree
-    pub visited : OpensOnce shelf seen old.0 f.path (f.length + 1) new.0
+    pub visited : OpensToSeed old.0 f.path f.length true new.0
     pub counted : shelf.faults new.0 ≡ shelf.faults old.0
     pub fits : HasFitting ((shelf.contents old.0).under f.path) tree
     pub stays : new.1 ≡ old.1
@@ -114,19 +139,22 @@ module _ {S F : Type 0} (shelf : Ghosts S F) (seen : F → SourceSeen) where
   SeedsAll old files seeded new = Chain SeedStep old files seeded new
 
   -- the lines of the files went out
-  pub record SeedsWhole (old new : S × SessionSeen) (report report' : SinkSeen) : Type 0 where
+  pub record SeedsWhole (line : FileEntry → Bool → List ℕ) (old new : S × SessionSeen)
+      (report report' : SinkSeen) : Type 0 where
     pub each : List Bool
     pub run : SeedsAll old old.1.torrent.files each new
-    pub sent : Sent report report' (seed_lines old.1.torrent.files each)
+    pub sent : Sent report report' (seed_lines line old.1.torrent.files each)
 
   -- the lines of the files went out, with one flush
-  pub record IsSeeded (old new : S × SessionSeen) (report report' : SinkSeen) : Type 0 where
+  pub record IsSeededAs (line : FileEntry → Bool → List ℕ) (old new : S × SessionSeen)
+      (report report' : SinkSeen) : Type 0 where
     pub each : List Bool
     pub run : SeedsAll old old.1.torrent.files each new
-    pub sent : SentAndFlushed report report' (seed_lines old.1.torrent.files each)
+    pub sent : SentAndFlushed report report' (seed_lines line old.1.torrent.files each)
 
   -- memory was refused for a file, after the lines of those before it
-  pub record IsOutOfMemory (old new : S × SessionSeen) (report report' : SinkSeen) : Type 0 where
+  pub record IsOutOfMemory (line : FileEntry → Bool → List ℕ) (old new : S × SessionSeen)
+      (report report' : SinkSeen) : Type 0 where
     pub each : List Bool
     pub count : ℕ
     pub file : FileEntry
@@ -134,10 +162,11 @@ module _ {S F : Type 0} (shelf : Ghosts S F) (seen : F → SourceSeen) where
     pub mid : S × SessionSeen
     pub run : SeedsAll old (take count old.1.torrent.files) each mid
     pub stops : StopsAtFile mid file new
-    pub sent : Sent report report' (seed_lines (take count old.1.torrent.files) each)
+    pub sent : Sent report report' (seed_lines line (take count old.1.torrent.files) each)
 
   -- the line of a file broke off, after those before it
-  pub record IsCutInSeedLine (old new : S × SessionSeen) (report report' : SinkSeen) : Type 0 where
+  pub record IsCutInSeedLine (line : FileEntry → Bool → List ℕ) (old new : S × SessionSeen)
+      (report report' : SinkSeen) : Type 0 where
     pub each : List Bool
     pub count : ℕ
     pub file : FileEntry
@@ -147,26 +176,35 @@ module _ {S F : Type 0} (shelf : Ghosts S F) (seen : F → SourceSeen) where
     pub run : SeedsAll old (take count old.1.torrent.files) each between
     pub last : SeedStep between file seeded new
     pub mid : SinkSeen
-    pub sent : Sent report mid (seed_lines (take count old.1.torrent.files) each)
-    pub broke : Broke mid report' (seed_line file seeded)
+    pub sent : Sent report mid (seed_lines line (take count old.1.torrent.files) each)
+    pub broke : Broke mid report' (line file seeded)
 
   -- all lines went out, and the flush failed
-  pub record IsCutInSeedFlush (old new : S × SessionSeen) (report report' : SinkSeen) : Type 0 where
+  pub record IsCutInSeedFlush (line : FileEntry → Bool → List ℕ) (old new : S × SessionSeen)
+      (report report' : SinkSeen) : Type 0 where
     pub each : List Bool
     pub run : SeedsAll old old.1.torrent.files each new
-    pub sent : Unflushed (seed_lines old.1.torrent.files each) report report'
+    pub sent : Unflushed (seed_lines line old.1.torrent.files each) report report'
 
   -- what `seed` has done before the flush, by its answer
-  abbrev pub SeedsFiles : S × SessionSeen → S × SessionSeen → SinkSeen → SinkSeen
-      → Result (Unit {0}) SeedFault → Type 0
-  SeedsFiles old new report report' (Ok u) = SeedsWhole old new report report'
-  SeedsFiles old new report report' (Err fault.NoMemory) = IsOutOfMemory old new report report'
-  SeedsFiles old new report report' (Err fault.Write) = IsCutInSeedLine old new report report'
+  abbrev pub SeedsFiles : (FileEntry → Bool → List ℕ) → S × SessionSeen → S × SessionSeen
+      → SinkSeen → SinkSeen → Result (Unit {0}) SeedFault → Type 0
+  SeedsFiles line old new report report' (Ok u) = SeedsWhole line old new report report'
+  SeedsFiles line old new report report' (Err fault.NoMemory) =
+      IsOutOfMemory line old new report report'
+  SeedsFiles line old new report report' (Err fault.Write) =
+      IsCutInSeedLine line old new report report'
+
+  -- what seeding in these lines did, by its answer
+  abbrev pub SeedsAs : (FileEntry → Bool → List ℕ) → S × SessionSeen → S × SessionSeen
+      → SinkSeen → SinkSeen → Result (Unit {0}) SeedFault → Type 0
+  SeedsAs line old new report report' (Ok u) = IsSeededAs line old new report report'
+  SeedsAs line old new report report' (Err fault.NoMemory) =
+      IsOutOfMemory line old new report report'
+  SeedsAs line old new report report' (Err fault.Write) =
+      IsCutInSeedLine line old new report report' ⊎ IsCutInSeedFlush line old new report report'
 
   -- what `seed` did, by its answer
   abbrev pub Seeds : S × SessionSeen → S × SessionSeen → SinkSeen → SinkSeen
       → Result (Unit {0}) SeedFault → Type 0
-  Seeds old new report report' (Ok u) = IsSeeded old new report report'
-  Seeds old new report report' (Err fault.NoMemory) = IsOutOfMemory old new report report'
-  Seeds old new report report' (Err fault.Write) =
-      IsCutInSeedLine old new report report' ⊎ IsCutInSeedFlush old new report report'
+  Seeds old new report report' r = SeedsAs seed_line old new report report' r

@@ -3,12 +3,12 @@ ghost use Rattle.std.specs.Prelude.{◌≡◌, ◌⊎◌, ℕ, ◌+◌, ◌^◌,
 ghost use Rattle.std.specs.Option.{option_to_list};
 ghost use Rattle.hashtree.specs.Tree.{block_count, root_of};
 ghost use Rattle.opening.specs.Seen.{tree_entry};
-ghost use Rattle.folders.specs.TakeAll.{CountsReading, IsReadWithin};
+ghost use Rattle.folders.specs.TakeAll.{CountsReading};
 ghost use Rattle.folders.specs.declared.taking.ReadFault.TheVariants as fault;
-ghost use Rattle.seeding.specs.Leaves.{EndsWithTree, HadFitting, HasRefused, IsFedLeaves, IsFull, ReadsLeaves};
+ghost use Rattle.seeding.specs.Leaves.{EndsWithTree, HadFitting, HasRefused, IsFedLeaves, IsFull, ReadsLeaves, ReadsSoFar};
 
 use benc::Source;
-use folders::{Consumer, ReadFault, take_all};
+use folders::{Consumer, FileReader, ReadFault, take_all};
 use hashtree::{Hash, NoMemory, Parts, RootBuilder, Shape};
 use node_maps::NodeMap;
 use opening::TreeInfo;
@@ -101,16 +101,38 @@ impl<N: NodeMap> Leaves<N> {
     }
 }
 
-/// Reads a source through the buffer to its end, or to one byte past the length of the tree's
-/// files: the whole tree over its content's leaves if that fits the tree, and else `None`. Memory
-/// for the leaves is taken as they come; that it was refused is answered only of a content that
-/// fits.
-pub(crate) fn read_tree<N: NodeMap, F: Source>(
+/// The whole tree over a content's leaves if that fits the tree of a file, and else `None`.
+pub(crate) type Grown<N> = Result<Option<GrownTree<N>>, ReadFault>;
+
+/// Reads files for the leaves of this tree.
+#[derive(Drop)]
+pub(crate) struct TreeReader<'a, 't> {
+    pub(crate) alloc: Global,
+    pub(crate) tree: &'a TreeInfo<'t>,
+}
+
+impl<N: NodeMap, F: Source> FileReader<F, Grown<N>> for TreeReader<'_, '_> {
+    ghost use Rattle.seeding.specs.Leaves.{ReadsTree};
+
+    ghost may_read = { λ r. (0 < r.tree.now.length) × (r.tree.now.length ≤ 2 ^ 46) };
+
+    ghost reads = { λ r. ReadsTree (tree_entry r.tree.now) };
+
+    fn read(&self, file: &mut F, buffer: &mut [u8]) -> Grown<N> {
+        read_tree(self.alloc, file, self.tree, buffer)
+    }
+}
+
+// Reads a source through the buffer to its end and no further, or to one byte past the length of
+// the tree's files: the whole tree over its content's leaves if that fits the tree, and else
+// `None`. Memory for the leaves is taken as they come; that it was refused is answered only of a
+// content that fits.
+fn read_tree<N: NodeMap, F: Source>(
     alloc: Global,
     source: &mut F,
     tree: &TreeInfo<'_>,
     buffer: &mut [u8],
-) -> Result<Option<GrownTree<N>>, ReadFault>
+) -> Grown<N>
     requires some { 0 < length buffer.old }
     requires tree { (0 < tree.now.length) × (tree.now.length ≤ 2 ^ 46) }
     ensures read { IfOk result (λ found. ReadsLeaves (tree_entry tree.now) (F.seen source.old).left
@@ -120,8 +142,8 @@ pub(crate) fn read_tree<N: NodeMap, F: Source>(
     ensures memory { IfErr result (λ why. why ≡ fault.NoMemory
         → HadFitting (tree_entry tree.now) (F.seen source.old).left) }
     ensures counts { CountsReading (F.seen source.old).faults (F.seen source.new).faults result }
-    ensures no_further { IsReadWithin (tree.now.length + 1) (F.seen source.old)
-        (F.seen source.new) }
+    ensures no_further { ReadsSoFar tree.now.length (F.seen source.old) (F.seen source.new)
+        result }
 {
     let shape = Shape::of(tree.length).unwrap();
     let mut leaves = Leaves::new(alloc, shape);

@@ -6,4 +6,4 @@ mod seed_fault;
 mod seeding;
 
 pub use seed_fault::SeedFault;
-pub use seeding::seed;
+pub use seeding::{seed, seed_onto};

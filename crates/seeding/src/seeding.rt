@@ -1,21 +1,22 @@
 //! The seeding of a session: its files one after the other.
-ghost use Rattle.std.specs.Prelude.{◌≡◌, ◌<◌, ◌≤◌, ◌+◌, ◌^◌, ℕ, List, Some, length, option_map, slice_get, IfOk, IfSome, OnErr};
+ghost use Rattle.std.specs.Prelude.{◌≡◌, ◌<◌, ◌≤◌, ◌^◌, ℕ, List, Some, length, option_map, slice_get, IfOk, IfSome, OnErr};
 ghost use Rattle.benc.specs.Device.{Wrote};
 ghost use Rattle.opening.specs.Description.{TreeEntry};
 ghost use Rattle.opening.specs.Seen.{file_entry, tree_entry};
 ghost use Rattle.folders.specs.Shelf.{more};
 ghost use Rattle.folders.specs.Verdicts.{IsFileOf};
-ghost use Rattle.folders.specs.Visits.{OpensOnce};
-ghost use Rattle.seeding.specs.Seeding.{Fills, Finds, HasFitting, SeedStep, Seeds, SeedsFiles, SeedsTree, StopsAtFile, seed_line, seed_words, shelf_and_session};
+ghost use Rattle.seeding.specs.Leaves.{found_of};
+ghost use Rattle.seeding.specs.Seeding.{Fills, Finds, HasFitting, OpensToFind, SeedStep, Seeds, SeedsAs, SeedsFiles, SeedsTree, StopsAtFile, seed_line_as, shelf_and_session};
 
-use crate::leaves::read_tree;
+use crate::leaves::{Grown, TreeReader};
 use crate::seed_fault::SeedFault;
-use benc::{DeviceFault, Sink, write_all};
-use folders::{BUFFER_LENGTH, ReadFault, Shelf};
+use benc::{DeviceFault, Sink};
+use folders::{ReadFault, Shelf, visit};
 use hashtree::NoMemory;
+use lines::{Line, LineSink, say};
 use opening::{File, TreeInfo};
 use partial_tree::GrownTree;
-use printing::write_path;
+use pieces::PieceBuffer;
 use session::{NodeMap, Session};
 use std::alloc::Global;
 
@@ -24,8 +25,9 @@ use std::alloc::Global;
 /// missing, unreadable, of another length or another root, or whose leaves differ from what is
 /// known. At last it flushes once. Nothing is marked.
 ///
-/// Each file that is not empty is opened once, read once, one byte past its stated length at most,
-/// and handed back; the shelf's count of failures grows by one for each that was unreadable.
+/// Each file that is not empty is opened once, read once, to its end and no further if it is whole
+/// and else one byte past its stated length at most, and handed back; the shelf's count of failures
+/// grows by one for each that was unreadable.
 ///
 /// # Errors
 ///
@@ -43,29 +45,48 @@ pub fn seed<N: NodeMap, S: Shelf, W: Sink>(
         (shelf_and_session shelf.old session.old) (shelf_and_session shelf.new session.new)
         (W.seen report.old) (W.seen report.new) result }
 {
+    seed_onto(alloc, session, shelf, report)
+}
+
+/// The same, but the lines go to anything that takes lines, spelled as it spells them: as texts, or
+/// as JSON objects.
+///
+/// # Errors
+///
+/// As for `seed`.
+pub fn seed_onto<N: NodeMap, S: Shelf, L: LineSink>(
+    alloc: Global,
+    session: &mut Session<'_, N>,
+    shelf: &mut S,
+    report: &mut L,
+) -> Result<(), SeedFault>
+    ensures { SeedsAs S.Shelf S.File.seen (seed_line_as L.spelled)
+        (shelf_and_session shelf.old session.old) (shelf_and_session shelf.new session.new)
+        (L.seen report.old) (L.seen report.new) result }
+{
     seed_files(alloc, session, shelf, report)?;
-    report.flush()?;
+    report.finish()?;
     Ok(())
 }
 
 // Seeds from each file in turn, and writes its line.
-// It has the buffer in its frame, so it is not inlined.
+// It has a block in its frame, so it is not inlined.
 #[inline(never)]
-fn seed_files<N: NodeMap, S: Shelf, W: Sink>(
+fn seed_files<N: NodeMap, S: Shelf, L: LineSink>(
     alloc: Global,
     session: &mut Session<'_, N>,
     shelf: &mut S,
-    report: &mut W,
+    report: &mut L,
 ) -> Result<(), SeedFault>
-    ensures { SeedsFiles S.Shelf S.File.seen
+    ensures { SeedsFiles S.Shelf S.File.seen (seed_line_as L.spelled)
         (shelf_and_session shelf.old session.old) (shelf_and_session shelf.new session.new)
-        (W.seen report.old) (W.seen report.new) result }
+        (L.seen report.old) (L.seen report.new) result }
 {
     let torrent = session.torrent();
     let entries = torrent.files();
-    let mut buffer = [0u8; BUFFER_LENGTH];
+    let mut buffer = PieceBuffer::of_blocks(alloc);
     'files: for file in entries {
-        let seeded = seed_file(alloc, session, shelf, file, &mut buffer)?;
+        let seeded = seed_file(alloc, session, shelf, file, buffer.as_mut_slice())?;
         write_line_of(report, file, seeded)?;
     }
     Ok(())
@@ -140,8 +161,8 @@ fn find_tree<N: NodeMap, S: Shelf>(
 ) -> Result<Option<GrownTree<N>>, NoMemory>
     requires some { 0 < length buffer.old }
     requires bounds { (0 < tree.now.length) × (tree.now.length ≤ 2 ^ 46) }
-    ensures visited { OpensOnce S.Shelf S.File.seen shelf.old file.now.path (tree.now.length + 1)
-        shelf.new }
+    ensures visited { OpensToFind S.Shelf S.File.seen shelf.old file.now.path tree.now.length
+        shelf.new result }
     ensures found { IfOk result (λ grown. (n : ℕ)
         × (S.faults shelf.new ≡ more (S.faults shelf.old) n)
         × Finds ((S.contents shelf.old).under file.now.path) (tree_entry tree.now)
@@ -151,18 +172,22 @@ fn find_tree<N: NodeMap, S: Shelf>(
         × HasFitting ((S.contents shelf.old).under file.now.path) (tree_entry tree.now)) }
     ensures stays { S.contents shelf.new ≡ S.contents shelf.old }
 {
-    match shelf.open(&file.path.parts()) {
-        Ok(Some(mut source)) => {
-            let read = read_tree(alloc, &mut source, tree, buffer);
-            shelf.close(source);
-            match read {
-                Ok(grown) => Ok(grown),
-                Err(ReadFault::Device) => Ok(None),
-                Err(ReadFault::NoMemory) => Err(NoMemory),
-            }
-        }
+    let reader = TreeReader { alloc, tree };
+    match visit(shelf, &file.path.parts(), &reader, buffer) {
+        Ok(Some(read)) => tree_or_none(read),
         Ok(None) => Ok(None),
         Err(_) => Ok(None),
+    }
+}
+
+// What is found of a file that was read so.
+fn tree_or_none<N: NodeMap>(read: Grown<N>) -> Result<Option<GrownTree<N>>, NoMemory>
+    ensures { result ≡ found_of read }
+{
+    match read {
+        Ok(found) => Ok(found),
+        Err(ReadFault::Device) => Ok(None),
+        Err(ReadFault::NoMemory) => Err(NoMemory),
     }
 }
 
@@ -178,18 +203,14 @@ fn take_over<N: NodeMap>(session: &mut Session<'_, N>, tree: usize, grown: Grown
 }
 
 // The line of a file.
-fn write_line_of<W: Sink>(out: &mut W, file: &File<'_>, seeded: bool) -> Result<(), DeviceFault>
-    ensures { Wrote (W.seen out.old) (W.seen out.new) result
-        (seed_line (file_entry file.now) seeded) }
+fn write_line_of<L: LineSink>(out: &mut L, file: &File<'_>, seeded: bool) -> Result<(), DeviceFault>
+    ensures { Wrote (L.seen out.old) (L.seen out.new) result
+        (seed_line_as L.spelled (file_entry file.now) seeded) }
 {
-    write_all(out, seed_text(seeded))?;
-    write_path(out, &file.path.parts())?;
-    write_all(out, b"\n")
-}
-
-// What a file's line begins with.
-fn seed_text(seeded: bool) -> &'static [u8]
-    ensures { result.now ≡ seed_words seeded }
-{
-    if seeded { b"seeded " } else { b"not seeded " }
+    let path = file.path.parts();
+    if seeded {
+        say(&Line::Seeded(&path), out)
+    } else {
+        say(&Line::NotSeeded(&path), out)
+    }
 }

@@ -40,6 +40,11 @@ module _ (d : Description) (ts : List KeptTree) (kept : AreKept d ts) (sound : I
       let x = tree_for d ts kept sound file number has.0 has.1 (sym (is has.0 has.1) ∙ numbered) in
       slice_get_within ts number x.0 x.1
 
+  pub tree_in_torrent : number < length d.trees
+  tree_in_torrent =
+      let e = (sound.files file has.0 has.1).tree_there number (sym (is has.0 has.1) ∙ numbered) in
+      slice_get_within d.trees number e.0 e.1
+
   pub in_tree : (a : KeptTree) → a ≡ get_or ts number a → IsInTree d ts file block number a
   in_tree a found =
       let of_file : (has.0).tree ≡ Some number = sym (is has.0 has.1) ∙ numbered in

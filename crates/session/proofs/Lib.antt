@@ -2,7 +2,6 @@ pub use Rattle.chains.proofs.Chains
 pub mod States
 pub mod Entries
 pub mod MessageBlocks
-pub mod BlockDigests
 pub mod Runs
 pub mod Rounds
 pub mod RoundRuns
@@ -10,6 +9,7 @@ pub mod OneGap
 pub mod Sessions
 pub mod SessionCalls
 pub mod BlockTrees
+pub mod LeavesOfTrees
 pub mod SafeSteps
 pub mod Numbering
 pub mod FirstTrees
@@ -19,3 +19,10 @@ pub mod OpenAsks
 pub mod OtherAsks
 pub mod NotedSteps
 pub mod NotedRounds
+pub mod LeafPaths
+pub mod OneTree
+pub mod PieceRows
+pub mod TakenPieces
+pub mod TruePieces
+pub mod TakenLeaves
+pub mod MarkedLeaves

@@ -90,7 +90,7 @@ in_effect S (message.Hashes ask hashes) (verdict.HashRefused r) S' h = unchanged
 in_effect S (message.Hashes ask hashes) v S' h = absurd h
 in_effect S m v S' h = subst (Effect S m) (same_asking S S' (step-asks S m v S' h)) (effect S m v S' h)
 
-out_effect : (S : SessionSeen) (m : Message) (v : Verdict) (S' : SessionSeen) → StepOut S m v S' → asking S.asks S' ≡ S
+pub out_effect : (S : SessionSeen) (m : Message) (v : Verdict) (S' : SessionSeen) → StepOut S m v S' → asking S.asks S' ≡ S
 out_effect S (message.Request ask) verdict.Noted S' h = ap (asking S.asks) h
 out_effect S (message.Request ask) (verdict.HashRefused NoMemory) S' h = ap (asking S.asks) h.1
 out_effect S (message.Request ask) v S' h = absurd h

@@ -84,6 +84,10 @@ module _ (d : Description) (ts : List KeptTree) (kept : AreKept d ts) where
   pub state_there : (n : ℕ) (a : KeptTree) → n < length d.trees → a ≡ get_or ts n a → slice_get (map state_of ts) n ≡ Some a.state
   state_there n a low e = (tree_at d ts kept leaves.empty n a (found_at ts n a (inside_kept n low) e)).state_is
 
+  -- the root of a tree that stands in the torrent
+  pub root_there : (n : ℕ) (a : KeptTree) → n < length d.trees → a ≡ get_or ts n a → slice_get (map root_of_entry d.trees) n ≡ Some (info_of a)
+  root_there n a low e = (tree_at d ts kept leaves.empty n a (found_at ts n a (inside_kept n low) e)).tree_is
+
 -- ---- answers and what is wanted
 
 module _ (d : Description) (ts : List KeptTree) (kept : AreKept d ts) where

@@ -1,7 +1,6 @@
 -- Sessions of a torrent, their steps and runs.
 pub use Rattle.chains.specs.Chain
 pub mod Blocks
-pub mod BlockDigests
 pub mod Asks
 pub mod Session
 pub mod Wanted
@@ -19,3 +18,4 @@ pub mod RoundLaws
 pub mod NotedLaws
 pub mod Trusted
 pub mod TrustLaws
+pub mod Pieces

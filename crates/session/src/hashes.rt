@@ -48,9 +48,20 @@ impl<'t, N: NodeMap> Session<'t, N> {
     }
 
     /// Takes a whole layer of a tree, given without the pads at its end. Returns how many places
-    /// are newly known. A refusal leaves content and marks as they were; it is out of memory only
-    /// if a place is new. Condition: there are more than `tree` trees.
+    /// are newly known. What is known stays known. A refusal leaves content and marks as they were;
+    /// it is out of memory only if a place is new. Condition: there are more than `tree` trees.
     pub fn fill(&mut self, tree: usize, layer: u32, hashes: &[Hash]) -> Result<u64, HashRefusal>
+        requires { tree < length self.old.torrent.trees }
+        ensures filled { IfOk result (λ c. IsFilled self.old tree layer hashes.now c self.new) }
+        ensures refused { IfErr result (λ r. IsFillRefused self.old tree layer hashes.now r
+            × (self.new ≡ self.old)) }
+        ensures keeps_known { KeepsKnown self.old self.new }
+    {
+        self.join_layer(tree, layer, hashes)
+    }
+
+    // Apart from `fill`, so that what follows of a layer is proved of one result.
+    fn join_layer(&mut self, tree: usize, layer: u32, hashes: &[Hash]) -> Result<u64, HashRefusal>
         requires { tree < length self.old.torrent.trees }
         ensures filled { IfOk result (λ c. IsFilled self.old tree layer hashes.now c self.new) }
         ensures refused { IfErr result (λ r. IsFillRefused self.old tree layer hashes.now r
@@ -66,6 +77,20 @@ impl<'t, N: NodeMap> Session<'t, N> {
     /// and marks then stay. Conditions: there are more than `tree` trees, and that one has files of
     /// the length for which the other one grew.
     pub fn adopt(&mut self, tree: usize, grown: GrownTree<N>) -> Result<u64, HashRefusal>
+        requires inside { tree < length self.old.torrent.trees }
+        requires length { (e : TreeEntry) → slice_get self.old.torrent.trees tree ≡ Some e
+            → grown.length ≡ e.length }
+        ensures adopted { IfOk result (λ c. IsFilled self.old tree 0 grown.leaves c self.new) }
+        ensures refused { IfErr result (λ r. IsFillRefused self.old tree 0 grown.leaves r
+            × (self.new ≡ self.old)) }
+        ensures only_mismatch { IfErr result (λ r. r ≡ Mismatch) }
+        ensures keeps_known { KeepsKnown self.old self.new }
+    {
+        self.take_over(tree, grown)
+    }
+
+    // Apart from `adopt`, so that what follows of a tree is proved of one result.
+    fn take_over(&mut self, tree: usize, grown: GrownTree<N>) -> Result<u64, HashRefusal>
         requires inside { tree < length self.old.torrent.trees }
         requires length { (e : TreeEntry) → slice_get self.old.torrent.trees tree ≡ Some e
             → grown.length ≡ e.length }

@@ -3,20 +3,21 @@
 #![tactic(auto)]
 
 mod asking;
-mod block_digests;
 mod hashes;
 mod marking;
 mod noting;
 mod open_asks;
 mod pausing;
+mod piece_leaves;
 mod planting;
 mod running;
 mod session;
 mod verdict;
+mod whole_pieces;
 
 pub use hashtree::NoMemory;
 pub use node_maps::{Flat, NodeMap, Paged};
-pub use partial_tree::{Answer, BlockRefusal, GrowingTree, GrownTree, HashRefusal};
+pub use partial_tree::{Answer, BlockRefusal, GrowingTree, GrownTree, HashRefusal, PieceRefusal};
 pub use pausing::Paused;
 pub use running::has_hashes;
 pub use session::Session;

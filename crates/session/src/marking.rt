@@ -4,18 +4,17 @@ ghost use Rattle.std.specs.Prelude.{◌≡◌, ◌<◌, ◌≤◌, IfOk, IfErr, 
 ghost use Rattle.sha2.specs.Sha256.{sha256};
 ghost use Rattle.session.specs.Session.{IsVerified, IsBlockRefused, IsBlock, IsMarkedBlock, IsUnmarkedBlock, BlockStep, AreTaken, AreRefused, AreBlocks};
 ghost use Rattle.hashtree.specs.Tree.{block};
-ghost use Rattle.session.specs.Blocks.{block_length, cuts, most_blocks};
-ghost use Rattle.session.specs.BlockDigests.{AreDigests};
+ghost use Rattle.session.specs.Blocks.{cuts, most_blocks};
+ghost use Rattle.partial_tree.specs.BlockDigests.{AreDigests};
 ghost use Rattle.session.specs.Layouts.{HasBlock, HasRun};
 ghost use Rattle.chains.specs.Chain.{Chain};
 ghost use Rattle.session.specs.SafeStep.{KeepsKnown, VerifiesTrueBlock, VerifiesTrueBlocks};
 
-use crate::block_digests::BlockDigests;
 use crate::session::Session;
 use crate::verdict::Blocks;
-use hashtree::{BLOCK_LENGTH, Hash};
+use hashtree::Hash;
 use node_maps::NodeMap;
-use partial_tree::BlockRefusal;
+use partial_tree::{BlockDigests, BlockRefusal, block_of};
 
 impl<'t, N: NodeMap> Session<'t, N> {
     /// Takes a block of a piece message, marks its leaf, and returns the file and the block, both
@@ -170,13 +169,4 @@ impl<'t, N: NodeMap> Session<'t, N> {
         let tree = self.torrent.tree_of(file).unwrap();
         self.trees[tree].take_hashed(block, bytes, digest)
     }
-}
-
-// A block of a message's bytes: 16,384 of them, and at the end fewer.
-fn block_of(bytes: &[u8], number: u64) -> &[u8]
-    requires { block_length * number ≤ length bytes.now }
-    ensures { result.now ≡ block bytes.now number }
-{
-    let rest = &bytes[(BLOCK_LENGTH * number) as usize..];
-    &rest[..rest.len().min(BLOCK_LENGTH as usize)]
 }

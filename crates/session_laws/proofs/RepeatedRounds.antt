@@ -1,5 +1,5 @@
 -- Rounds one after the other: the gaps fall at each, and so there are at most as many rounds as gaps.
-use Rattle.std.proofs.Common.{◌≡◌, ◌⊎◌, ℕ, zero, suc, ◌+◌, ◌<◌, ◌≤◌, List, [], inl, inr, sym, ◌∙◌, subst, subst₂, arith}
+use Rattle.std.proofs.Common.{◌⊎◌, ℕ, zero, suc, ◌+◌, ◌<◌, ◌≤◌, List, [], inl, inr, sym, ◌∙◌, subst, subst₂, arith}
 use Rattle.std.proofs.lemmas.Option.{same_Some}
 use Rattle.hashtree.specs.Tree.{block_count}
 use Rattle.node_maps.specs.Known.{look}
@@ -11,6 +11,8 @@ use Rattle.tree_laws.proofs.Wanted.{gaps-none}
 use Rattle.session.specs.Session.{SessionSeen, TreeState, IsTree, HasClosedTrees, HasDistinctRoots, HasFewerGaps}
 use Rattle.session.specs.Rounds.{IsRoundRun, Repeated, Rounds, Collides}
 use Rattle.session.specs.NotedRounds.{IsNotedRoundRun, NotedRounds}
+use Rattle.session_laws.specs.Calls.{IsCallRound, CallRounds}
+use Rattle.session_laws.proofs.CallRounds.{call-distinct, call-closed, call-learns, call-fewer}
 use Rattle.session.proofs.Runs.{Learns, run-true, run-learns, run-torrent}
 use Rattle.session.proofs.RoundRuns.{collision-keeps, later-distinct, round-fewer}
 use Rattle.session.proofs.NotedRounds.{run-noted-closed, run-noted-learns, run-noted-torrent, noted-round-fewer}
@@ -19,7 +21,7 @@ use Rattle.session.proofs.NotedRounds.{run-noted-closed, run-noted-learns, run-n
 
 -- what a run of this kind does: tree n has fewer gaps after it, or a collision is named
 record ClosesGaps (n : ℕ) (f : List ℕ) (R : SessionSeen → SessionSeen → Type 0) : Type 0 where
-  same_torrent : (S M : SessionSeen) → R S M → M.torrent ≡ S.torrent
+  distinct : (S M : SessionSeen) → HasDistinctRoots S → R S M → HasDistinctRoots M
   closed : (S M : SessionSeen) → HasClosedTrees S → R S M → HasClosedTrees M
   learns : (S M : SessionSeen) → R S M → (tree : TreeRoot) (s : TreeState) → IsTree S n tree s → Learns S M n tree s
   fewer : (S M : SessionSeen) → HasDistinctRoots S → HasClosedTrees S → R S M → (tree : TreeRoot) (s : TreeState) → IsTree S n tree s
@@ -42,7 +44,7 @@ module _ (n : ℕ) (f : List ℕ) (R : SessionSeen → SessionSeen → Type 0) (
         let learnt : Learns M S' n tr m = repeated-learn k M S' rest tr m m_at in
         inr (tr, learnt.later, learnt.later_is, collision-keeps (whole f) (look m.known) (look learnt.later.known) learnt.keeps collision)
     | inl (m, m_at, fewer) ↦
-        elim (repeated-count k M S' (later-distinct S M (kind.same_torrent S M r) distinct) (kind.closed S M closed r) rest tree m m_at) [
+        elim (repeated-count k M S' (kind.distinct S M distinct r) (kind.closed S M closed r) rest tree m m_at) [
           | inl (later, later_at, le) ↦ inl (later, later_at, omega arith)
           | inr collides ↦ inr collides
         ]
@@ -67,7 +69,7 @@ same-gaps {S} {M} {n} {a} {b} {s} {t} at here fewer =
 
 run-closes : (n : ℕ) (f : List ℕ) → ClosesGaps n f (IsRoundRun n f)
 run-closes n f = record {
-  same_torrent = λ S M r. run-torrent S r.messages r.verdicts M r.run;
+  distinct = λ S M distinct r. later-distinct S M (run-torrent S r.messages r.verdicts M r.run) distinct;
   closed = λ S M closed r. (run-true S r.messages r.verdicts M closed r.hashes r.run).1;
   learns = λ S M r tree s at. run-learns S r.messages r.verdicts M r.run n tree s at;
   fewer = λ S M distinct closed r tree s at. elim (round-fewer S distinct r.messages r.verdicts M closed r.hashes r.run n f r.round) [
@@ -90,7 +92,7 @@ rounds-done S S' distinct n f tree s closed at rounds = repeated-done n f (IsRou
 
 noted-closes : (n : ℕ) (f : List ℕ) → ClosesGaps n f (IsNotedRoundRun n f)
 noted-closes n f = record {
-  same_torrent = λ S M r. run-noted-torrent S r.messages r.verdicts M r.run;
+  distinct = λ S M distinct r. later-distinct S M (run-noted-torrent S r.messages r.verdicts M r.run) distinct;
   closed = λ S M closed r. run-noted-closed S r.messages r.verdicts M closed r.hashes r.run;
   learns = λ S M r tree s at. run-noted-learns S r.messages r.verdicts M r.run n tree s at;
   fewer = λ S M distinct closed r tree s at. elim (noted-round-fewer S distinct r.messages r.verdicts M closed r.hashes r.run n f r.round) [
@@ -111,3 +113,23 @@ pub noted-rounds-done : (S S' : SessionSeen) → HasDistinctRoots S → (n : ℕ
     → IsTree S n tree s → NotedRounds n f (gaps tree.length (look s.known)) S S'
     → ((later : TreeState) × IsTree S' n tree later × ((b : ℕ) → b < block_count tree.length → IsKnown (look later.known) 0 b)) ⊎ Collides S' n f
 noted-rounds-done S S' distinct n f tree s closed at rounds = repeated-done n f (IsNotedRoundRun n f) (noted-closes n f) S S' distinct closed tree s at rounds
+
+-- ---- calls of any kind
+
+call-closes : (n : ℕ) (f : List ℕ) → ClosesGaps n f (IsCallRound n f)
+call-closes n f = record {
+  distinct = λ S M distinct r. call-distinct n f S M r;
+  closed = λ S M closed r. call-closed n f S M r;
+  learns = λ S M r tree s at. call-learns n f S M r tree s at;
+  fewer = λ S M distinct closed r tree s at. call-fewer n f S M r closed tree s at;
+}
+
+pub call-rounds-count : (S S' : SessionSeen) → HasDistinctRoots S → (n : ℕ) (f : List ℕ) (k : ℕ) → HasClosedTrees S → CallRounds n f k S S'
+    → (tree : TreeRoot) (s : TreeState) → IsTree S n tree s
+    → ((later : TreeState) × IsTree S' n tree later × (gaps tree.length (look later.known) + k ≤ gaps tree.length (look s.known))) ⊎ Collides S' n f
+call-rounds-count S S' distinct n f k closed rounds tree s at = repeated-count n f (IsCallRound n f) (call-closes n f) k S S' distinct closed rounds tree s at
+
+pub call-rounds-done : (S S' : SessionSeen) → HasDistinctRoots S → (n : ℕ) (f : List ℕ) (tree : TreeRoot) (s : TreeState) → HasClosedTrees S
+    → IsTree S n tree s → CallRounds n f (gaps tree.length (look s.known)) S S'
+    → ((later : TreeState) × IsTree S' n tree later × ((b : ℕ) → b < block_count tree.length → IsKnown (look later.known) 0 b)) ⊎ Collides S' n f
+call-rounds-done S S' distinct n f tree s closed at rounds = repeated-done n f (IsCallRound n f) (call-closes n f) S S' distinct closed tree s at rounds

@@ -1,6 +1,10 @@
 //! The laws of runs of messages, each as the contract of a function that does nothing.
 
 ghost use Rattle.session.specs.Laws.{RunKeepsPromises};
+ghost use Rattle.session_laws.specs.Calling.{MarksComeFromCalls};
+ghost use Rattle.session_laws.specs.Calls.{CallRoundsAreAtMostGaps, CallRoundsMakeAllKnown, CallsJoin, SafeRunKeepsKnown};
+ghost use Rattle.session_laws.specs.Inputs.{MessagesAreInUse, TreesAreInUse, FileIsInUse, TrustedRunsOfInputs};
+ghost use Rattle.session_laws.specs.Marks.{MarksComeFromBlocks, NotedMarksComeFromBlocks, KnownLeafIsTheBlock};
 ghost use Rattle.session.specs.NotedLaws.{ConversionRunsAsFormOne, FormOneRunsAsConversion, ConversionReplaysAsFormOne, OneRunWithMemory, ConversionGivesTheSame, NotedStaysOpen, IncomingOpensNothing, NotedRunKeeps, NotedRoundsCloseGaps, NotedRoundsAreAtMostGaps, NotedRoundsMakeAllKnown, SafeNotedRunIsRun};
 ghost use Rattle.session.specs.TrustLaws.{TrustedBlockIsTheBlock, TrustedHashesAreStored, TrustedAnswersAreStored, TrustedAnswerClosesOneGap, TrustedBlockIsTaken, TrustedRoundsNameNone, TrustedRuns, TrustedNotedRuns};
 ghost use Rattle.session.specs.RoundLaws.{NoGapMeansNothingWanted, NothingWantedMeansNoGap, WantedAnswerLeadsToRoot, RunGapsNeverRise, RoundsCloseGaps, RoundsAreAtMostGaps, RoundsMakeAllKnown, SafeRunIsRun};
@@ -11,14 +15,31 @@ pub fn run_keeps_promises()
     ensures { RunKeepsPromises }
 {}
 
+/// A leaf that is marked after a run was marked before it, or an entry of a verdict of the run
+/// verified that block of that tree, and then it is the block. So it is after calls of any kind:
+/// messages, blocks and whole pieces, leaves, whole layers and trees. Bytes whose digest is a known
+/// leaf, as `Session::mark_leaf` takes it, are the block too.
+pub fn marks_come_from_blocks()
+    ensures runs { MarksComeFromBlocks }
+    ensures noted_runs { NotedMarksComeFromBlocks }
+    ensures calls { MarksComeFromCalls }
+    ensures leaf { KnownLeafIsTheBlock }
+{}
+
 /// A round leaves fewer gaps, whatever else it holds, unless memory was refused for its answer or a
 /// collision is named; so with memory there are at most as many rounds as gaps, and after that many
-/// each block's leaf is known. What `Session::run` says it did is such a run.
+/// each block's leaf is known. What `Session::run` says it did is such a run. The same holds of
+/// rounds of calls of any kind: messages one by one, whole layers and trees, pieces. What is asked
+/// of calls is what each says of itself, and a run keeps what is known too.
 pub fn rounds_close_gaps()
     ensures never_rise { RunGapsNeverRise }
     ensures round { RoundsCloseGaps }
     ensures all { RoundsAreAtMostGaps }
     ensures done { RoundsMakeAllKnown }
+    ensures calls { CallRoundsAreAtMostGaps }
+    ensures calls_done { CallRoundsMakeAllKnown }
+    ensures joined { CallsJoin }
+    ensures run_keeps { SafeRunKeepsKnown }
     ensures safe { SafeRunIsRun }
 {}
 
@@ -72,4 +93,15 @@ pub fn trusting_sha256()
     ensures rounds { TrustedRoundsNameNone }
     ensures runs { TrustedRuns }
     ensures noted_runs { TrustedNotedRuns }
+{}
+
+/// The inputs in use of a run, its last state and a file are one finite list (`inputs_of`): each
+/// block of the run's messages is on it, each two siblings that are known at its end, joined, and
+/// each block and each two siblings of the file. So one who trusts that no two different ones of
+/// these have one digest has the promises of `trusting_sha256` with no further premise.
+pub fn trusting_the_inputs_in_use()
+    ensures messages { MessagesAreInUse }
+    ensures trees { TreesAreInUse }
+    ensures file { FileIsInUse }
+    ensures runs { TrustedRunsOfInputs }
 {}

@@ -1,4 +1,3 @@
-mod Bits
-mod Eight
-mod InRow
+mod Blocks
 mod PaddingSchedule
+mod Pairs

@@ -1,17 +1,10 @@
--- Eight messages side by side: a word of all of them is a vector, with a lane for each message.
-use Rattle.std.specs.Prelude.{◌≡◌, ℕ, ◌*◌, ◌<◌, length, List, [], ◌∷◌, map, take, drop, slice_index, slice_index_or}
+-- SHA-256 of several messages side by side.
+use Rattle.std.specs.Prelude.{◌≡◌, ℕ, ◌+◌, ◌*◌, ◌/◌, ◌<◌, length, List, [], ◌∷◌, take, drop, slice_index_or}
+use Rattle.lanes.specs.Lanes.{word_in}
 
 -- message j of a row of messages of this size, one after another
 abbrev pub message : List ℕ → ℕ → ℕ → List ℕ
 message row size j = take size (drop (j * size) row)
-
--- what message j has in vector k
-abbrev pub word_in : List (List ℕ) → ℕ → ℕ → ℕ
-word_in x k j = slice_index (slice_index_or x k []) j
-
--- what message j has in each vector
-abbrev pub lane : ℕ → List (List ℕ) → List ℕ
-lane j x = map (λ v. slice_index v j) x
 
 -- what message j has in the first eight vectors: its hash value, or its working variables
 abbrev pub state_in : ℕ → List (List ℕ) → List ℕ
@@ -22,3 +15,11 @@ state_in j x =
 -- each list of the row has 32 bytes
 abbrev pub AreHashes : List (List ℕ) → Type 0
 AreHashes row = (i : ℕ) → i < length row → length (slice_index_or row i []) ≡ 32
+
+-- the message of this size at this byte of a buffer
+abbrev pub message_at : List ℕ → ℕ → ℕ → List ℕ
+message_at bytes start size = take size (drop start bytes)
+
+-- how many blocks a message of this size has, its padding included
+abbrev pub block_count : ℕ → ℕ
+block_count size = (size + 8) / 64 + 1

@@ -1,16 +1,18 @@
-//! A block taken into the hash values of eight messages (FIPS 180-4, 6.2.2).
+//! A block taken into the hash values of each message (FIPS 180-4, 6.2.2).
 
 ghost use Rattle.std.specs.Prelude.{◌≡◌, ℕ, ◌*◌, ◌<◌, List};
 ghost use Rattle.sha2.specs.Sha256.{add_state, compress, initial_hash_256, padding, word_at};
-ghost use Rattle.sha256_lanes.specs.Lanes.{state_in, word_in};
+ghost use Rattle.lanes.specs.Lanes.{word_in};
+ghost use Rattle.sha256_lanes.specs.Lanes.{state_in};
+ghost use Rattle.lanes.specs.declared.words.TheConstants.{LANES};
 
 use crate::rounds::{Ring, State, four_block_rounds, four_later_rounds, four_padding_rounds};
-use crate::words::{same, sum};
+use lanes::{same, sum};
 
 /// The hash values before the first block (FIPS 180-4, 5.3.3).
 #[inline(always)]
 pub(crate) fn initial_state() -> State
-    ensures { (j : ℕ) → j < 8 → state_in j result ≡ initial_hash_256 }
+    ensures { (j : ℕ) → j < LANES → state_in j result ≡ initial_hash_256 }
 {
     [
         same(0x6a09e667),
@@ -27,7 +29,7 @@ pub(crate) fn initial_state() -> State
 // The words of two states, each added to its like.
 #[inline(always)]
 fn added(x: &State, y: &State) -> State
-    ensures { (j : ℕ) → j < 8
+    ensures { (j : ℕ) → j < LANES
         → state_in j result ≡ add_state (state_in j x.now) (state_in j y.now) }
 {
     [
@@ -45,7 +47,7 @@ fn added(x: &State, y: &State) -> State
 /// Takes a block of each message, as its sixteen words.
 #[inline(always)]
 pub(crate) fn compress(state: &mut State, words: Ring)
-    ensures { (j : ℕ) → j < 8 → (b : List ℕ)
+    ensures { (j : ℕ) → j < LANES → (b : List ℕ)
         → ((k : ℕ) → k < 16 → word_in words k j ≡ word_at b (4 * k))
         → state_in j state.new ≡ compress (state_in j state.old) b }
 {
@@ -67,7 +69,7 @@ pub(crate) fn compress(state: &mut State, words: Ring)
 /// Takes the block that pads a message of 64 bytes.
 #[inline(always)]
 pub(crate) fn compress_padding(state: &mut State)
-    ensures { (j : ℕ) → j < 8
+    ensures { (j : ℕ) → j < LANES
         → state_in j state.new ≡ compress (state_in j state.old) (padding 64) }
 {
     let mut v = *state;

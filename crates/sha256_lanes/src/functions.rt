@@ -1,43 +1,19 @@
-//! The standard's functions on words (FIPS 180-4, 4.1.2), for each of eight messages.
+//! The standard's functions of one word (FIPS 180-4, 4.1.2), for each message.
 
 ghost use Rattle.std.specs.Prelude.{◌≡◌, ℕ, ◌<◌, slice_index};
-ghost use Rattle.sha2.specs.Sha256.{big_sigma0, big_sigma1, ch, maj, small_sigma0, small_sigma1};
+ghost use Rattle.sha2.specs.Sha256.{big_sigma0, big_sigma1, small_sigma0, small_sigma1};
+ghost use Rattle.lanes.specs.declared.words.TheConstants.{LANES};
 
-use crate::words::{Words, common, differing, inverse, lower, rotated};
-
-/// Ch: the bits of `y` where `x` is set, and those of `z` elsewhere.
-#[inline(always)]
-pub(crate) fn choice(x: Words, y: Words, z: Words) -> Words
-    ensures { (j : ℕ) → j < 8
-        → slice_index result j ≡ ch (slice_index x j) (slice_index y j) (slice_index z j) }
-{
-    let chosen = common(x, y);
-    let elsewhere = inverse(x);
-    let other = common(elsewhere, z);
-    differing(chosen, other)
-}
-
-/// Maj: the bit that two of three have. It is that of `y`, unless both others differ from it. Where
-/// `y` and `z` differ is known from the round before, in which they were `x` and `y`.
-#[inline(always)]
-pub(crate) fn majority(x: Words, y: Words, z: Words) -> Words
-    ensures { (j : ℕ) → j < 8
-        → slice_index result j ≡ maj (slice_index x j) (slice_index y j) (slice_index z j) }
-{
-    let before = differing(x, y);
-    let after = differing(y, z);
-    let outvoted = common(before, after);
-    differing(y, outvoted)
-}
+use lanes::{Words, differing, lower, rotated_right};
 
 /// The upper case sigma 0.
 #[inline(always)]
 pub(crate) fn upper_sigma0(x: Words) -> Words
-    ensures { (j : ℕ) → j < 8 → slice_index result j ≡ big_sigma0 (slice_index x j) }
+    ensures { (j : ℕ) → j < LANES → slice_index result j ≡ big_sigma0 (slice_index x j) }
 {
-    let first = rotated(x, 2);
-    let second = rotated(x, 13);
-    let third = rotated(x, 22);
+    let first = rotated_right(x, 2);
+    let second = rotated_right(x, 13);
+    let third = rotated_right(x, 22);
     let two = differing(first, second);
     differing(two, third)
 }
@@ -45,11 +21,11 @@ pub(crate) fn upper_sigma0(x: Words) -> Words
 /// The upper case sigma 1.
 #[inline(always)]
 pub(crate) fn upper_sigma1(x: Words) -> Words
-    ensures { (j : ℕ) → j < 8 → slice_index result j ≡ big_sigma1 (slice_index x j) }
+    ensures { (j : ℕ) → j < LANES → slice_index result j ≡ big_sigma1 (slice_index x j) }
 {
-    let first = rotated(x, 6);
-    let second = rotated(x, 11);
-    let third = rotated(x, 25);
+    let first = rotated_right(x, 6);
+    let second = rotated_right(x, 11);
+    let third = rotated_right(x, 25);
     let two = differing(first, second);
     differing(two, third)
 }
@@ -57,10 +33,10 @@ pub(crate) fn upper_sigma1(x: Words) -> Words
 /// The lower case sigma 0.
 #[inline(always)]
 pub(crate) fn lower_sigma0(x: Words) -> Words
-    ensures { (j : ℕ) → j < 8 → slice_index result j ≡ small_sigma0 (slice_index x j) }
+    ensures { (j : ℕ) → j < LANES → slice_index result j ≡ small_sigma0 (slice_index x j) }
 {
-    let first = rotated(x, 7);
-    let second = rotated(x, 18);
+    let first = rotated_right(x, 7);
+    let second = rotated_right(x, 18);
     let third = lower(x, 3);
     let two = differing(first, second);
     differing(two, third)
@@ -69,10 +45,10 @@ pub(crate) fn lower_sigma0(x: Words) -> Words
 /// The lower case sigma 1.
 #[inline(always)]
 pub(crate) fn lower_sigma1(x: Words) -> Words
-    ensures { (j : ℕ) → j < 8 → slice_index result j ≡ small_sigma1 (slice_index x j) }
+    ensures { (j : ℕ) → j < LANES → slice_index result j ≡ small_sigma1 (slice_index x j) }
 {
-    let first = rotated(x, 17);
-    let second = rotated(x, 19);
+    let first = rotated_right(x, 17);
+    let second = rotated_right(x, 19);
     let third = lower(x, 10);
     let two = differing(first, second);
     differing(two, third)

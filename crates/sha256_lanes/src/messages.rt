@@ -1,35 +1,36 @@
-//! Eight messages of one length, and eight pairs of hashes.
+//! Messages of one length, and pairs of hashes.
 
 ghost use Rattle.std.specs.Prelude.{◌≡◌, ℕ, ◌+◌, ◌*◌, ◌%◌, ◌^◌, ◌<◌, ◌≤◌, ◌++◌, [], drop, length, slice_index_or, take};
 ghost use Rattle.sha2.specs.Sha256.{compress, final_hash, initial_hash_256, sha256};
 ghost use Rattle.sha256_lanes.specs.Lanes.{AreHashes, message, state_in};
+ghost use Rattle.lanes.specs.declared.words.TheConstants.{LANES};
 
 use crate::compression::{compress, compress_padding, initial_state};
 use crate::output::digests_of;
 use crate::padding::padding_block;
-use crate::reading::{block_at, same_block};
 use crate::rounds::State;
+use lanes::{LANES, block_at, same_block};
 
-/// The SHA-256 digests of eight messages of `size` bytes each, which stand one after another.
+/// The SHA-256 digests of messages of `size` bytes each, which stand one after another.
 ///
 /// Conditions: the messages are whole blocks of 64 bytes, each shorter than 2^32 bytes, and there
-/// are eight of them.
-pub fn digests(messages: &[u8], size: usize) -> [[u8; 32]; 8]
+/// is one for each lane.
+pub fn digests(messages: &[u8], size: usize) -> [[u8; 32]; LANES]
     requires whole_blocks { size % 64 ≡ 0 }
     requires short { size < 2 ^ 32 }
-    requires eight { length messages.now ≡ 8 * size }
-    ensures { (j : ℕ) → j < 8
+    requires all { length messages.now ≡ LANES * size }
+    ensures { (j : ℕ) → j < LANES
         → slice_index_or result j [] ≡ sha256 (message messages.now size j) }
 {
     let state = hash_values(messages, size);
     digests_of(&state)
 }
 
-/// The SHA-256 digests of eight pairs of hashes, which stand one after another: the nodes of a hash
-/// tree over 16 nodes. Condition: there are 16 hashes.
-pub fn parents(hashes: &[[u8; 32]]) -> [[u8; 32]; 8]
-    requires { length hashes.now ≡ 16 }
-    ensures { (j : ℕ) → j < 8 → slice_index_or result j [] ≡ sha256
+/// The SHA-256 digests of pairs of hashes, which stand one after another: the nodes of a hash tree
+/// over these. Condition: there is a pair for each lane.
+pub fn parents(hashes: &[[u8; 32]]) -> [[u8; 32]; LANES]
+    requires { length hashes.now ≡ 2 * LANES }
+    ensures { (j : ℕ) → j < LANES → slice_index_or result j [] ≡ sha256
         (slice_index_or hashes.now (2 * j) [] ++ slice_index_or hashes.now (2 * j + 1) []) }
 {
     are_hashes(hashes);
@@ -41,8 +42,8 @@ pub fn parents(hashes: &[[u8; 32]]) -> [[u8; 32]; 8]
 fn hash_values(messages: &[u8], size: usize) -> State
     requires whole_blocks { size % 64 ≡ 0 }
     requires short { size < 2 ^ 32 }
-    requires eight { length messages.now ≡ 8 * size }
-    ensures { (j : ℕ) → j < 8
+    requires all { length messages.now ≡ LANES * size }
+    ensures { (j : ℕ) → j < LANES
         → state_in j result ≡ final_hash initial_hash_256 (message messages.now size j) }
 {
     let mut state = initial_state();
@@ -57,8 +58,8 @@ fn hash_values(messages: &[u8], size: usize) -> State
 
 // The hash value of each message of 64 bytes, its padding included.
 fn pair_values(messages: &[u8]) -> State
-    requires { length messages.now ≡ 512 }
-    ensures { (j : ℕ) → j < 8
+    requires { length messages.now ≡ 64 * LANES }
+    ensures { (j : ℕ) → j < LANES
         → state_in j result ≡ final_hash initial_hash_256 (message messages.now 64 j) }
 {
     let mut state = initial_state();
@@ -71,8 +72,8 @@ fn pair_values(messages: &[u8]) -> State
 #[inline(always)]
 fn take_block(state: &mut State, messages: &[u8], size: usize, at: usize)
     requires in_message { at + 64 ≤ size }
-    requires eight { length messages.now ≡ 8 * size }
-    ensures { (j : ℕ) → j < 8 → state_in j state.new
+    requires all { length messages.now ≡ LANES * size }
+    ensures { (j : ℕ) → j < LANES → state_in j state.new
         ≡ compress (state_in j state.old) (take 64 (drop at (message messages.now size j))) }
 {
     let words = block_at(messages, size, at);

@@ -3,8 +3,10 @@
 ghost use Rattle.std.specs.Prelude.{◌≡◌, ℕ, ◌<◌, [], slice_index_or};
 ghost use Rattle.sha2.specs.Sha256.{digest_bytes};
 ghost use Rattle.sha256_lanes.specs.Lanes.{state_in};
+ghost use Rattle.lanes.specs.declared.words.TheConstants.{LANES};
 
 use crate::rounds::State;
+use lanes::LANES;
 
 // The bytes of a hash value, the high byte of each word first.
 #[inline(always)]
@@ -21,7 +23,7 @@ fn bytes_of(words: &[u32; 8]) -> [u8; 32]
 // The hash value of one message.
 #[inline(always)]
 fn words_of(state: &State, message: usize) -> [u32; 8]
-    requires { message < 8 }
+    requires { message < LANES }
     ensures { result ≡ state_in message state.now }
 {
     [
@@ -36,28 +38,23 @@ fn words_of(state: &State, message: usize) -> [u32; 8]
     ]
 }
 
-// The digest of one message.
+/// The digest of one message.
 #[inline(always)]
-fn digest_of(state: &State, message: usize) -> [u8; 32]
-    requires { message < 8 }
+pub(crate) fn digest_of(state: &State, message: usize) -> [u8; 32]
+    requires { message < LANES }
     ensures { result ≡ digest_bytes (state_in message state.now) 8 }
 {
     bytes_of(&words_of(state, message))
 }
 
 /// The digest of each message.
-pub(crate) fn digests_of(state: &State) -> [[u8; 32]; 8]
-    ensures { (j : ℕ) → j < 8
+pub(crate) fn digests_of(state: &State) -> [[u8; 32]; LANES]
+    ensures { (j : ℕ) → j < LANES
         → slice_index_or result j [] ≡ digest_bytes (state_in j state.now) 8 }
 {
-    [
-        digest_of(state, 0),
-        digest_of(state, 1),
-        digest_of(state, 2),
-        digest_of(state, 3),
-        digest_of(state, 4),
-        digest_of(state, 5),
-        digest_of(state, 6),
-        digest_of(state, 7),
-    ]
+    let mut digests = [[0; 32]; LANES];
+    'messages: for j in 0..LANES {
+        digests[j] = digest_of(state, j);
+    }
+    digests
 }

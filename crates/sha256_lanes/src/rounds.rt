@@ -1,23 +1,25 @@
-//! The rounds over a block (FIPS 180-4, 6.2.2), for each of eight messages.
+//! The rounds over a block (FIPS 180-4, 6.2.2), for each message.
 
 ghost use Rattle.std.specs.Prelude.{◌≡◌, ℕ, ◌+◌, ◌*◌, ◌<◌, ◌≤◌, List, slice_index};
 ghost use Rattle.sha2.specs.Sha256.{IsRoundsAt, IsWindow, padding, round, rounds, schedule, window_word};
-ghost use Rattle.sha256_lanes.specs.Lanes.{lane, state_in};
+ghost use Rattle.lanes.specs.Lanes.{lane};
+ghost use Rattle.sha256_lanes.specs.Lanes.{state_in};
+ghost use Rattle.lanes.specs.declared.words.TheConstants.{LANES};
 
 use crate::constants::{PADDING_SCHEDULE, ROUND_WORDS};
-use crate::functions::{choice, lower_sigma0, lower_sigma1, majority, upper_sigma0, upper_sigma1};
-use crate::words::{Words, same, sum};
+use crate::functions::{lower_sigma0, lower_sigma1, upper_sigma0, upper_sigma1};
+use lanes::{Block, Words, choice, majority, same, sum};
 
-/// The hash values of eight messages, or their working variables a to h.
+/// The hash value of each message, or its working variables a to h.
 pub(crate) type State = [Words; 8];
 
-/// Sixteen words of the schedules of eight messages: word `t` stands at place `t % 16`.
-pub(crate) type Ring = [Words; 16];
+/// Sixteen words of the schedule of each message: word `t` stands at place `t % 16`.
+pub(crate) type Ring = Block;
 
 /// One round, with its constant and a word of each schedule.
 #[inline(always)]
 pub(crate) fn round(v: State, constant: u32, word: Words) -> State
-    ensures { (j : ℕ) → j < 8
+    ensures { (j : ℕ) → j < LANES
         → state_in j result ≡ round (state_in j v) constant (slice_index word j) }
 {
     let [a, b, c, d, e, f, g, h] = v;
@@ -37,7 +39,7 @@ pub(crate) fn round(v: State, constant: u32, word: Words) -> State
 #[inline(always)]
 fn next_word(ring: &Ring, place: usize) -> Words
     requires { place < 16 }
-    ensures { (j : ℕ) → j < 8 → slice_index result j ≡ window_word (lane j ring.now) place }
+    ensures { (j : ℕ) → j < LANES → slice_index result j ≡ window_word (lane j ring.now) place }
 {
     let late = lower_sigma1(ring[(place + 14) % 16]);
     let early = lower_sigma0(ring[(place + 1) % 16]);
@@ -50,7 +52,7 @@ fn next_word(ring: &Ring, place: usize) -> Words
 #[inline(always)]
 fn block_round(ring: &Ring, v: State, t: usize) -> State
     requires { t < 16 }
-    ensures { (j : ℕ) → j < 8 → (b h : List ℕ) → IsWindow (lane j ring.now) (schedule b 48) 16
+    ensures { (j : ℕ) → j < LANES → (b h : List ℕ) → IsWindow (lane j ring.now) (schedule b 48) 16
         → state_in j v ≡ rounds h (schedule b 48) t
         → state_in j result ≡ rounds h (schedule b 48) (t + 1) }
 {
@@ -61,7 +63,7 @@ fn block_round(ring: &Ring, v: State, t: usize) -> State
 #[inline(always)]
 pub(crate) fn four_block_rounds(ring: &Ring, v: State, t: usize) -> State
     requires { t + 4 ≤ 16 }
-    ensures { (j : ℕ) → j < 8 → (b h : List ℕ) → IsWindow (lane j ring.now) (schedule b 48) 16
+    ensures { (j : ℕ) → j < LANES → (b h : List ℕ) → IsWindow (lane j ring.now) (schedule b 48) 16
         → state_in j v ≡ rounds h (schedule b 48) t
         → state_in j result ≡ rounds h (schedule b 48) (t + 4) }
 {
@@ -77,7 +79,7 @@ fn later_round(ring: &mut Ring, v: State, turn: usize, place: usize) -> State
     requires later { 1 ≤ turn }
     requires turn { turn < 4 }
     requires place { place < 16 }
-    ensures { (j : ℕ) → j < 8 → (b h : List ℕ)
+    ensures { (j : ℕ) → j < LANES → (b h : List ℕ)
         → IsRoundsAt b h (lane j ring.old) (state_in j v) (16 * turn + place)
         → IsRoundsAt b h (lane j ring.new) (state_in j result) (16 * turn + (place + 1)) }
 {
@@ -92,7 +94,7 @@ pub(crate) fn four_later_rounds(ring: &mut Ring, v: State, turn: usize, place: u
     requires later { 1 ≤ turn }
     requires turn { turn < 4 }
     requires place { place + 4 ≤ 16 }
-    ensures { (j : ℕ) → j < 8 → (b h : List ℕ)
+    ensures { (j : ℕ) → j < LANES → (b h : List ℕ)
         → IsRoundsAt b h (lane j ring.old) (state_in j v) (16 * turn + place)
         → IsRoundsAt b h (lane j ring.new) (state_in j result) (16 * turn + (place + 4)) }
 {
@@ -106,7 +108,7 @@ pub(crate) fn four_later_rounds(ring: &mut Ring, v: State, turn: usize, place: u
 #[inline(always)]
 fn padding_round(v: State, t: usize) -> State
     requires { t < 64 }
-    ensures { (j : ℕ) → j < 8 → (h : List ℕ)
+    ensures { (j : ℕ) → j < LANES → (h : List ℕ)
         → state_in j v ≡ rounds h (schedule (padding 64) 48) t
         → state_in j result ≡ rounds h (schedule (padding 64) 48) (t + 1) }
 {
@@ -118,7 +120,7 @@ fn padding_round(v: State, t: usize) -> State
 #[inline(always)]
 pub(crate) fn four_padding_rounds(v: State, t: usize) -> State
     requires { t + 4 ≤ 64 }
-    ensures { (j : ℕ) → j < 8 → (h : List ℕ)
+    ensures { (j : ℕ) → j < LANES → (h : List ℕ)
         → state_in j v ≡ rounds h (schedule (padding 64) 48) t
         → state_in j result ≡ rounds h (schedule (padding 64) 48) (t + 4) }
 {

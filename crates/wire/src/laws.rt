@@ -2,9 +2,11 @@
 ghost use Rattle.std.specs.Prelude.{◌≡◌};
 ghost use Rattle.wire.specs.Laws.{OneListOfFrames, EachStreamHasFrames, FramesAfterFrames, OneMeaning, WrittenIsRead};
 ghost use Rattle.wire.specs.RecordLaws.{OneReadingOfRecord, EachRecordHasFrames, FormOneIsStream, RestOfRecord, ConversionIsRecord, ConversionMeans};
+ghost use Rattle.wire.specs.Meaning.{ask_size, request_id};
 ghost use Rattle.wire.specs.Records.{header};
 
 use crate::form::HEADER;
+use crate::kind::{ASK_SIZE, REQUEST_ID};
 
 /// A stream has one list of frames and one rest.
 pub fn one_list_of_frames()
@@ -46,6 +48,12 @@ pub fn records_have_frames()
 /// The constant is what a record of form 2 begins with.
 pub fn header_begins_form_2()
     ensures { HEADER ≡ header }
+{}
+
+/// The constants are the id and the size of a hash request.
+pub fn constants_of_hash_requests()
+    ensures id { REQUEST_ID ≡ request_id }
+    ensures size { ASK_SIZE ≡ ask_size }
 {}
 
 /// The conversion of whole frames is a record of form 2, whose frames mean what the converted

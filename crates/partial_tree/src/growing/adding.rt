@@ -28,7 +28,9 @@ pub(crate) fn add<N: NodeMap>(
     ensures hash { IsHash hash }
     ensures one { OnOk result
         (finite.len (N.seen map.new).known ≡ finite.len (N.seen map.old).known + 1) }
+    ensures few { N.held map.new ≤ N.held map.old + 1 }
     ensures refused { OnErr result (N.seen map.new ≡ N.seen map.old) }
+    ensures unheld { OnErr result (N.held map.new ≡ N.held map.old) }
 {
     is_hash(&hash);
     map.reserve(layer, index, 1)?;

@@ -3,7 +3,7 @@
 //! The leaves are kept where they will stay: in a node map of their own, which a tree then takes
 //! over. So no list of them stands beside it.
 
-ghost use Rattle.std.specs.Prelude.{◌≡◌, ◌<◌, ◌++◌, [], ◌∷◌, IfOk, OnOk, OnErr, length};
+ghost use Rattle.std.specs.Prelude.{◌≡◌, ◌<◌, ◌≤◌, ◌++◌, [], ◌∷◌, IfOk, OnOk, OnErr, length};
 ghost use Rattle.hashtree.specs.Tree.{block_count};
 
 use crate::growing::adding::{add, add_pads, add_parents};
@@ -37,7 +37,8 @@ impl<N: NodeMap> Model for GrowingTree<N> {
     ghost invariant = { λ t. ((N.seen t.nodes).length ≡ t.shape)
         × (t.count ≤ block_count t.shape)
         × ((N.seen t.nodes).marked ≡ empty)
-        × IsGrowing t.count (N.seen t.nodes).known };
+        × IsGrowing t.count (N.seen t.nodes).known
+        × (N.held t.nodes ≤ t.count) };
 }
 
 impl<N: NodeMap> GrowingTree<N> {
@@ -64,6 +65,13 @@ impl<N: NodeMap> GrowingTree<N> {
         add(&mut self.nodes, 0, self.count, leaf)?;
         self.count += 1;
         Ok(())
+    }
+
+    /// How many pages are held: no more than leaves were given.
+    pub fn pages(&self) -> u64
+        ensures { result ≤ length self.now.leaves }
+    {
+        self.nodes.pages()
     }
 
     /// The whole tree over the leaves, with the pads past the file's end. It fails only if memory

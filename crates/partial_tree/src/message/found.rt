@@ -1,6 +1,7 @@
 //! What hashes claim of a tree and is not known yet.
 
-ghost use Rattle.std.specs.Prelude.{◌≡◌, ◌⊎◌, ℕ, ◌↔◌, ◌++◌, ◌∷◌, [], true, false, IsTrue};
+ghost use Rattle.std.specs.Prelude.{◌≡◌, ◌⊎◌, ℕ, ◌↔◌, ◌++◌, ◌∷◌, [], ◌≤◌, true, false, IsTrue};
+ghost use Rattle.std.specs.Vec.{vec_capacity};
 
 use hashtree::Hash;
 use std::alloc::Global;
@@ -28,6 +29,7 @@ impl NewClaims {
     /// Nothing yet, with room for so many claims, or for none if memory is refused.
     pub(crate) fn new(alloc: Global, most: usize) -> NewClaims
         ensures claims { result.claims.items ≡ [] }
+        ensures room { vec_capacity result.claims ≤ most }
         ensures complete { result.incomplete ≡ false }
     {
         let claims = match Vec::with_capacity(alloc, most) {
@@ -53,6 +55,7 @@ impl NewClaims {
         ensures grows { Grows self.old self.new }
         ensures sound { (C : PartialTree) → C claim.layer claim.index ≡ Some claim.hash
             → AreClaims C self.old.claims.items → AreClaims C self.new.claims.items }
+        ensures room { vec_capacity self.new.claims ≡ vec_capacity self.old.claims }
     {
         if self.claims.len() < self.claims.capacity() {
             self.claims.push_reserved(claim);

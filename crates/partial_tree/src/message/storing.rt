@@ -127,9 +127,10 @@ fn put_found<N: NodeMap>(
     put_new(map, &found.claims)
 }
 
-// Room for all that a message claims; none for a layer that claims more.
+// Room for all that a message claims: 16,448 places at most. None for a layer that claims more.
 fn room_for(evidence: &Evidence) -> usize
     requires { IsInside evidence.now }
+    ensures { result ≤ 16448 }
 {
     let most = (2usize << evidence.span) + 2 * MAX_HEIGHT;
     if most <= MOST_LISTED { most } else { 0 }

@@ -5,7 +5,7 @@ const UNITS: [&str; 6] = ["KiB", "MiB", "GiB", "TiB", "PiB", "EiB"];
 
 /// A number of bytes, in the largest unit of which there is one, with one decimal, cut off.
 #[derive(Drop)]
-pub(crate) struct Amount(pub(crate) u64);
+pub struct Amount(pub u64);
 
 impl fmt::Display for Amount {
     fn fmt<W: fmt::Write>(&self, f: &mut fmt::Formatter<W>) -> fmt::Result {

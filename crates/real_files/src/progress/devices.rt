@@ -27,6 +27,11 @@ impl<'p, R: Source, N: AsStr> Counted<'p, R, N> {
             place,
         }
     }
+
+    /// The name of the file.
+    pub(crate) fn name(&self) -> &str {
+        self.name.as_str()
+    }
 }
 
 impl<'p, R: Source, N: AsStr> Source for Counted<'p, R, N> {

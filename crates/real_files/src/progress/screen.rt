@@ -17,10 +17,13 @@ const NO_WRAP: &str = "\x1b[?7l";
 
 const WRAP: &str = "\x1b[?7h";
 
-/// A line on standard error that says how far a command has come. There is none if standard error
-/// is no terminal or `TERM` is `dumb`; then no clock is read either. It goes when this is dropped.
+/// How far a command has come, and a line on standard error that says it. There is no line if
+/// standard error is no terminal or `TERM` is `dumb`; then no clock is read either. It goes when
+/// this is dropped.
 pub struct Progress {
     rt: HostRuntime,
+    // How many bytes were read.
+    read: Cell<u64>,
     screen: Option<Screen>,
 }
 
@@ -30,8 +33,7 @@ struct Screen {
     columns: usize,
     all: Cell<Option<u64>>,
     start: Instant,
-    // How many bytes were read, and how many of these since the clock was read.
-    read: Cell<u64>,
+    // How many bytes were read since the clock was.
     unseen: Cell<u64>,
     // When the line was drawn, and how many columns it takes.
     drawn: Cell<Instant>,
@@ -43,6 +45,7 @@ impl Progress {
     pub fn new(rt: &HostRuntime, all: Option<u64>) -> Progress {
         Progress {
             rt: *rt,
+            read: Cell::new(0),
             screen: screen_for(rt, all),
         }
     }
@@ -50,10 +53,12 @@ impl Progress {
     /// Takes note of so many bytes more of the file with this name, and of the place in all bytes.
     /// It draws the line anew if it is time to.
     pub fn note(&self, count: usize, place: u64, name: &str) {
+        let count = count as u64;
+        self.read.set(self.read.get().saturating_add(count));
         let Some(screen) = &self.screen else {
             return;
         };
-        screen.count(count as u64);
+        screen.unseen.set(screen.unseen.get().saturating_add(count));
         if screen.unseen.get() < BYTES_BETWEEN_LOOKS {
             return;
         }
@@ -70,12 +75,9 @@ impl Progress {
         }
     }
 
-    /// How many bytes were read, if there is a line.
+    /// How many bytes were read.
     pub fn read(&self) -> u64 {
-        match &self.screen {
-            Some(screen) => screen.read.get(),
-            None => 0,
-        }
+        self.read.get()
     }
 
     /// Takes the line away, if there is one.
@@ -99,7 +101,7 @@ impl Progress {
         let figures = Figures {
             done: place,
             all: screen.all.get(),
-            read: screen.read.get(),
+            read: self.read.get(),
             time: now.duration_since(screen.start),
         };
         let line = line_of(&figures, name, screen.columns);
@@ -130,14 +132,11 @@ impl Progress {
 impl Drop for Progress {
     fn drop(self) {
         self.clear();
-        let Progress { rt: _, screen: _ } = self;
-    }
-}
-
-impl Screen {
-    fn count(&self, count: u64) {
-        self.read.set(self.read.get().saturating_add(count));
-        self.unseen.set(self.unseen.get().saturating_add(count));
+        let Progress {
+            rt: _,
+            read: _,
+            screen: _,
+        } = self;
     }
 }
 
@@ -150,7 +149,6 @@ fn screen_for(rt: &HostRuntime, all: Option<u64>) -> Option<Screen> {
         columns: columns.saturating_sub(1),
         all: Cell::new(all),
         start,
-        read: Cell::new(0),
         unseen: Cell::new(0),
         drawn: Cell::new(start),
         width: Cell::new(0),

@@ -1,29 +1,23 @@
 use Rattle.std.proofs.Common.{◌≡◌, ℕ, List, Option, ◌-◌, inl, length, map, take, [], ◌∷◌, ◌++◌, Some, None, Ok, option_copied, refl, sym, ap, ◌∙◌, arith}
-use Rattle.std.specs.Prelude.{IfSome}
-use Rattle.std.specs.Option.{option_map}
 use Rattle.std.specs.Int.{w64}
 use Rattle.std.proofs.lemmas.Int.{to_z-of_z}
 use Rattle.std.proofs.lemmas.Result.{err_from_is_err_and}
 use Rattle.benc.specs.Value.{Bencode, int, text, list, dict}
 use Rattle.benc.specs.View.{view, pair_view, items_of, pairs_of}
-use Rattle.benc.specs.Lookup.{under}
-use Rattle.benc.specs.Text.{spelling}
 use Rattle.benc.specs.Parser.{◌>>=◌, GrowsForItem, GrowsForPair, begun_at, value_at, items_behind, pairs_behind}
 use Rattle.benc.specs.Fails.{Reaches}
 use Rattle.benc.proofs.Reached.{list_reaches, dict_reaches}
-use Rattle.benc.proofs.Lookups.{span_push}
+use Rattle.benc.proofs.Lookups.{none_yet, span_push}
 use Rattle.benc.proofs.SoFar.{value_of, same_value, left_mapped, value_bytes, items_begin, items_next, items_all, items_cut, items_failed, items_grow_here}
 use Rattle.benc.proofs.SoFar.{items_reach, pairs_begin, pairs_next, pairs_all, pairs_cut, pairs_keyless, pairs_failed, pairs_grow_here, pairs_reach}
 use Rattle.benc.proofs.Stores.{keeps_before, refused_more, refused_then, kept_push}
-use Rattle.benc.proofs.Values.{value_none, value_integer, value_items, value_pairs, list_too_deep, dict_too_deep}
+use Rattle.benc.proofs.Thrifty.{all_more, thrifty_pair}
+use Rattle.benc.specs.Thrift.{is_thrifty, pair_is_thrifty}
+use Rattle.benc.proofs.Values.{at_front, value_none, value_integer, value_items, value_pairs, list_too_deep, dict_too_deep}
 use Rattle.benc.proofs.Values.{value_text, value_other, view-Int, view-Bytes, view-List, view-Dict, view-Pair}
 use Rattle.benc.specs.declared.value.Pair.{Pair}
 use Rattle.benc.proofs.parser.+read.Goals as goal
 use Rattle.benc.proofs.parser.+read.Goals.{value-in_default-first-via-then-first-lt48, value-in_default-first-via-else-first-lt48+else-first-lt58}
-
--- bytes whose first one is known begin with it
-at_front : {b first : ℕ} {bytes rest : List ℕ} → bytes ≡ first ∷ rest → first ≡ b → bytes ≡ b ∷ rest
-at_front {rest = rest} is same = is ∙ ap (λ x. x ∷ rest) same
 
 pub value-returns-in_default-clause-read : goal.value-returns-in_default-clause-read
 value-returns-in_default-clause-read t c = value_none c.args.room c.args.bytes.now (grind arith)
@@ -136,6 +130,8 @@ pub items-items-init : goal.items-items-init
 items-items-init t c = record {
   read = ([], items_begin c.args.room c.args.bytes.now, λ kept. ap (map view) (sym c.new-found.ensures.items));
   refused = inl refl;
+  room = omega (arith, c.new-found.ensures.capacity);
+  thrifty = rw c.new-found.ensures.items refl;
 }
 
 pub items-returns-in_default-clause-read : goal.items-returns-in_default-clause-read
@@ -191,17 +187,17 @@ items-items-preserved t c =
           (refused_then c.args.store.now l.store middle Grows (Reaches room here) l.invariant.refused given.memory
           (λ there r. items_reach room bytes here start there vs so r))
           c.push.ensures.refused (λ there same. items_grow_here room bytes here after start there vs v.0 so v.1 same);
+      room = c.push.ensures.room l.invariant.room;
+      thrifty = all_more is_thrifty l.found.items c.push.new.found.items c.in_ok-item.item l.invariant.thrifty given.room c.push.ensures.lost;
     }
 
 pub pairs-pairs-init : goal.pairs-pairs-init
 pairs-pairs-init t c = record {
   read = ([], pairs_begin c.args.room c.args.bytes.now, λ kept. ap (map pair_view) (sym c.new-found.ensures.items), none_yet (option_copied c.args.asked));
   refused = inl refl;
+  room = omega (arith, c.new-found.ensures.capacity);
+  thrifty = rw c.new-found.ensures.items refl;
 }
-  where
-    none_yet : (asked : Option (List ℕ)) → IfSome asked (λ key. ◌≡◌ {A = Option (List ℕ)} None (option_map spelling (under key (pairs_of []))))
-    none_yet None = tt
-    none_yet (Some key) = refl
 
 pub pairs-returns-in_default-clause-read : goal.pairs-returns-in_default-clause-read
 pairs-returns-in_default-clause-read t c =
@@ -276,6 +272,9 @@ pairs-pairs-preserved t c =
           (refused_then c.args.store.now l.store middle Grows (Reaches room behind) l.invariant.refused given.memory
           (λ there r. pairs_reach room bytes here behind start there last ps k so key r))
           c.push.ensures.refused (λ there same. pairs_grow_here room bytes here behind after start there last ps k v.0 so key v.1 same);
+      room = c.push.ensures.room l.invariant.room;
+      thrifty = all_more pair_is_thrifty l.found.items c.push.new.found.items x l.invariant.thrifty
+          (thrifty_pair c.in-Ok.x.0 c.in_ok-item.item given.room) c.push.ensures.lost;
     }
 
 pub items-items-smaller : goal.items-items-smaller

@@ -1,4 +1,4 @@
-use Rattle.std.proofs.Common.{◌≡◌, ◌+◌, ◌*◌, List, length, map}
+use Rattle.std.proofs.Common.{◌≡◌, ◌+◌, ◌*◌, List, length, map, vec_capacity}
 use Rattle.std.specs.Prelude.{IfSome}
 use Rattle.std.specs.Option.{option_copied, option_map}
 use Rattle.benc.specs.Lookup.{under}
@@ -7,6 +7,7 @@ use Rattle.benc.specs.Value.{Bencode}
 use Rattle.benc.specs.View.{Seen, view, pair_view, pairs_of}
 use Rattle.benc.specs.Parser.{GrowsForItem, GrowsForPair}
 use Rattle.benc.specs.Storing.{Keeps, Refused}
+use Rattle.benc.specs.Thrift.{AreThrifty, ArePairsThrifty, IsSmallRoom}
 use Rattle.benc.proofs.SoFar.{ItemsSoFar, PairsSoFar}
 use Rattle.benc.proofs.parser.+read.Given as goal
 
@@ -24,6 +25,8 @@ abbrev pub invariant-items-items : goal.invariant-items-items
 invariant-items-items l = record {
   read : (vs : List Bencode) × ItemsSoFar l.room l.bytes l.rest vs × (Keeps l.store → vs ≡ map view l.found.items);
   refused : Refused l.fn.store l.store (GrowsForItem l.room l.start l.bytes);
+  room : IsSmallRoom (vec_capacity l.found) (length l.found.items);
+  thrifty : AreThrifty l.found.items;
 }
 
 abbrev pub decreases-items-items : goal.decreases-items-items
@@ -34,6 +37,8 @@ invariant-pairs-pairs l = record {
   read : (ps : List Seen) × PairsSoFar l.room l.bytes l.rest (option_copied l.before) ps × (Keeps l.store → ps ≡ map pair_view l.found.items)
       × IfSome (option_copied l.asked) (λ key. option_copied l.span ≡ option_map spelling (under key (pairs_of ps)));
   refused : Refused l.fn.store l.store (GrowsForPair l.room l.start l.bytes);
+  room : IsSmallRoom (vec_capacity l.found) (length l.found.items);
+  thrifty : ArePairsThrifty l.found.items;
 }
 
 abbrev pub decreases-pairs-pairs : goal.decreases-pairs-pairs

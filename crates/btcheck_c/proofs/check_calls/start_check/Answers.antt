@@ -5,5 +5,5 @@ use Rattle.btcheck_c.proofs.check_calls.start_check.Goals as goal
 
 pub returns-in-Session : goal.returns-in-Session
 returns-in-Session c =
-    subst (λ k. StartsCheck c.args.number k c.check_of.result (kind.Session c.in-Session.session)) (sym c.in-Session.is)
-    (refl, subst (λ d. ChecksFile d c.args.number c.check_of.result) c.torrent.ensures c.check_of.ensures)
+    subst (λ k. StartsCheck c.args.number k c.begun.result (kind.Session c.in-Session.session)) (sym c.in-Session.is)
+    (refl, subst (λ d. ChecksFile d c.args.number c.begun.result) c.torrent.ensures c.begun.ensures)

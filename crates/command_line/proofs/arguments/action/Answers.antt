@@ -10,7 +10,7 @@ use Rattle.clap.specs.Walk.{Row, Text}
 use Rattle.clap.specs.declared.error.Error.{Error}
 use Rattle.clap.specs.declared.error.kind.ErrorKind.TheVariants.{OutOfMemory}
 use Rattle.clap.specs.declared.parser.matches.ArgMatches.{ArgMatches}
-use Rattle.actions.specs.declared.command.Action.{Action}
+use Rattle.actions.specs.declared.command.Asked.{Asked}
 use Rattle.command_line.specs.CommandLine.{IsAskedBy, IsAskedIn, IsFoundIn, IsNothing, IsRefusalOf, IsTaken, IsUnaskedKind, program}
 use Rattle.command_line.proofs.arguments.action.Goals as goal
 
@@ -43,7 +43,7 @@ returns-in_err-matches-clause-refused c =
     rw error.1 (inl (subst (HasKind (fault_of program words)) (sym error.2) kinds))
 
 -- an action of what was found is one that the words ask for
-asked_by : {E : Type 0} (r : Result Action E) (words : List (List ℕ)) (found : Option (Text × List Row)) → found ≡ subcommand_of program words → IsTaken words
+asked_by : {E : Type 0} (r : Result Asked E) (words : List (List ℕ)) (found : Option (Text × List Row)) → found ≡ subcommand_of program words → IsTaken words
     → IfOk r (IsAskedIn found) → IfOk r (IsAskedBy words)
 asked_by (Ok a) words found same taken is = (taken, subst (λ f. IsAskedIn f a) same is)
 asked_by (Err e) words found same taken is = tt
@@ -52,16 +52,16 @@ abbrev Unasked : Option (Text × List Row) → Error → Type 0
 Unasked found e = (kind_of e ≡ OutOfMemory) ⊎ (IsUnaskedKind (kind_of e) × IsNothing found)
 
 -- what was found is why they ask for none
-refusal_of : (r : Result Action Error) (words : List (List ℕ)) (found : Option (Text × List Row)) → found ≡ subcommand_of program words → IsTaken words
+refusal_of : (r : Result Asked Error) (words : List (List ℕ)) (found : Option (Text × List Row)) → found ≡ subcommand_of program words → IsTaken words
     → IfErr r (Unasked found) → IfErr r (λ e. IsRefusalOf words (kind_of e))
 refusal_of (Ok a) words found same taken is = tt
 refusal_of (Err e) words found same taken (inl memory) = inl (inl memory)
 refusal_of (Err e) words found same taken (inr why) = inr (taken, subst IsNothing same why.1, why.0)
 
 -- if they ask for one, memory was refused
-memory_of : (r : Result Action Error) (words : List (List ℕ)) (found : Option (Text × List Row)) → found ≡ subcommand_of program words
+memory_of : (r : Result Asked Error) (words : List (List ℕ)) (found : Option (Text × List Row)) → found ≡ subcommand_of program words
     → IfErr r (Unasked found)
-    → IfErr r (λ e. takes program words ≡ true → (asked : Action) → IsFoundIn words asked → kind_of e ≡ OutOfMemory)
+    → IfErr r (λ e. takes program words ≡ true → (asked : Asked) → IsFoundIn words asked → kind_of e ≡ OutOfMemory)
 memory_of (Ok a) words found same is = tt
 memory_of (Err e) words found same (inl memory) = λ met asked there. memory
 memory_of (Err e) words found same (inr why) = λ met asked there. absurd (subst IsNothing same why.1 asked there)

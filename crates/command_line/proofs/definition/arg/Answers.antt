@@ -4,12 +4,11 @@ use Rattle.clap.specs.Simple.{new_rule}
 use Rattle.clap.specs.Walk.{Text, rule_of}
 use Rattle.clap.specs.declared.builder.action.ArgAction.{ArgAction}
 use Rattle.clap.specs.declared.builder.action.ArgAction.TheVariants.{SetTrue}
-use Rattle.clap.specs.declared.builder.value_parser.ValueParser.TheVariants.{Unsigned}
 use Rattle.clap.specs.declared.builder.arg.Arg.{Arg}
 use Rattle.command_line.specs.CommandLine.{IsArgument}
 use Rattle.command_line.specs.Table.{action_for, needs, rule_for, word}
 use Rattle.command_line.specs.declared.definition.Times.{Times}
-use Rattle.command_line.proofs.Building.{set_action, set_help, set_long, set_parser, set_required, set_value_name}
+use Rattle.command_line.proofs.Building.{set_action, set_help, set_long, set_required, set_short, set_value_name}
 use Rattle.command_line.proofs.definition.arg.Goals as goal
 
 -- what is made of each argument is a word that is there so often
@@ -36,6 +35,15 @@ returns-in-Flag c =
     subst (λ k. IsArgument (rule_for c.args.name.now k c.args.times) c.action-in-Flag.result) (sym c.in-Flag.is)
     (set_action c.long.result c.action-in-Flag.result SetTrue _ c.action-in-Flag.ensures long)
 
+pub returns-in-ShortFlag : goal.returns-in-ShortFlag
+returns-in-ShortFlag c =
+    let made = begun _ _ _ _ c.args.name.now c.args.times _ _ _ c.new.ensures.rule c.new.ensures.optional.1 c.is_needed.ensures c.action.ensures
+    c.required.ensures c.action-2.ensures c.help-argument.ensures in
+    let long = set_long c.help-argument.result c.long-in-ShortFlag.result c.args.name _ c.long-in-ShortFlag.ensures made in
+    let short = set_short c.long-in-ShortFlag.result c.short.result c.in-ShortFlag.letter _ c.short.ensures long in
+    subst (λ k. IsArgument (rule_for c.args.name.now k c.args.times) c.action-in-ShortFlag.result) (sym c.in-ShortFlag.is)
+    (set_action c.short.result c.action-in-ShortFlag.result SetTrue _ c.action-in-ShortFlag.ensures short)
+
 pub returns-in-Text : goal.returns-in-Text
 returns-in-Text c =
     let made = begun _ _ _ _ c.args.name.now c.args.times _ _ _ c.new.ensures.rule c.new.ensures.optional.1 c.is_needed.ensures c.action.ensures
@@ -44,13 +52,11 @@ returns-in-Text c =
     subst (λ k. IsArgument (rule_for c.args.name.now k c.args.times) c.value_name.result) (sym c.in-Text.is)
     (set_value_name c.long-in-Text.result c.value_name.result c.in-Text.value _ c.value_name.ensures long)
 
-pub returns-in-Number : goal.returns-in-Number
-returns-in-Number c =
+pub returns-in-ShortText : goal.returns-in-ShortText
+returns-in-ShortText c =
     let made = begun _ _ _ _ c.args.name.now c.args.times _ _ _ c.new.ensures.rule c.new.ensures.optional.1 c.is_needed.ensures c.action.ensures
     c.required.ensures c.action-2.ensures c.help-argument.ensures in
-    let long = set_long c.help-argument.result c.long-in-Number.result c.args.name _ c.long-in-Number.ensures made in
-    let valued = set_value_name c.long-in-Number.result c.value_name-in-Number.result c.in-Number.value _ c.value_name-in-Number.ensures long in
-    let parser = c.value_parser-in-Number.ensures in
-    subst (λ k. IsArgument (rule_for c.args.name.now k c.args.times) c.value_parser-in-Number.result) (sym c.in-Number.is)
-    (set_parser c.value_name-in-Number.result c.value_parser-in-Number.result parser.given.0 (Unsigned 0 18446744073709551615) _ parser.others
-    parser.given.1 (parser.given.2 ∙ c.value_parser.ensures) valued)
+    let long = set_long c.help-argument.result c.long-in-ShortText.result c.args.name _ c.long-in-ShortText.ensures made in
+    let short = set_short c.long-in-ShortText.result c.short-in-ShortText.result c.in-ShortText.letter _ c.short-in-ShortText.ensures long in
+    subst (λ k. IsArgument (rule_for c.args.name.now k c.args.times) c.value_name-in-ShortText.result) (sym c.in-ShortText.is)
+    (set_value_name c.short-in-ShortText.result c.value_name-in-ShortText.result c.in-ShortText.value _ c.value_name-in-ShortText.ensures short)

@@ -13,4 +13,4 @@ returns-in-Some c =
     let rows = rows_of (found_of c.in-Some.found.now) in
     let found = both_found (out-ArgMatches matches).subcommand name rows
     (sym c.in-Some.ensures.name) (sym c.in-Some.ensures.rows) in
-    asked_if (subcommand_rows_of matches) name rows c.action_of.result found c.action_of.ensures
+    asked_if (subcommand_rows_of matches) name rows c.asked_of.result found c.asked_of.ensures

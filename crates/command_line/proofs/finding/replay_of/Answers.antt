@@ -15,5 +15,14 @@ returns-in_err-record c = rw c.from_residual-in_err-record.ensures (needs_text (
 pub returns : goal.returns
 returns c = (
   refl,
-  (c.in_ok-torrent.ensures, c.in_ok-record.ensures, c.is_given.ensures, c.text-3.ensures, c.text-4.ensures, c.is_given-2.ensures),
+  (
+    c.in_ok-torrent.ensures,
+    c.in_ok-record.ensures,
+    c.is_given.ensures,
+    c.text-3.ensures,
+    c.text-4.ensures,
+    c.is_given-2.ensures,
+    c.is_given-3.ensures,
+    c.is_given-4.ensures,
+  ),
 )

@@ -10,10 +10,10 @@ returns-in-Ok-clause-no_further g c = c.in-Ok.ensures.no_further
 pub returns-in-Ok-clause-faults : goal.returns-in-Ok-clause-faults
 returns-in-Ok-clause-faults g c = c.in-Ok.ensures.faults
 
-pub returns-in-Err-Write-clause-ends : goal.returns-in-Err-Write-clause-ends
-returns-in-Err-Write-clause-ends g c = rw c.in-Err-Write.field-0-is at c.in-Err-Write.ensures.ends
+pub returns-clause-ends : goal.returns-clause-ends
+returns-clause-ends g c = rw c.in-Err-Write.field-0-is at c.in-Err-Write.ensures.ends
 
-pub returns-in-Err-Write-clause-faults : goal.returns-in-Err-Write-clause-faults
-returns-in-Err-Write-clause-faults g c =
+pub returns-clause-faults : goal.returns-clause-faults
+returns-clause-faults g c =
     let blames = rw c.in-Err-Write.field-0-is at c.in-Err-Write.ensures.faults in
     (refl, blames)

@@ -54,7 +54,7 @@ returns-in-0 g c = λ first start gave sent.
     let rest = take held buffer in
     let e = c.in_ok-count.ensures in
     let few : held < 53 = c.in_ok-held.ensures.waits.1 in
-    let size : length buffer ≡ 65536 = omega (arith, c.convert_held.auto.buffer, c.parts.auto.buffer, c.requires.room) in
+    let size : length buffer ≡ 40960 = omega (arith, c.convert_held.auto.buffer, c.parts.auto.buffer, c.requires.room) in
     let room : 0 < length c.read.new.buf = omega (
       arith,
       few,

@@ -6,14 +6,5 @@ use Rattle.gathering.proofs.visiting.hash_file.Goals as goal
 pub returns-in-Ok-Some-clause-visits : goal.returns-in-Ok-Some-clause-visits
 returns-in-Ok-Some-clause-visits g c =
     subst (VisitsFile g.S.Shelf g.S.File.Source.seen c.args.kind.now.piece_length c.args.kind.now.hybrid c.args.shelf.now _ _) (sym c.hashes_or_fault.ensures)
-    (visited g.S.Shelf g.S.File.Source.seen c.args.kind.now.piece_length c.args.kind.now.hybrid c.args.shelf.now _ _ _ _ _ c.read_file-read.result
-    (record {
-      opened = rw c.in-Ok-Some.field-0-is at c.in-Ok-Some.ensures.opens;
-      found = rw c.in-Ok-Some.field-0-is at c.in-Ok-Some.ensures.found;
-      fresh = rw c.in-Ok-Some.field-0-is at c.in-Ok-Some.ensures.fresh;
-      steady = c.in-Ok-Some.ensures.counts;
-      within = c.read_file-read.ensures.no_further;
-      closed = c.close.ensures.closes;
-      added = c.close.ensures.counts;
-    })
-    c.read_file-read.ensures.read c.read_file-read.ensures.counts)
+    (visited g.S.Shelf g.S.File.Source.seen c.args.kind.now.piece_length c.args.kind.now.hybrid c.args.shelf.now _ _ _
+    (rw c.in-Ok-Some.field-0-is at c.in-Ok-Some.ensures.visits))

@@ -1,4 +1,4 @@
-use Rattle.std.proofs.Common.{None, is_some, true, not, get_or, sym, ap, ◌∙◌, below_more}
+use Rattle.std.proofs.Common.{None, is_some, not, get_or, sym, ap, ◌∙◌, below_more}
 use Rattle.std.proofs.lemmas.Bool.{false≢true}
 use Rattle.chains.proofs.Cases.{some_of}
 use Rattle.node_maps.specs.Flat.{hash_in_row}

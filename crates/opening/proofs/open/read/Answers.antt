@@ -22,7 +22,7 @@ use Rattle.opening.specs.Steps.{pairs_seen}
 use Rattle.opening.specs.Trees.{root_of_tree, roots_in}
 use Rattle.opening.specs.declared.open.Listed.{Listed}
 use Rattle.opening.proofs.Assembling.{IsReadFrom, files_refused, fits_stream, hybrid_refused, is_described, none_holds, sizes_of}
-use Rattle.opening.proofs.Growing.{plain_passed}
+use Rattle.opening.proofs.Growing.{plain_pass}
 use Rattle.opening.proofs.Rooting.{roots_back}
 use Rattle.opening.proofs.Sounding.{sound, tree_paths}
 use Rattle.opening.proofs.KeyTests.{tree_fits}
@@ -82,7 +82,7 @@ pub returns-in_err-files-clause-memory : goal.returns-in_err-files-clause-memory
 returns-in_err-files-clause-memory c =
     let x = c.in_ok-keys.ensures.passes in
     let p = err_from_is_err_and c.from_residual-in_err-files.result c.from_residual-in_err-files.ensures.1 in
-    rw (p.1, p.2) (λ _. plain_passed (view c.args.top.now) (pairs_view c.in_ok-keys.field-0.keys.tree.now) x.0 x.1.tree x.4)
+    rw (p.1, p.2) (λ _. plain_pass (view c.args.top.now) (pairs_view c.in_ok-keys.field-0.keys.tree.now) x.0 x.1.tree x.4)
 
 pub returns-in_err-v1-clause-passes : goal.returns-in_err-v1-clause-passes
 returns-in_err-v1-clause-passes c =
@@ -102,7 +102,7 @@ pub returns-in_err-v1-clause-memory : goal.returns-in_err-v1-clause-memory
 returns-in_err-v1-clause-memory c =
     let x = c.in_ok-keys.ensures.passes in
     let p = err_from_is_err_and c.from_residual-in_err-v1.result c.from_residual-in_err-v1.ensures.1 in
-    rw (p.1, p.2) (λ _. plain_passed (view c.args.top.now) (pairs_view c.in_ok-keys.field-0.keys.tree.now) x.0 x.1.tree x.4)
+    rw (p.1, p.2) (λ _. plain_pass (view c.args.top.now) (pairs_view c.in_ok-keys.field-0.keys.tree.now) x.0 x.1.tree x.4)
 
 pub new-requires-clause-numbers : goal.new-requires-clause-numbers
 new-requires-clause-numbers c =

@@ -1,11 +1,18 @@
-use Rattle.std.proofs.Common.{◌≡◌, List, length, map}
+use Rattle.std.proofs.Common.{◌≡◌, ◌*◌, List, length, map}
 use Rattle.parts.specs.Joins.{IsJoin}
-use Rattle.parts.specs.Parts.{PartReport}
-use Rattle.part_reports.specs.Joined.{AreRead}
+use Rattle.parts.specs.Shares.{start}
+use Rattle.part_reports.specs.Lines.{MarkedPart, part_of}
+use Rattle.part_reports.specs.MarkedJoins.{AreMarksOf, AreReadAs}
+use Rattle.part_reports.specs.Marks.{HasRoom}
+use Rattle.part_reports.specs.Starts.{IsPassed}
 use Rattle.part_reports.proofs.joining.join_parts.Given as goal
 
--- the reports of the first parts were read, and are joined
+-- the reports of the first parts were read, and are joined; and the next part begins here
 abbrev pub invariant-parts : goal.invariant-parts
 invariant-parts l =
-    (reports : List PartReport) × (length reports ≡ l.part) × AreRead l.torrent (map (λ x. x.now) l.texts) l.numbers.count reports
-    × IsJoin l.torrent reports l.joined.files.items l.joined.v1
+    (parts : List MarkedPart) × (length parts ≡ l.part) × AreReadAs l.kind l.torrent (map (λ x. x.now) l.texts) l.numbers.count parts
+    × IsJoin l.torrent (map part_of parts) l.joined.report.files.items l.joined.report.v1
+    × (l.start.place ≡ start l.torrent l.part l.numbers.count)
+    × IsPassed l.torrent l.start (l.division.part_bytes * l.part)
+    × AreMarksOf l.torrent parts l.joined
+    × HasRoom l.kind l.division.pieces l.joined.bad

@@ -1,10 +1,12 @@
-use Rattle.std.proofs.Common.{rules, ◌≡◌, ◌∙◌, refl}
+use Rattle.std.proofs.Common.{rules, ◌≡◌, ◌∙◌, ℕ, Option, Some, refl}
+use Rattle.std.proofs.lemmas.Result.{err_from_is_err_and}
+use Rattle.folders.specs.declared.taking.ReadFault.TheVariants as fault
 use Rattle.opening.specs.Seen.{tree_entry}
 use Rattle.folders.proofs.Layers.{unwrapped}
 use Rattle.folders.proofs.Pieces.{other_count, read_whole}
 use Rattle.seeding.specs.Leaves.{Pushes}
 use Rattle.seeding.proofs.FedLeaves.{at_err, fitting, found}
-use Rattle.seeding.proofs.LeafReads.{other_length}
+use Rattle.seeding.proofs.LeafReads.{other_length, read_stopped, read_to_end}
 use Rattle.seeding.proofs.leaves.read_tree.Goals as goal
 
 pub returns-then-ne-clause-read : goal.returns-then-ne-clause-read
@@ -44,7 +46,9 @@ pub returns-in_err-take_all-clause-counts : goal.returns-in_err-take_all-clause-
 returns-in_err-take_all-clause-counts g c = search rules
 
 pub returns-in_err-take_all-clause-no_further : goal.returns-in_err-take_all-clause-no_further
-returns-in_err-take_all-clause-no_further g c = search rules
+returns-in_err-take_all-clause-no_further g c =
+    let p = err_from_is_err_and c.from_residual.result c.from_residual.ensures.1 in
+    read_stopped c.args.tree.now.length _ _ _ p.0 fault.Device p.1 p.2 c.take_all.ensures.no_further
 
 pub returns-then-ne-clause-length : goal.returns-then-ne-clause-length
 returns-then-ne-clause-length g c = search rules
@@ -68,7 +72,12 @@ pub returns-in_err-finish-clause-counts : goal.returns-in_err-finish-clause-coun
 returns-in_err-finish-clause-counts g c = search rules
 
 pub returns-in_err-finish-clause-no_further : goal.returns-in_err-finish-clause-no_further
-returns-in_err-finish-clause-no_further g c = search rules
+returns-in_err-finish-clause-no_further g c =
+    let one : Option ℕ = Some 0 in
+    let p = err_from_is_err_and c.from_residual-in_err-finish.result c.from_residual-in_err-finish.ensures.1 in
+    read_stopped c.args.tree.now.length _ _ _ p.0 fault.NoMemory p.1 p.2
+    (read_to_end Pushes _ _ _ _ c.args.tree.now.length one
+    (read_whole Pushes _ _ _ _ _ _ _ c.if-ne.false c.ne.ensures c.in_ok-take_all.ensures.read))
 
 pub returns-clause-length : goal.returns-clause-length
 returns-clause-length g c = search rules
@@ -80,4 +89,6 @@ pub returns-clause-counts : goal.returns-clause-counts
 returns-clause-counts g c = search rules
 
 pub returns-clause-no_further : goal.returns-clause-no_further
-returns-clause-no_further g c = search rules
+returns-clause-no_further g c =
+    read_to_end Pushes _ _ _ _ c.args.tree.now.length c.in_ok-finish.field-0
+    (read_whole Pushes _ _ _ _ _ _ _ c.if-ne.false c.ne.ensures c.in_ok-take_all.ensures.read)

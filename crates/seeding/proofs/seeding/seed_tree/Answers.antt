@@ -18,17 +18,19 @@ pub returns-in_err-grown-clause-no_memory : goal.returns-in_err-grown-clause-no_
 returns-in_err-grown-clause-no_memory g c =
     on_err c.from_residual.result
     (stops_reading g.S.Shelf g.S.File.Source.seen _ _ c.args.session.now (file_entry c.args.file.now) c.args.number (tree_entry c.args.tree.now)
-    c.requires.number c.requires.tree c.requires.same c.find_tree.ensures.visited c.in_err-grown.ensures.no_memory)
+    c.requires.number c.requires.tree c.requires.same c.in_err-grown.ensures.visited c.in_err-grown.ensures.no_memory)
 
 pub returns-in-Some-clause-seeds : goal.returns-in-Some-clause-seeds
 returns-in-Some-clause-seeds g c =
     seeds_filled g.S.Shelf g.S.File.Source.seen c.take_over.result _ _ c.args.session.now _ (file_entry c.args.file.now) c.args.number
-    (tree_entry c.args.tree.now) _ c.requires.tree c.requires.same c.find_tree.ensures.visited (rw c.in-Some.is at c.in_ok-grown.ensures.found)
+    (tree_entry c.args.tree.now) _ c.requires.tree c.requires.same (rw c.in-Some.is at c.in_ok-grown.ensures.visited)
+    (rw c.in-Some.is at c.in_ok-grown.ensures.found)
     c.find_tree.ensures.stays
     c.take_over.ensures.fills
 
 pub returns-in-None-clause-seeds : goal.returns-in-None-clause-seeds
 returns-in-None-clause-seeds g c =
     seeds_nothing g.S.Shelf g.S.File.Source.seen _ _ c.args.session.now (file_entry c.args.file.now) c.args.number
-    (tree_entry c.args.tree.now) c.requires.tree c.requires.same c.find_tree.ensures.visited (rw c.in-None.is at c.in_ok-grown.ensures.found)
+    (tree_entry c.args.tree.now) c.requires.tree c.requires.same (rw c.in-None.is at c.in_ok-grown.ensures.visited)
+    (rw c.in-None.is at c.in_ok-grown.ensures.found)
     c.find_tree.ensures.stays

@@ -2,8 +2,9 @@ use Rattle.std.proofs.Common.{◌≡◌, refl, ap, slice_index, ◌+◌, ◌*◌
 use Rattle.std.proofs.lemmas.List.{length-map}
 use Rattle.sha2.specs.Sha256.{add_state, compress, rounds}
 use Rattle.sha2.proofs.Schedule256.{IsRoundsAt_at, IsWindow_first}
-use Rattle.sha256_lanes.specs.Lanes.{lane, state_in}
-use Rattle.sha256_lanes.proofs.Eight.{lane_at}
+use Rattle.lanes.specs.Lanes.{lane}
+use Rattle.sha256_lanes.specs.Lanes.{state_in}
+use Rattle.lanes.proofs.OfLanes.{lane_at}
 use Rattle.sha256_lanes.proofs.compression.compress.Goals as goal
 
 pub turns-init : goal.turns-init

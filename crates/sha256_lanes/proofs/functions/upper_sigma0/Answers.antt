@@ -6,7 +6,7 @@ returns c j lt =
     rw (
       c.differing.ensures j lt,
       c.differing-two.ensures j lt,
-      c.rotated-first.ensures j lt,
-      c.rotated-second.ensures j lt,
-      c.rotated-third.ensures j lt,
+      c.rotated_right-first.ensures j lt,
+      c.rotated_right-second.ensures j lt,
+      c.rotated_right-third.ensures j lt,
     ) refl

@@ -1,8 +1,10 @@
+use Rattle.lanes.specs.declared.words.TheConstants.{LANES}
 use Rattle.std.proofs.Common.{◌≡◌, ◌*◌, ◌/◌, ◌%◌, length, take, drop, ap, sym, ◌∙◌, arith}
 use Rattle.sha2.specs.Sha256.{compress, hash_after, initial_hash_256, padding, word_at}
 use Rattle.sha2.proofs.Absorbing256.{hash_after_next}
 use Rattle.sha256_lanes.specs.Lanes.{message}
-use Rattle.sha256_lanes.proofs.InRow.{length-message, padded_once}
+use Rattle.lanes.proofs.Messages.{length-message}
+use Rattle.sha256_lanes.proofs.Pairs.{padded_once}
 use Rattle.sha256_lanes.proofs.messages.hash_values.Goals as goal
 
 pub blocks-2-init : goal.blocks-2-init
@@ -23,7 +25,7 @@ pub returns : goal.returns
 returns c j lt =
     let size = c.args.size in
     let m = message c.args.messages.now size j in
-    let len : length m ≡ c.args.size = length-message c.args.messages.now size j c.requires.eight lt in
+    let len : length m ≡ c.args.size = length-message LANES c.args.messages.now size j c.requires.all lt in
     let whole : length m % 64 ≡ 0 = omega arith in
     let all : c.blocks-2.block ≡ length m / 64 = omega arith in
     let pad = c.compress.ensures j lt (padding size)

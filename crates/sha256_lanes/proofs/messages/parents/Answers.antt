@@ -1,7 +1,7 @@
 use Rattle.std.proofs.Common.{ℕ, List, ap, ◌∙◌, arith}
 use Rattle.sha2.specs.Sha256.{digest_bytes, final_hash, initial_hash_256, sha256}
 use Rattle.sha256_lanes.specs.Lanes.{message}
-use Rattle.sha256_lanes.proofs.InRow.{message_of_pair}
+use Rattle.sha256_lanes.proofs.Pairs.{message_of_pair}
 use Rattle.sha256_lanes.proofs.messages.parents.Goals as goal
 
 pub returns : goal.returns

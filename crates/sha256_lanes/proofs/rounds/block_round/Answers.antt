@@ -1,7 +1,8 @@
 use Rattle.std.proofs.Common.{refl, sym}
 use Rattle.sha2.proofs.Schedule256.{rounds_first}
-use Rattle.sha256_lanes.specs.Lanes.{lane, state_in}
-use Rattle.sha256_lanes.proofs.Eight.{lane_at}
+use Rattle.lanes.specs.Lanes.{lane}
+use Rattle.sha256_lanes.specs.Lanes.{state_in}
+use Rattle.lanes.proofs.OfLanes.{lane_at}
 use Rattle.sha256_lanes.proofs.rounds.block_round.Goals as goal
 
 pub returns : goal.returns

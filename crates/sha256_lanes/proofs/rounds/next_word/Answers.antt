@@ -1,5 +1,5 @@
 use Rattle.std.proofs.Common.{◌≡◌, ◌+◌, ◌%◌, arith, refl}
-use Rattle.sha256_lanes.proofs.Eight.{lane_at}
+use Rattle.lanes.proofs.OfLanes.{lane_at}
 use Rattle.sha256_lanes.proofs.rounds.next_word.Goals as goal
 
 pub returns : goal.returns

@@ -1,23 +1,67 @@
-use Rattle.std.proofs.Common.{◌≡◌, ◌<◌, ◌∙◌, IfSome, subst, arith}
+use Rattle.std.proofs.Common.{◌≡◌, ◌-◌, IfSome, length, refl, ap, ◌∙◌, subst, arith}
+use Rattle.hashtree.specs.Tree.{block_count, height}
 use Rattle.pieces.specs.Pieces.{IsPieceLength}
-use Rattle.btcheck_c.proofs.FilePieces.{layer_inside, layer_whole}
+use Rattle.pieces.proofs.Legal.{legal_bounds}
+use Rattle.btcheck_c.specs.FileChecks.{row_length}
+use Rattle.btcheck_c.proofs.FilePieces.{few_pieces, hashes_row, hashes_whole}
 use Rattle.btcheck_c.proofs.file_check.FileCheck.new.Goals as goal
 
-pub new-check-requires-clause-in_tree : goal.new-check-requires-clause-in_tree
-new-check-requires-clause-in_tree c =
-    let p = c.args.piece_length in let n = c.args.tree.now.length in
-    let shape : c.unwrap-shape.result ≡ n = subst (λ o. IfSome o (λ s. s ≡ n)) c.unwrap-shape.ensures c.of.ensures.value in
-    let piece : c.unwrap.result ≡ p = subst (λ o. IfSome o (λ s. s ≡ c.bytes-else-length-bytes.result)) c.unwrap.ensures
-    c.of-else-length-bytes.ensures.value ∙ c.bytes-else-length-bytes.ensures.value in
-    let longer : p < n = omega (arith, c.if-length-bytes.false, c.bytes.ensures.value) in
-    layer_inside p n c.unwrap.result c.unwrap-shape.result c.height-layer.result longer piece shape c.height-layer.ensures.value
+pub of_row-requires-clause-whole : goal.of_row-requires-clause-whole
+of_row-requires-clause-whole c =
+    let p = c.args.piece_length in let n = c.args.tree.now.length in let from = c.args.from in let to = c.args.to in
+    let hashes = c.row_hashes-hashes.result.now in
+    let shape : c.unwrap-shape.result ≡ row_length p n from to =
+    subst (λ o. IfSome o (λ s. s ≡ c.row_length.result)) c.unwrap-shape.ensures c.of.ensures.value ∙ c.row_length.ensures.value in
+    let piece : c.unwrap.result ≡ p = subst (λ o. IfSome o (λ s. s ≡ c.bytes.result)) c.unwrap.ensures c.of-2.ensures.value ∙ c.bytes.ensures.value in
+    let legal : IsPieceLength p = subst IsPieceLength c.bytes.ensures.value c.bytes.ensures.legal in
+    let bounds = legal_bounds p legal in
+    let count : length hashes ≡ to - from = hashes_row p n from to c.args.tree.now.layer.now hashes (omega (arith, bounds.0)) c.requires.order
+    c.requires.within c.requires.sound.layer_length c.row_hashes-hashes.ensures.one c.row_hashes-hashes.ensures.many in
+    hashes_whole p n c.unwrap.result c.unwrap-shape.result c.height-layer.result from to hashes legal c.requires.order c.requires.within count piece shape
+    c.height-layer.ensures.enough c.height-layer.ensures.least
 
-pub new-check-requires-clause-whole : goal.new-check-requires-clause-whole
-new-check-requires-clause-whole c =
+pub invariant_of-result : goal.invariant_of-result
+invariant_of-result c =
+    let p = c.args.piece_length in let n = c.args.tree.now.length in let from = c.args.from in let to = c.args.to in
+    let hashes = c.row_hashes-hashes.result.now in
+    let shape : c.unwrap-shape.result ≡ c.row_length.result = subst (λ o. IfSome o (λ s. s ≡ c.row_length.result)) c.unwrap-shape.ensures c.of.ensures.value in
+    let piece : c.unwrap.result ≡ p = subst (λ o. IfSome o (λ s. s ≡ c.bytes.result)) c.unwrap.ensures c.of-2.ensures.value ∙ c.bytes.ensures.value in
+    let legal : IsPieceLength p = subst IsPieceLength c.bytes.ensures.value c.bytes.ensures.legal in
+    let bounds = legal_bounds p legal in
+    let few = few_pieces p n (omega (arith, bounds.0)) in
+    let count : length hashes ≡ to - from = hashes_row p n from to c.args.tree.now.layer.now hashes (omega (arith, bounds.0)) c.requires.order
+    c.requires.within c.requires.sound.layer_length c.row_hashes-hashes.ensures.one c.row_hashes-hashes.ensures.many in record {
+      some = omega (arith, shape, c.row_length.ensures.some);
+      low = c.height-layer.ensures.bound;
+      few = omega (arith, count, few, bounds.1, c.requires.order, c.requires.within, c.requires.sound.bound);
+      whole = hashes_whole p n c.unwrap.result c.unwrap-shape.result c.height-layer.result from to hashes legal c.requires.order c.requires.within count
+          piece (shape ∙ c.row_length.ensures.value) c.height-layer.ensures.enough c.height-layer.ensures.least;
+      shape_is = c.of_row.ensures.shape_is;
+      layer_is = c.of_row.ensures.layer_is;
+      hashes_are = c.of_row.ensures.hashes_are;
+      given = omega (arith, c.of_row.ensures.count);
+    }
+
+pub returns : goal.returns
+returns c =
     let p = c.args.piece_length in let n = c.args.tree.now.length in
-    let shape : c.unwrap-shape.result ≡ n = subst (λ o. IfSome o (λ s. s ≡ n)) c.unwrap-shape.ensures c.of.ensures.value in
-    let piece : c.unwrap.result ≡ p = subst (λ o. IfSome o (λ s. s ≡ c.bytes-else-length-bytes.result)) c.unwrap.ensures
-    c.of-else-length-bytes.ensures.value ∙ c.bytes-else-length-bytes.ensures.value in
-    let longer : p < n = omega (arith, c.if-length-bytes.false, c.bytes.ensures.value) in
-    layer_whole p n c.unwrap.result c.unwrap-shape.result c.height-layer.result _ (subst IsPieceLength c.bytes.ensures.value c.bytes.ensures.legal)
-    piece shape c.height-layer.ensures.enough c.height-layer.ensures.least (c.requires.layer_length longer)
+    let shape : c.unwrap-shape.result ≡ row_length p n c.args.from c.args.to =
+    subst (λ o. IfSome o (λ s. s ≡ c.row_length.result)) c.unwrap-shape.ensures c.of.ensures.value ∙ c.row_length.ensures.value in
+    let piece : c.unwrap.result ≡ p = subst (λ o. IfSome o (λ s. s ≡ c.bytes.result)) c.unwrap.ensures c.of-2.ensures.value ∙ c.bytes.ensures.value in
+    record {
+      against = record {
+        order = c.requires.order;
+        within = c.requires.within;
+        first = refl;
+        size = shape;
+        layer = c.height-layer.ensures.value ∙ ap (λ k. height (block_count k)) piece;
+        one = λ short. (c.only_root.ensures.one short, c.row_hashes-hashes.ensures.one short);
+        many = λ longer. record {
+          root = c.only_root.ensures.many longer;
+          listed = c.requires.sound.layer_length longer;
+          hashes = c.row_hashes-hashes.ensures.many longer;
+        };
+      };
+      count = c.of_row.ensures.count;
+      given = c.of_row.ensures.fed;
+    }

@@ -1,30 +1,34 @@
-use Rattle.std.proofs.Common.{arith, ap, sym, subst, ◌∙◌, ◌≡◌, ◌++◌, length}
-use Rattle.std.specs.Option.{option_to_list}
-use Rattle.std.proofs.lemmas.List.{length-append, take_all}
-use Rattle.hashtree.specs.Tree.{layer_of}
-use Rattle.hashtree.specs.Complete.{complete_nodes}
+use Rattle.std.proofs.Common.{◌≡◌, ◌≤◌, ◌∙◌, arith, ap, sym, subst, length, take}
+use Rattle.hashtree.specs.Tree.{block_count, first_pad, height, layer_of}
 use Rattle.hashtree.specs.Difference.{IsComparison}
-use Rattle.hashtree.proofs.Comparing.{length-layer_of}
+use Rattle.hashtree.specs.Pieces.{piece_nodes}
+use Rattle.std.proofs.lemmas.List.{take_all}
+use Rattle.hashtree.proofs.Marking.{length-piece_nodes}
+use Rattle.hashtree.proofs.PieceChecks.{as_row}
+use Rattle.hashtree.proofs.PieceNodes.{layer_is_pieces}
 use Rattle.hashtree.proofs.piece_check.PieceCheck.finish.Goals as goal
+
+pub ended-requires-clause-some : goal.ended-requires-clause-some
+ended-requires-clause-some c = omega (arith, c.requires, c.args.self.some)
 
 pub returns : goal.returns
 returns c = λ file at.
     let layer = c.args.self.layer in
     let hashes = c.args.self.hashes.now in
-    let xs = complete_nodes file c.args.self.layer in
-    let node = c.finish_layer-length.result.2 in
-    let whole : xs ++ option_to_list node ≡ layer_of file layer = c.finish_layer-length.ensures.nodes file at.fed in
-    let shape : length file ≡ c.args.self.shape = sym at.fed.at.length_is ∙ c.requires in
-    let size : length (layer_of file layer) ≡ length hashes = length-layer_of file c.args.self.shape layer shape at.in_tree ∙ sym at.whole in
-    let all : length (xs ++ option_to_list node) ≡ length hashes = ap length whole ∙ size in
-    let found = c.compare-other.ensures xs at.nodes (omega (arith, all, length-append xs (option_to_list node))) in
-    let tree = c.finish_layer-length.ensures.tree file at.fed in (
-      tree.0,
-      tree.1,
+    let size : length file ≡ c.args.self.shape = sym at.fed.at.length_is ∙ c.requires in
+    let given : first_pad (block_count (length file)) c.args.self.layer ≡ length c.args.self.hashes.now =
+    ap (λ n. first_pad (block_count n) c.args.self.layer) size ∙ sym at.whole in
+    let fits : first_pad (block_count (length file)) c.args.self.layer ≤ length c.args.self.hashes.now = omega (arith, given) in
+    let found = c.ended.ensures file at.fed fits at.nodes (as_row c.args.self file at).marked in
+    let low : c.args.self.layer ≤ height (block_count (length file)) = subst (λ s. c.args.self.layer ≤ height (block_count s)) (sym size) at.in_tree in
+    let same : piece_nodes c.args.self.layer file ≡ layer_of file c.args.self.layer = sym (layer_is_pieces file c.args.self.layer low) in
+    let count : length (layer_of file c.args.self.layer) ≡ length c.args.self.hashes.now =
+    ap length (sym same) ∙ length-piece_nodes c.args.self.layer file ∙ given in (
+      found.0,
+      found.1,
       record {
-        size_is = size;
-        compared = subst (λ t. IsComparison t hashes c.compare-other.result.1) whole
-            (subst (λ hs. IsComparison (xs ++ option_to_list node) hs c.compare-other.result.1) (take_all (length (xs ++ option_to_list node)) hashes
-            (omega (arith, all))) found.compared);
+        size_is = count;
+        compared = subst (λ t. IsComparison (layer_of file layer) t c.ended.result.2) (take_all (length (layer_of file layer)) hashes (omega (arith, count)))
+            (subst (λ t. IsComparison t (take (length t) hashes) c.ended.result.2) same found.2.compared);
       },
     )

@@ -1,7 +1,7 @@
 use Rattle.std.proofs.Common.{◌≡◌, length}
 use Rattle.chains.specs.Chain.{Chain}
 use Rattle.session.specs.Blocks.{cuts}
-use Rattle.session.specs.BlockDigests.{AreDigests}
+use Rattle.partial_tree.specs.BlockDigests.{AreDigests}
 use Rattle.session.specs.Session.{BlockStep}
 use Rattle.session.proofs.session.Session.mark_run.Given as goal
 

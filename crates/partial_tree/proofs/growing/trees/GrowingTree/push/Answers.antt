@@ -33,6 +33,7 @@ invariant_of-self-2 g c =
       marked-of c.in_ok-add.ensures.added ∙ c.self.invariant.2,
       growing-more K (g.N.NodeMap.seen c.add.new.map).known old.count c.args.leaf c.self.invariant.3 c.add.ensures.hash (known-of c.in_ok-add.ensures.added)
           c.in_ok-add.ensures.one,
+      omega (arith, c.add.ensures.few, c.self.invariant.4),
     )
 
 pub returns-clause-pushed : goal.returns-clause-pushed

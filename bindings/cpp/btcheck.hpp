@@ -1,0 +1,375 @@
+// btcheck.hpp - thin classes over btcheck.h for C++17. Each owns one handle, and frees it.
+//
+// Names are those of btcheck.h. What that says of threads, memory and pointers holds here too. A call that is refused
+// throws Refused with the status, and has changed nothing. An object may be moved, but not assigned to; one that was
+// moved from holds nothing, and its calls are refused with BTCHECK_WRONG_HANDLE.
+#pragma once
+
+#include <btcheck.h>
+
+#include <algorithm>
+#include <array>
+#include <exception>
+#include <memory>
+#include <optional>
+#include <string>
+#include <type_traits>
+#include <utility>
+#include <vector>
+
+namespace btcheck {
+
+using Hash = std::array<uint8_t, BTCHECK_HASH>;
+using Ask = btcheck_ask;
+using Blocks = btcheck_blocks;
+using Verdict = btcheck_verdict;
+using HeldBlocks = btcheck_held;
+using Run = btcheck_run;
+
+// A call was refused, and nothing has changed.
+class Refused : public std::exception {
+public:
+  explicit Refused(btcheck_status status) : status_(status) {}
+  btcheck_status status() const { return status_; }
+  const char *what() const noexcept override { return btcheck_status_text(status_); }
+
+private:
+  btcheck_status status_;
+};
+
+// Throws what a status says.
+inline void see(btcheck_status status) {
+  if (status != BTCHECK_OK) throw Refused(status);
+}
+
+// Whether a call says yes by BTCHECK_OK, where BTCHECK_NOTHING is no.
+inline bool is(btcheck_status status) {
+  if (status == BTCHECK_NOTHING) return false;
+  see(status);
+  return true;
+}
+
+// Bytes that a call reads: those of a string, a vector, an array or the like. Its pointer is never null.
+class Bytes {
+public:
+  Bytes(const void *data, size_t size) : data_(static_cast<const uint8_t *>(size ? data : "")), size_(size) {}
+  template <class Content, class = std::enable_if_t<sizeof(*std::declval<const Content &>().data()) == 1>>
+  Bytes(const Content &content) : Bytes(content.data(), content.size()) {}
+  const uint8_t *data() const { return data_; }
+  size_t size() const { return size_; }
+
+private:
+  const uint8_t *data_;
+  size_t size_;
+};
+
+// Bits that a check writes: bit 0, the highest of the first byte, is that of the first piece that is checked.
+using Bits = std::vector<uint8_t>;
+
+// A handle of one kind, and what frees it.
+template <class Handle, void (*free)(Handle *)> class Owner {
+public:
+  Owner() = default;
+  Owner(Owner &&other) noexcept : handle_(std::exchange(other.handle_, Handle BTCHECK_INIT)) {}
+  ~Owner() { free(&handle_); }
+  Handle *operator&() { return &handle_; }
+
+private:
+  Handle handle_ = BTCHECK_INIT;
+};
+
+// A block: which file's, and which of its blocks, from 0.
+struct Place {
+  uint64_t file, block;
+};
+
+// A file of a torrent.
+struct File {
+  std::string path; // its components joined by `/`; it leads to no place outside the folder in which it is looked up
+  uint64_t length, first_piece;
+  std::optional<uint64_t> tree; // the number of its tree; an empty file has none
+  Hash root;                    // of an empty file zeros
+};
+
+// Version of the library that is linked, a byte for each of its three numbers.
+inline uint32_t version() { return btcheck_version(); }
+
+// The root of a file, from its bytes in parts of any size.
+class Root {
+public:
+  struct Found {
+    uint64_t length;
+    Hash hash;
+  };
+
+  Root() { see(btcheck_root_new(&handle_)); }
+  void push(Bytes part) { see(btcheck_root_push(&handle_, part.data(), part.size())); }
+  Found finish() {
+    Found found;
+    see(btcheck_root_finish(&handle_, &found.length, found.hash.data()));
+    return found;
+  }
+
+private:
+  Owner<btcheck_root, btcheck_root_free> handle_;
+};
+
+class Session;
+
+// A run of blocks of a tree that were held: they are proved and marked now, or false and given up.
+struct Settled {
+  bool is_proved;
+  Run run;
+};
+
+// The digests of blocks that cannot be proved yet: at most `bound`, and no fewer than the longest piece has.
+class Holdings {
+public:
+  Holdings(Session &session, size_t bound);
+
+  // Hashes of this tree were taken: settle looks at its held pieces.
+  void look_at(size_t tree) { see(btcheck_holdings_look_at(&handle_, tree)); }
+
+  // How many blocks are held.
+  uint64_t held() {
+    uint64_t count;
+    see(btcheck_session_held(&handle_, &count));
+    return count;
+  }
+
+private:
+  friend class Session;
+  Owner<btcheck_holdings, btcheck_holdings_free> handle_;
+};
+
+// What a client knows of a torrent's hash trees, and what it makes of messages of peers.
+class Session {
+public:
+  // Opens a torrent file of version 2, of which it keeps the bytes.
+  explicit Session(std::string torrent, bool layers = true)
+      : torrent_(std::make_shared<const std::string>(std::move(torrent))) {
+    Bytes bytes = *torrent_;
+    see(btcheck_session_open(&handle_, bytes.data(), bytes.size(), layers));
+  }
+
+  // Bytes of a piece, and how many pieces all files have together.
+  uint64_t piece_length() { return number(btcheck_session_piece_length); }
+  uint64_t pieces() { return number(btcheck_session_pieces); }
+
+  std::string name() {
+    return text([&](uint8_t *room, size_t size, uint64_t *length) {
+      return btcheck_session_name(&handle_, room, size, length);
+    });
+  }
+
+  bool is_hybrid() { return is(btcheck_session_is_hybrid(&handle_)); }
+
+  size_t file_count() { return size_t(counts_of_all().first); }
+  size_t tree_count() { return size_t(counts_of_all().second); }
+
+  // The files of the torrent, in its order.
+  std::vector<File> files() {
+    std::vector<File> found;
+    for (size_t number = 0, count = file_count(); number < count; number++) found.push_back(file(number));
+    return found;
+  }
+
+  File file(size_t number) {
+    btcheck_file info;
+    see(btcheck_session_file(&handle_, number, &info));
+    File found{path(number), info.length, info.first_piece, {}, {}};
+    if (info.length > 0) found.tree = info.tree;
+    std::copy(info.root, info.root + sizeof info.root, found.root.begin());
+    return found;
+  }
+
+  std::string path(size_t number) {
+    return text([&](uint8_t *room, size_t size, uint64_t *length) {
+      return btcheck_session_path(&handle_, number, room, size, length);
+    });
+  }
+
+  std::pair<Hash, std::array<uint8_t, 20>> info_hashes() {
+    std::pair<Hash, std::array<uint8_t, 20>> found;
+    see(btcheck_session_info_hashes(&handle_, found.first.data(), found.second.data()));
+    return found;
+  }
+
+  // How many places of a tree are known, and how many leaves are marked as verified.
+  std::pair<uint64_t, uint64_t> counts(size_t tree) {
+    std::pair<uint64_t, uint64_t> found;
+    see(btcheck_session_counts(&handle_, tree, &found.first, &found.second));
+    return found;
+  }
+
+  bool is_marked(size_t tree, uint64_t block) { return is(btcheck_session_is_marked(&handle_, tree, block)); }
+
+  // How many places are newly known.
+  uint64_t take_hashes(const Ask &ask, const std::vector<Hash> &hashes) {
+    uint64_t places;
+    see(btcheck_session_take_hashes(&handle_, ask.root, ask.base, ask.index, ask.length, ask.proof, rows(hashes),
+                                    hashes.size(), &places));
+    return places;
+  }
+
+  Place take_block(uint32_t index, uint32_t begin, Bytes block) {
+    Place place;
+    see(btcheck_session_take_block(&handle_, index, begin, block.data(), block.size(), &place.file, &place.block));
+    return place;
+  }
+
+  Blocks take_blocks(uint32_t index, uint32_t begin, Bytes content) {
+    Blocks blocks;
+    see(btcheck_session_take_blocks(&handle_, index, begin, content.data(), content.size(), &blocks));
+    return blocks;
+  }
+
+  Place take_piece(uint32_t index, Bytes piece) {
+    Place place;
+    see(btcheck_session_take_piece(&handle_, index, piece.data(), piece.size(), &place.file, &place.block));
+    return place;
+  }
+
+  // As take_blocks, but a block that cannot be proved yet is held: its status is BTCHECK_HELD. Call settle afterwards.
+  HeldBlocks hold(Holdings &holdings, uint32_t index, uint32_t begin, Bytes content) {
+    HeldBlocks held;
+    see(btcheck_session_hold(&handle_, &holdings.handle_, index, begin, content.data(), content.size(), &held));
+    return held;
+  }
+
+  // What became of held blocks, until there is nothing more.
+  std::optional<Settled> settle(Holdings &holdings) {
+    Settled found{};
+    btcheck_status status = btcheck_session_settle(&handle_, &holdings.handle_, &found.run);
+    found.is_proved = status == BTCHECK_OK;
+    if (status != BTCHECK_BAD_PIECE && !is(status)) return {};
+    return found;
+  }
+
+  // The body of one frame as it came. Of the verdict only what its kind names is set.
+  Verdict frame(Bytes body) {
+    Verdict verdict{};
+    see(btcheck_session_frame(&handle_, body.data(), body.size(), &verdict));
+    return verdict;
+  }
+
+  // What to ask for to learn the leaf of a block; nothing if it is known.
+  std::optional<Ask> want(size_t tree, uint64_t block) {
+    Ask ask;
+    if (!is(btcheck_session_want(&handle_, tree, block, &ask))) return {};
+    return ask;
+  }
+
+  void note(const Ask &ask) { see(btcheck_session_note(&handle_, &ask)); }
+
+  uint64_t take_answer(const Ask &ask, const std::vector<Hash> &hashes) {
+    uint64_t places;
+    see(btcheck_session_take_answer(&handle_, &ask, rows(hashes), hashes.size(), &places));
+    return places;
+  }
+
+  // The hashes that answer a peer's request; nothing if it has to be rejected.
+  std::optional<std::vector<Hash>> answer(const Ask &ask) {
+    std::vector<Hash> room(1);
+    for (;;) {
+      uint64_t count;
+      btcheck_status status = btcheck_session_answer(&handle_, &ask, rows(room), room.size(), &count);
+      if (status != BTCHECK_TOO_SMALL && !is(status)) return {};
+      room.resize(size_t(count));
+      if (status == BTCHECK_OK) return room;
+    }
+  }
+
+  bool can_answer(const Ask &ask) { return is(btcheck_session_can_answer(&handle_, &ask)); }
+
+private:
+  friend class Check;
+  friend class Holdings;
+
+  uint64_t number(btcheck_status (*call)(btcheck_session *, uint64_t *)) {
+    uint64_t found;
+    see(call(&handle_, &found));
+    return found;
+  }
+
+  std::pair<uint64_t, uint64_t> counts_of_all() {
+    std::pair<uint64_t, uint64_t> found;
+    see(btcheck_session_files(&handle_, &found.first, &found.second));
+    return found;
+  }
+
+  // What a call writes into a room, which is made larger as the call says.
+  template <class Call> static std::string text(Call call) {
+    std::string room(256, '\0');
+    for (;;) {
+      uint64_t length;
+      btcheck_status status = call(reinterpret_cast<uint8_t *>(room.data()), room.size(), &length);
+      if (status != BTCHECK_TOO_SMALL) see(status);
+      room.resize(size_t(length));
+      if (status == BTCHECK_OK) return room;
+    }
+  }
+
+  static const uint8_t (*rows(const std::vector<Hash> &hashes))[32] {
+    static const Hash none{};
+    return reinterpret_cast<const uint8_t(*)[32]>(hashes.empty() ? none.data() : hashes[0].data());
+  }
+  static uint8_t (*rows(std::vector<Hash> &hashes))[32] { return reinterpret_cast<uint8_t(*)[32]>(hashes[0].data()); }
+
+  std::shared_ptr<const std::string> torrent_;
+  Owner<btcheck_session, btcheck_session_free> handle_;
+};
+
+inline Holdings::Holdings(Session &session, size_t bound) {
+  see(btcheck_holdings_new(&handle_, &session.handle_, bound));
+}
+
+// The check of a file's bytes, or of those of the pieces `from` up to `to` of it, which come in parts of any size. It
+// may outlive its session: several threads check one file, each with its own.
+class Check {
+public:
+  Check(Session &session, size_t file) : torrent_(session.torrent_) {
+    see(btcheck_check_new(&handle_, &session.handle_, file));
+  }
+  Check(Session &session, size_t file, uint64_t from, uint64_t to) : torrent_(session.torrent_) {
+    see(btcheck_check_new_pieces(&handle_, &session.handle_, file, from, to));
+  }
+
+  void push(Bytes part) { see(btcheck_check_push(&handle_, part.data(), part.size())); }
+
+  // As push, and sets the bit of each piece that is complete and good.
+  void push_bits(Bytes part, Bits &good) {
+    see(btcheck_check_push_bits(&handle_, part.data(), part.size(), room(good), good.size()));
+  }
+
+  // The first piece that is not the torrent's, from 0 in the file; nothing if each is.
+  std::optional<uint64_t> finish() {
+    uint64_t piece;
+    return first_bad(btcheck_check_finish(&handle_, &piece), piece);
+  }
+
+  // As finish, and sets the last piece's bit too. BTCHECK_TOO_SHORT is thrown where the content ends early; the bits
+  // are set then as well.
+  std::optional<uint64_t> finish_bits(Bits &good) {
+    uint64_t piece;
+    return first_bad(btcheck_check_finish_bits(&handle_, &piece, room(good), good.size()), piece);
+  }
+
+private:
+  // (no pointer may be null, and that of an empty vector is)
+  static uint8_t *room(Bits &good) {
+    static uint8_t none;
+    return good.empty() ? &none : good.data();
+  }
+
+  static std::optional<uint64_t> first_bad(btcheck_status status, const uint64_t &piece) {
+    if (status == BTCHECK_BAD_PIECE) return piece;
+    see(status);
+    return {};
+  }
+
+  std::shared_ptr<const std::string> torrent_;
+  Owner<btcheck_check, btcheck_check_free> handle_;
+};
+
+} // namespace btcheck

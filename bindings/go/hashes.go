@@ -1,0 +1,73 @@
+package btcheck
+
+/*
+#include <btcheck.h>
+*/
+import "C"
+
+// Ask has the fields of a hash request, and of the message that answers it (BEP 52).
+type Ask struct {
+	Root                       Hash
+	Base, Index, Length, Proof uint32
+}
+
+func (ask *Ask) fields() *C.btcheck_ask {
+	found := &C.btcheck_ask{base: C.uint32_t(ask.Base), index: C.uint32_t(ask.Index),
+		length: C.uint32_t(ask.Length), proof: C.uint32_t(ask.Proof)}
+	for at, each := range ask.Root {
+		found.root[at] = C.uint8_t(each)
+	}
+	return found
+}
+
+// TakeHashes takes a hashes message, its uncles last, and gives how many places of the tree are newly known.
+func (session *Session) TakeHashes(ask Ask, hashes []Hash) (uint64, error) {
+	var places C.uint64_t
+	fields := ask.fields()
+	err := asError(C.btcheck_session_take_hashes(&session.handle, &fields.root[0], fields.base, fields.index, fields.length,
+		fields.proof, rows(hashes), C.size_t(len(hashes)), &places))
+	return uint64(places), err
+}
+
+// Note notes that a request was sent: it is open until hashes answer it.
+func (session *Session) Note(ask Ask) error {
+	return asError(C.btcheck_session_note(&session.handle, ask.fields()))
+}
+
+// TakeAnswer is TakeHashes for a message that must answer a noted request, which it then closes.
+func (session *Session) TakeAnswer(ask Ask, hashes []Hash) (uint64, error) {
+	var places C.uint64_t
+	err := asError(C.btcheck_session_take_answer(&session.handle, ask.fields(), rows(hashes), C.size_t(len(hashes)), &places))
+	return uint64(places), err
+}
+
+// Answer gives the hashes that answer a peer's request. Nothing: reject it.
+func (session *Session) Answer(ask Ask) ([]Hash, error) {
+	room := make([]Hash, 1)
+	for {
+		var count C.uint64_t
+		status := C.btcheck_session_answer(&session.handle, ask.fields(), rows(room), C.size_t(len(room)), &count)
+		if status != C.BTCHECK_TOO_SMALL {
+			return room[:count], asError(status)
+		}
+		room = make([]Hash, count)
+	}
+}
+
+// Want gives what to ask for next to learn the leaf of a block of a tree. Nothing: the leaf is known.
+func (session *Session) Want(tree int, block uint64) (Ask, error) {
+	var fields C.btcheck_ask
+	if err := asError(C.btcheck_session_want(&session.handle, C.size_t(tree), C.uint64_t(block), &fields)); err != nil {
+		return Ask{}, err
+	}
+	ask := Ask{Base: uint32(fields.base), Index: uint32(fields.index), Length: uint32(fields.length), Proof: uint32(fields.proof)}
+	for at, each := range fields.root {
+		ask.Root[at] = byte(each)
+	}
+	return ask, nil
+}
+
+// CanAnswer tells whether Answer would give hashes for a request.
+func (session *Session) CanAnswer(ask Ask) (bool, error) {
+	return yesOrNo(C.btcheck_session_can_answer(&session.handle, ask.fields()))
+}

@@ -1,0 +1,215 @@
+"""The session of a torrent."""
+from __future__ import annotations
+
+import ctypes as c
+from collections.abc import Callable, Iterable
+from typing import Any
+
+from . import _library as lib
+from ._library import AskLike, Content, Owner, content_of, digests, fields, holds, laid_out, number, u64
+from ._refusals import BadPiece, TooSmall
+from ._values import Ask, Blocks, File, HeldBlocks, Run, Settled, Verdict
+
+
+class Session(Owner):
+    """What a client knows of a torrent's hash trees, and what it makes of messages of peers."""
+
+    def __init__(self, torrent: Content, layers: bool = True) -> None:
+        """Opens a torrent file. With `layers` the session begins with its piece layers, else with the roots alone."""
+        super().__init__()
+        if not isinstance(layers, bool):
+            raise TypeError("layers is True or False")
+        self._torrent = content_of(torrent)  # lent to the library until close
+        lib.session_open(self._handle, self._torrent, len(self._torrent), layers)
+
+    def take_hashes(self, ask: AskLike, hashes: Iterable[Content]) -> int:
+        """Takes a hashes message: its five fields and its hashes. Returns how many places are newly known."""
+        given, places = digests(hashes), u64()
+        lib.session_take_hashes(self._handle, *fields(ask), given, len(given) // 32, places)
+        return places.value
+
+    def take_block(self, index: int, begin: int, block: Content) -> tuple[int, int]:
+        """Takes a block of a piece message. Returns the file and the block that it is, both from 0."""
+        block, file, at = content_of(block), u64(), u64()
+        lib.session_take_block(self._handle, number(index), number(begin), block, len(block), file, at)
+        return file.value, at.value
+
+    def take_piece(self, index: int, data: Content) -> tuple[int, int]:
+        """Takes the bytes of a whole piece, once all its blocks came: its leaves lead to its known node, and are known
+        and marked then. Returns the file and its first block of the piece. Raises P3Unproved if that node is not known,
+        and P4BadBlock if the bytes lead to another one."""
+        data, file, at = content_of(data), u64(), u64()
+        lib.session_take_piece(self._handle, number(index), data, len(data), file, at)
+        return file.value, at.value
+
+    def take_blocks(self, index: int, begin: int, data: Content) -> Blocks:
+        """Takes all blocks of a piece message, at most 17, and says of each whether it is verified. Raises P1BadPlace
+        or P2BadSize if the whole message is refused."""
+        data, blocks = content_of(data), lib.BlocksInfo()
+        lib.session_take_blocks(self._handle, number(index), number(begin), data, len(data), blocks)
+        return blocks.read()
+
+    def hold(self, holdings: Holdings, index: int, begin: int, data: Content) -> HeldBlocks:
+        """As `take_blocks`, but blocks that cannot be proved yet are held: their outcome is Held. Call `settle`
+        afterwards until it gives None."""
+        data, held = content_of(data), lib.HeldInfo()
+        lib.session_hold(self._handle, _held_by(holdings), number(index), number(begin), data, len(data), held)
+        return held.read()
+
+    def settle(self, holdings: Holdings) -> Settled | None:
+        """What became of held blocks, a run of blocks at a time; None if there is nothing more. Raises NoMemory if
+        memory was refused for a piece, which stays held."""
+        run = lib.RunInfo()
+        try:
+            if not holds(lib.session_settle, self._handle, _held_by(holdings), run):
+                return None
+        except BadPiece:
+            return Settled(False, Run(run.tree, run.first, run.last))
+        return Settled(True, Run(run.tree, run.first, run.last))
+
+    def frame(self, body: Content) -> Verdict:
+        """Takes the body of one frame as it came, without the four bytes of its length. Raises the refusal of its
+        hashes or of its blocks as a whole, or BadSize."""
+        body, verdict = content_of(body), lib.VerdictInfo()
+        lib.session_frame(self._handle, body, len(body), verdict)
+        return verdict.read()
+
+    def files(self) -> list[File]:
+        """The files of the torrent, in its order."""
+        return [self.file(at) for at in range(self.file_count())]
+
+    def file_count(self) -> int:
+        """How many files the torrent has."""
+        return self._counts_of_all()[0]
+
+    def tree_count(self) -> int:
+        """How many trees the torrent has: its distinct roots."""
+        return self._counts_of_all()[1]
+
+    def _counts_of_all(self) -> tuple[int, int]:
+        files, trees = u64(), u64()
+        lib.session_files(self._handle, files, trees)
+        return files.value, trees.value
+
+    def file(self, file: int) -> File:
+        """A file of the torrent, numbered from 0. Raises NoSuch if there are fewer."""
+        info = lib.FileInfo()
+        lib.session_file(self._handle, number(file, 64), info)
+        tree = None if info.tree == 2**64 - 1 else info.tree
+        root = None if tree is None else bytes(info.root)
+        return File(self.path(file), info.length, info.first_piece, tree, root)
+
+    def path(self, file: int) -> str:
+        """A file's path, its components joined by `/`. Raises NoSuch if there are fewer files."""
+        return _text(lib.session_path, self._handle, number(file, 64))
+
+    def name(self) -> str:
+        """The torrent's name."""
+        return _text(lib.session_name, self._handle)
+
+    def piece_length(self) -> int:
+        """Bytes of a piece, but for a file's last one."""
+        return self._number(lib.session_piece_length)
+
+    def pieces(self) -> int:
+        """How many pieces all files have together: they are numbered from 0 through all files."""
+        return self._number(lib.session_pieces)
+
+    def _number(self, call: Callable[..., None]) -> int:
+        found = u64()
+        call(self._handle, found)
+        return found.value
+
+    def is_hybrid(self) -> bool:
+        """Whether the torrent is one of version 1 too."""
+        return holds(lib.session_is_hybrid, self._handle)
+
+    def info_hashes(self) -> tuple[bytes, bytes]:
+        """The info-hashes of version 2 and version 1: SHA-256 and SHA-1 of the info dictionary."""
+        v2, v1 = c.create_string_buffer(32), c.create_string_buffer(20)
+        lib.session_info_hashes(self._handle, v2, v1)
+        return v2.raw, v1.raw
+
+    def counts(self, tree: int) -> tuple[int, int]:
+        """How many places of a tree are known, and how many leaves are marked as verified."""
+        known, marked = u64(), u64()
+        lib.session_counts(self._handle, number(tree, 64), known, marked)
+        return known.value, marked.value
+
+    def is_marked(self, tree: int, block: int) -> bool:
+        """Whether the leaf of a block of a tree is marked as verified. Raises NoSuch if there is no such block."""
+        return holds(lib.session_is_marked, self._handle, number(tree, 64), number(block, 64))
+
+    def want(self, tree: int, block: int) -> Ask | None:
+        """What to ask for next to learn the leaf of a block of a tree; None if it is known. Raises NoSuch if there is
+        no such block."""
+        ask = lib.Asked()
+        return ask.read() if holds(lib.session_want, self._handle, number(tree, 64), number(block, 64), ask) else None
+
+    def note(self, ask: AskLike) -> None:
+        """Notes that a request with these five fields was sent."""
+        lib.session_note(self._handle, laid_out(ask))
+
+    def take_answer(self, ask: AskLike, hashes: Iterable[Content]) -> int:
+        """Takes hashes that answer a noted request. Returns how many places are newly known."""
+        given, places = digests(hashes), u64()
+        lib.session_take_answer(self._handle, laid_out(ask), given, len(given) // 32, places)
+        return places.value
+
+    def answer(self, ask: AskLike) -> list[bytes]:
+        """The hashes that answer a peer's request. Raises Nothing if it has to be rejected."""
+        asked, count = laid_out(ask), u64()
+        for room in (544, 8224):  # of one more than a range's length and 31 layers
+            space = c.create_string_buffer(32 * room)
+            try:
+                lib.session_answer(self._handle, asked, space, room, count)
+            except TooSmall:
+                continue
+            return [space.raw[at:at + 32] for at in range(0, 32 * count.value, 32)]
+        raise TooSmall
+
+    def can_answer(self, ask: AskLike) -> bool:
+        """Whether `answer` would give hashes for this request."""
+        return holds(lib.session_can_answer, self._handle, laid_out(ask))
+
+
+class Holdings(Owner):
+    """The digests of blocks that cannot be proved yet, beside a session: at most `bound`, and no fewer than the longest
+    piece has. The piece whose newest block came longest ago gives way."""
+
+    _free = staticmethod(lib.holdings_free)
+
+    def __init__(self, session: Session, bound: int) -> None:
+        super().__init__()
+        if not isinstance(session, Session):
+            raise TypeError("holdings are of a Session")
+        lib.holdings_new(self._handle, session._handle, number(bound, 64))
+
+    def look_at(self, tree: int) -> None:
+        """Hashes of this tree were taken: `Session.settle` looks at its held pieces."""
+        lib.holdings_look_at(self._handle, number(tree, 64))
+
+    def held(self) -> int:
+        """How many blocks are held."""
+        count = u64()
+        lib.session_held(self._handle, count)
+        return count.value
+
+
+def _held_by(holdings: Holdings) -> lib.Handle:
+    if not isinstance(holdings, Holdings):
+        raise TypeError("blocks are held by Holdings")
+    return holdings._handle
+
+
+def _text(call: Callable[..., None], *arguments: Any) -> str:
+    """What a call writes into a room, which is made larger as the call says."""
+    size = 256
+    while True:
+        room, length = c.create_string_buffer(size), u64()
+        try:
+            call(*arguments, room, size, length)
+        except TooSmall:
+            size = length.value
+            continue
+        return room.raw[:length.value].decode()

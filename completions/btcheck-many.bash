@@ -1,0 +1,28 @@
+# Completion of btcheck-many for bash.
+
+_btcheck_many() {
+    local text=${COMP_WORDS[COMP_CWORD]} before=${COMP_WORDS[COMP_CWORD - 1]} options=''
+    COMPREPLY=()
+    if [ "$COMP_CWORD" -eq 1 ]; then
+        mapfile -t COMPREPLY < <(compgen -W 'check archive slurm --help --version' -- "$text")
+        return
+    fi
+    case $before in
+        -j | --jobs | --parts) return ;;
+        --keep) mapfile -t COMPREPLY < <(compgen -d -- "$text") ;;
+        *)
+            case ${COMP_WORDS[1]} in
+                check) options='-j --jobs --parts --hosts --keep --help' ;;
+                archive) options='-j --jobs --hosts --help' ;;
+                slurm) options='--parts --keep --submit --help' ;;
+            esac
+            case $text in
+                -*) mapfile -t COMPREPLY < <(compgen -W "$options" -- "$text"); return ;;
+                *) mapfile -t COMPREPLY < <(compgen -f -- "$text") ;;
+            esac
+            ;;
+    esac
+    compopt -o filenames 2>/dev/null
+}
+
+complete -F _btcheck_many btcheck-many

@@ -1,0 +1,2 @@
+-- What contracts of actions cite.
+pub mod AutoLength

@@ -1,0 +1,29 @@
+use Rattle.std.proofs.Common.{◌≡◌, refl, sym, subst, inl, inr, arith}
+use Rattle.btcheck_c.specs.declared.thing.Kind.TheVariants as kind
+use Rattle.btcheck_c.specs.CheckCalls.{EndsBits}
+use Rattle.btcheck_c.specs.FileChecks.{bytes_left}
+use Rattle.btcheck_c.proofs.check_calls.finish_bits.Goals as goal
+
+pub stop-requires : goal.stop-requires
+stop-requires c = omega (arith, c.left.ensures, c.if-left-eq0.false)
+
+pub finish-requires : goal.finish-requires
+finish-requires c = omega (arith, c.left.ensures)
+
+pub returns-else-left-eq0-clause-done : goal.returns-else-left-eq0-clause-done
+returns-else-left-eq0-clause-done c =
+    subst (λ k. EndsBits c.args.good.now c.stop.new.good c.args.piece.now k 9 (kind.Check c.stop.new.self)) (sym c.in-Check.is)
+    (inr (refl, (omega (arith, c.left.ensures, c.if-left-eq0.false), (c.stop.ensures.verdict, (c.stop.new.self, refl, c.stop.ensures.begins)))))
+
+pub returns-then-left-eq0-clause-done : goal.returns-then-left-eq0-clause-done
+returns-then-left-eq0-clause-done c =
+    let none : bytes_left c.in-Check.check ≡ 0 = omega (arith, c.left.ensures, c.if-left-eq0.true) in
+    subst (λ k. EndsBits c.args.good.now c.finish.new.good c.write_piece.new.piece k c.write_piece.result (kind.Check c.finish.new.self)) (sym c.in-Check.is)
+    (inl (
+      none,
+      (
+        c.finish.result,
+        c.write_piece.ensures.done,
+        (c.finish.ensures.verdict, (c.finish.new.self, refl, c.finish.ensures.begins)),
+      ),
+    ))

@@ -1,0 +1,17 @@
+use Rattle.std.proofs.Common.{Ok, ap, ◌∙◌}
+use Rattle.btcheck_c.proofs.HeldBlocks.{settled_none, settled_refused, settled_some}
+use Rattle.btcheck_c.proofs.holding.settle_held.Goals as goal
+
+pub returns-in-Ok-None-clause-done : goal.returns-in-Ok-None-clause-done
+returns-in-Ok-None-clause-done c = settled_none c.args.session.now c.settle_next.new.self c.args.held.now c.settle_next.new.holdings
+    c.settle_next.new.pieces c.settle_next.result c.settle_next.ensures c.args.run.now (c.in-Ok-None.is ∙ ap Ok c.in-Ok-None.field-0-is)
+
+pub returns-in-Ok-Some-clause-done : goal.returns-in-Ok-Some-clause-done
+returns-in-Ok-Some-clause-done c = settled_some c.args.session.now c.settle_next.new.self c.args.held.now c.settle_next.new.holdings
+    c.settle_next.new.pieces c.settle_next.result c.settle_next.ensures c.at-held.result c.in-Ok-Some.settled c.write_settled.result
+    c.write_settled.new.run (c.in-Ok-Some.is ∙ ap Ok c.in-Ok-Some.field-0-is) c.at-held.ensures.pieces c.write_settled.ensures
+
+pub returns-in-Err-clause-done : goal.returns-in-Err-clause-done
+returns-in-Err-clause-done c = settled_refused c.args.session.now c.settle_next.new.self c.args.held.now c.settle_next.new.holdings
+    c.settle_next.new.pieces c.settle_next.result c.settle_next.ensures c.at-held-in-Err.result c.in-Err.field-0 c.args.run.now
+    c.in-Err.is c.at-held-in-Err.ensures.pieces

@@ -1,0 +1,121 @@
+//! How the blocks of a message are held beside a session, and settled.
+
+ghost use Rattle.std.specs.Prelude.{◌≡◌, ◌≢◌, ◌<◌, ◌≤◌, ◌+◌, ◌*◌, ◌^◌, length, slice_get, Some, Option};
+ghost use Rattle.partial_tree.specs.declared.refusal.BlockRefusal.{BlockRefusal as Why};
+ghost use Rattle.holdings.specs.Holding.{IsTreeBlock};
+ghost use Rattle.btcheck_c.specs.Held.{ArePlaced, EntryHeld, HeldBlocks, HoldsBlocks, SettlesHeld};
+
+use crate::held::{Cursor, Held};
+use c_layouts::held_info::{HeldInfo, RunInfo, lay_out_unheld, write_hold, write_settled};
+use c_layouts::status::{DONE, NO_MEMORY, NO_SUCH, NOTHING, refused_block};
+use holdings::Holdings;
+use owned_sessions::OwnedSession;
+use partial_tree::{BlockRefusal, block_of};
+use session::Blocks;
+
+/// Takes the blocks of a message, and holds those that cannot be proved yet.
+pub(crate) fn hold_blocks(
+    session: &mut OwnedSession,
+    held: &mut Held,
+    index: u32,
+    begin: u32,
+    bytes: &[u8],
+    out: &mut HeldInfo,
+) -> u32
+    ensures done { HoldsBlocks index begin bytes.now out.new session.old held.old result
+        session.new held.new }
+    ensures unwritten { result ≢ 0 → out.new ≡ out.old }
+{
+    match session.take_blocks(index, begin, bytes) {
+        Err(refusal) => refused_block(refusal),
+        Ok(blocks) => {
+            *out = hold_unproved(session, held, &blocks, bytes);
+            DONE
+        }
+    }
+}
+
+// Holds the blocks of a message that cannot be proved yet. Their pieces are looked at then.
+fn hold_unproved(
+    session: &mut OwnedSession,
+    held: &mut Held,
+    blocks: &Blocks,
+    bytes: &[u8],
+) -> HeldInfo
+    requires { ArePlaced session.old blocks.now (length bytes.now) }
+    ensures held { HeldBlocks session.old blocks.now bytes.now held.old result held.new }
+    ensures same { session.new ≡ session.old }
+{
+    session.torrent().sound();
+    let (file, first) = blocks.place(0);
+    let tree = session.torrent().tree_of(file).unwrap();
+    let mut out = lay_out_unheld(blocks);
+    'entries: for entry in 0..blocks.len() {
+        hold_entry(
+            session,
+            &mut held.holdings,
+            tree,
+            blocks,
+            bytes,
+            entry,
+            &mut out,
+        );
+    }
+    let pieces = session.pieces_of(tree, first, blocks.len() as u64);
+    held.cursor = Cursor::at(tree, pieces);
+    out
+}
+
+// Holds the block of an entry if it cannot be proved yet.
+fn hold_entry(
+    session: &mut OwnedSession,
+    holdings: &mut Holdings,
+    tree: usize,
+    blocks: &Blocks,
+    bytes: &[u8],
+    entry: usize,
+    out: &mut HeldInfo,
+)
+    requires tree { tree < length session.old.torrent.trees }
+    requires block { IsTreeBlock session.old tree (blocks.now.first + entry) }
+    requires bytes { 16384 * entry ≤ length bytes.now }
+    requires entry { entry < length blocks.now.refusals }
+    requires few { entry < 17 }
+    ensures held { (r : Option Why) × (slice_get blocks.now.refusals entry ≡ Some r)
+        × EntryHeld session.old tree blocks.now bytes.now entry r holdings.old out.old holdings.new
+        out.new }
+    ensures same { session.new ≡ session.old }
+{
+    match blocks.refusal(entry) {
+        None => {}
+        Some(BlockRefusal::BadPlace | BlockRefusal::BadSize | BlockRefusal::BadBlock) => {}
+        Some(BlockRefusal::Unproved) => {
+            let (_, block) = blocks.place(entry);
+            let hold = session.hold(holdings, tree, block, block_of(bytes, entry as u64));
+            write_hold(hold, entry, out);
+        }
+    }
+}
+
+/// Settles what can be settled first of the pieces that are looked at, and writes its blocks.
+pub(crate) fn settle_held(session: &mut OwnedSession, held: &mut Held, run: &mut RunInfo) -> u32
+    ensures done { SettlesHeld run.new session.old held.old result session.new held.new }
+    ensures unwritten { result ≢ 0 → result ≢ 10 → run.new ≡ run.old }
+{
+    let tree = held.cursor.tree;
+    if tree >= session.torrent().trees().len() {
+        return NO_SUCH;
+    }
+    let mut pieces = held.cursor.pieces;
+    match session.settle_next(&mut held.holdings, &mut pieces) {
+        Ok(None) => NOTHING,
+        Ok(Some(settled)) => {
+            held.cursor = Cursor::at(tree, pieces);
+            write_settled(&settled, run)
+        }
+        Err(_) => {
+            held.cursor = Cursor::at(tree, pieces);
+            NO_MEMORY
+        }
+    }
+}

@@ -1,8 +1,0 @@
-use Rattle.std.proofs.Common.{◌≡◌, drop, map}
-use Rattle.std.specs.List.{list_any}
-use Rattle.filetree.specs.FileTree.{lacks_root}
-use Rattle.filetree.specs.Walked.{walk_of}
-use Rattle.filetree.proofs.files.test_roots.Given as goal
-
-abbrev pub invariant-files : goal.invariant-files
-invariant-files l = list_any (λ w. lacks_root w.file) (map walk_of l.files) ≡ list_any (λ w. lacks_root w.file) (map walk_of (drop l.file-index l.files))

@@ -1,0 +1,161 @@
+-- What is held of the pieces of a torrent's trees.
+use Rattle.std.specs.Prelude.{◌≡◌, ◌⊎◌, ℕ, ◌+◌, ◌-◌, ◌/◌, ◌^◌, ◌<◌, ◌≤◌, max, min}
+use Rattle.std.specs.Prelude.{is_some, sum_by, count_by, List, map, length, set, replicate, Option, Some, None, refl}
+use Rattle.std.specs.Coded.{Coded, code_by, coded×, coded_list, coded_option, coded_ℕ}
+use Rattle.std.specs.Option.{option_map}
+use Rattle.std.specs.Ordering.{nat_cmp}
+use Rattle.std.specs.BTreeMap as tree
+use Rattle.std.specs.BTreeMap.{BTreeMap, btree_map_len}
+use Rattle.std.specs.FinMap as finite
+use Rattle.std.specs.FinMap.{FinMap, from_entries, get, insert, remove, len}
+use Rattle.node_maps.specs.Digest.{Hash}
+use Rattle.node_maps.specs.Known.{place_cmp}
+use Rattle.holdings.specs.Cells.{Cells, digest_in}
+use Rattle.holdings.specs.Settling.{run_of}
+use Rattle.holdings.specs.declared.held_piece.HeldPiece.{HeldPiece}
+use Rattle.holdings.specs.declared.run.Run.{Run}
+
+-- of one piece: its cells, and when its newest block came
+pub record PieceSeen : Type 0 where
+  pub cells : Cells
+  pub newest : ℕ
+
+-- the held pieces, each by its tree and its first block there; how many there may be; and the
+-- time, which is how often a digest was held
+pub record HoldingsSeen : Type 0 where
+  pub pieces : FinMap place_cmp PieceSeen
+  pub most : ℕ
+  pub clock : ℕ
+
+-- how many pieces may be held if so many blocks may, and the longest piece has so many: at least
+-- one, and 2^31 at most
+abbrev pub most_pieces : ℕ → ℕ → ℕ
+most_pieces bound longest = min (max (bound / max longest 1) 1) (2 ^ 31)
+
+abbrev pub digest_of : Option PieceSeen → ℕ → Option Hash
+digest_of None j = None
+digest_of (Some x) j = digest_in x.cells j
+
+-- the digest that is held of block j of the piece of tree n from block `first` on
+abbrev pub held_at : HoldingsSeen → ℕ → ℕ → ℕ → Option Hash
+held_at h n first j = digest_of (get h.pieces (n, first)) j
+
+-- how many digests are held of a piece
+abbrev pub held_in : Cells → ℕ
+held_in cells = count_by is_some cells
+
+-- how many digests are held
+abbrev pub held_count : HoldingsSeen → ℕ
+held_count h = sum_by (λ x. held_in x.cells) (finite.values h.pieces)
+
+-- with these cells of a piece, whose newest block comes now
+abbrev pub with_piece : HoldingsSeen → ℕ × ℕ → Cells → HoldingsSeen
+with_piece h q cells = record h {
+  pieces = insert h.pieces q (record { cells = cells; newest = h.clock });
+  clock = h.clock + 1;
+}
+
+-- without a piece
+abbrev pub without_piece : HoldingsSeen → ℕ × ℕ → HoldingsSeen
+without_piece h q = record h { pieces = remove h.pieces q }
+
+-- of the held pieces this one's newest block came longest ago
+pub record IsOldest (h : HoldingsSeen) (q : ℕ × ℕ) (x : PieceSeen) : Type 0 where
+  pub there : get h.pieces q ≡ Some x
+  pub oldest : (r : ℕ × ℕ) (y : PieceSeen) → get h.pieces r ≡ Some y → x.newest ≤ y.newest
+
+-- all blocks of this piece give way
+pub record GivesWay (h : HoldingsSeen) (run : Run) (h' : HoldingsSeen) : Type 0 where
+  pub piece : ℕ × ℕ
+  pub seen : PieceSeen
+  pub is_oldest : IsOldest h piece seen
+  pub full : h.most ≤ len h.pieces
+  pub run_is : run ≡ run_of piece.0 piece.1 0 (length seen.cells - 1)
+  pub after : h' ≡ without_piece h piece
+
+-- there is room for one more piece, or the oldest gives way
+abbrev pub MakesRoom : HoldingsSeen → Option Run → HoldingsSeen → Type 0
+MakesRoom h None h' = (len h.pieces < h.most) × (h' ≡ h)
+MakesRoom h (Some run) h' = GivesWay h run h'
+
+-- something is held of the piece, and now also this digest of its block j
+pub record Renews (h : HoldingsSeen) (q : ℕ × ℕ) (j : ℕ) (d : Hash) (h' : HoldingsSeen)
+    : Type 0 where
+  pub seen : PieceSeen
+  pub there : get h.pieces q ≡ Some seen
+  pub inside : j < length seen.cells
+  pub after : h' ≡ with_piece h q (set seen.cells j (Some d))
+
+-- nothing was held of the piece of `size` blocks, and now this digest of its block j
+pub record Begins (h : HoldingsSeen) (q : ℕ × ℕ) (size j : ℕ) (d : Hash) (dropped : Option Run)
+    (h' : HoldingsSeen) : Type 0 where
+  pub absent : get h.pieces q ≡ None
+  pub between : HoldingsSeen
+  pub room : MakesRoom h dropped between
+  pub after : h' ≡ with_piece between q (set (replicate size None) j (Some d))
+
+-- the digest is held of block j of the piece, in place of an older one
+abbrev pub Keeps : HoldingsSeen → ℕ × ℕ → ℕ → ℕ → Hash → Option Run → HoldingsSeen → Type 0
+Keeps h q size j d dropped h' = ((dropped ≡ None) × Renews h q j d h')
+    ⊎ Begins h q size j d dropped h'
+
+-- ---- as it is kept
+
+-- an ordered map from trees and first blocks to what is held of their pieces
+abbrev pub KeptPieces : Type 0
+KeptPieces = BTreeMap (ℕ × ℕ) HeldPiece
+
+-- an ordered map from times to the pieces whose newest block came then
+abbrev pub KeptAges : Type 0
+KeptAges = BTreeMap ℕ (ℕ × ℕ)
+
+-- what contracts see of one piece
+abbrev pub seen_piece : HeldPiece → PieceSeen
+seen_piece p = record { cells = p.cells.items; newest = p.newest }
+
+-- what contracts see of a piece, if it is there
+abbrev pub seen_at : KeptPieces → ℕ × ℕ → Option PieceSeen
+seen_at m q = option_map seen_piece (tree.get place_cmp m q)
+
+-- what contracts see of all
+abbrev pub seen_pieces : List ((ℕ × ℕ) × HeldPiece) → FinMap place_cmp PieceSeen
+seen_pieces es = from_entries (map (λ e. (e.0, seen_piece e.1)) es)
+
+-- what contracts see of it
+abbrev pub seen_holdings : KeptPieces → ℕ → ℕ → HoldingsSeen
+seen_holdings m most clock =
+    record { pieces = seen_pieces m.entries; most = most; clock = clock }
+
+-- the blocks of a piece are numbers of 64 bits, and it has 2^32 at most
+abbrev pub IsLowPiece : ℕ × ℕ → PieceSeen → Type 0
+IsLowPiece q x = (q.1 + length x.cells < 2 ^ 64) × (length x.cells ≤ 2 ^ 32)
+
+-- each piece stands at its time among the ages, and nothing else stands there; each time is past,
+-- and each piece is low
+pub record IsAged (piece : ℕ × ℕ → Option PieceSeen) (age : ℕ → Option (ℕ × ℕ)) (clock : ℕ)
+    : Type 0 where
+  pub at : (q : ℕ × ℕ) (x : PieceSeen) → piece q ≡ Some x → age x.newest ≡ Some q
+  pub of : (t : ℕ) (q : ℕ × ℕ) → age t ≡ Some q
+      → (x : PieceSeen) × (piece q ≡ Some x) × (x.newest ≡ t)
+  pub past : (t : ℕ) (q : ℕ × ℕ) → age t ≡ Some q → t < clock
+  pub low : (q : ℕ × ℕ) (x : PieceSeen) → piece q ≡ Some x → IsLowPiece q x
+
+-- the same of the two maps, and there are no more pieces than there may be
+pub record IsKept (pieces : KeptPieces) (ages : KeptAges) (most clock : ℕ) : Type 0 where
+  pub aged : IsAged (seen_at pieces) (tree.get nat_cmp ages) clock
+  pub some : 0 < most
+  pub many : most ≤ 2 ^ 31
+  pub few : btree_map_len pieces ≤ most
+
+abbrev cells_code : Coded Cells
+cells_code = coded_list (coded_option (coded_list coded_ℕ))
+
+abbrev pub piece_code : Coded PieceSeen
+piece_code = code_by (Cells × ℕ) (coded× cells_code coded_ℕ) (λ x. (x.cells, x.newest))
+    (λ p. record { cells = p.0; newest = p.1 }) (λ _. refl)
+
+abbrev pub holdings_code : Coded HoldingsSeen
+holdings_code = code_by (FinMap place_cmp PieceSeen × (ℕ × ℕ))
+    (coded× (finite.code (coded× coded_ℕ coded_ℕ) piece_code) (coded× coded_ℕ coded_ℕ))
+    (λ h. (h.pieces, (h.most, h.clock)))
+    (λ p. record { pieces = p.0; most = p.1.0; clock = p.1.1 }) (λ _. refl)

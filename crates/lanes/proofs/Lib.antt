@@ -1,0 +1,3 @@
+mod Bits
+pub mod Messages
+pub mod OfLanes

@@ -1,0 +1,6 @@
+-- What contracts of lines cite.
+pub mod Rows
+pub mod Table
+pub mod Texts
+pub mod Strings
+pub mod Objects

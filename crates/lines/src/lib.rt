@@ -1,0 +1,15 @@
+//! The lines that `btcheck` prints: each kind is a row of one table, and a line's text and its JSON
+//! object are made of its row.
+#![tactic(auto)]
+
+mod gathered;
+mod line;
+mod line_sink;
+mod object;
+mod part;
+mod string;
+mod text;
+
+pub use line::{Line, say, say_last};
+pub use line_sink::{LineSink, Objects};
+pub use part::Part;

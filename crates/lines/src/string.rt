@@ -1,0 +1,86 @@
+//! Strings of JSON (RFC 8259, section 7).
+ghost use Rattle.std.specs.Prelude.{◌≡◌, ◌∷◌, [], map};
+ghost use Rattle.std.specs.List.{join_with_byte};
+ghost use Rattle.hex.specs.Hex.{encode_lower};
+ghost use Rattle.benc.specs.Device.{Wrote};
+ghost use Rattle.filetree.specs.FileTree.{slash};
+ghost use Rattle.lines.specs.Strings.{quoted, short_escape, string_byte, string_bytes};
+
+use benc::{DeviceFault, Sink, write_all};
+
+/// Writes a path as a JSON string: its components with `/` between them. After a fault a prefix of
+/// it went out.
+pub(crate) fn write_path_string<W: Sink>(path: &[&str], out: &mut W) -> Result<(), DeviceFault>
+    ensures { Wrote (W.seen out.old) (W.seen out.new) result
+        (quoted (join_with_byte slash (map (λ s. s.now) path.now))) }
+{
+    write_all(out, b"\"")?;
+    write_joined(path, out)?;
+    write_all(out, b"\"")
+}
+
+// Writes the components of a path, with `/` between them.
+fn write_joined<W: Sink>(path: &[&str], out: &mut W) -> Result<(), DeviceFault>
+    ensures { Wrote (W.seen out.old) (W.seen out.new) result
+        (string_bytes (join_with_byte slash (map (λ s. s.now) path.now))) }
+{
+    let Some((first, others)) = path.split_first() else {
+        return Ok(());
+    };
+    write_inside(first.as_bytes(), out)?;
+    'parts: for part in others {
+        write_all(out, b"/")?;
+        write_inside(part.as_bytes(), out)?;
+    }
+    Ok(())
+}
+
+// Writes the bytes of a JSON string without its quotes.
+fn write_inside<W: Sink>(text: &[u8], out: &mut W) -> Result<(), DeviceFault>
+    ensures { Wrote (W.seen out.old) (W.seen out.new) result (string_bytes text.now) }
+{
+    'bytes: for byte in text {
+        write_byte(*byte, out)?;
+    }
+    Ok(())
+}
+
+// Writes a byte as it stands in a JSON string.
+fn write_byte<W: Sink>(byte: u8, out: &mut W) -> Result<(), DeviceFault>
+    ensures { Wrote (W.seen out.old) (W.seen out.new) result (string_byte byte) }
+{
+    let letter = short_escape(byte);
+    if letter > 0 {
+        return write_all(out, &[b'\\', letter]);
+    }
+    if byte < 32 {
+        write_all(out, b"\\u00")?;
+        return write_all(out, &digits_of(byte));
+    }
+    write_all(out, &[byte])
+}
+
+// The letter of a byte's short escape, or 0 if it has none.
+fn short_escape(byte: u8) -> u8
+    ensures { result ≡ short_escape byte }
+{
+    match byte {
+        b'"' => b'"',
+        b'\\' => b'\\',
+        0x08 => b'b',
+        b'\t' => b't',
+        b'\n' => b'n',
+        0x0c => b'f',
+        b'\r' => b'r',
+        _ => 0,
+    }
+}
+
+// The two digits of a byte in lower case hexadecimal.
+fn digits_of(byte: u8) -> [u8; 2]
+    ensures { result ≡ encode_lower (byte ∷ []) }
+{
+    let mut digits = [0u8; 2];
+    let _ = hex::encode_to_slice(&[byte], &mut digits);
+    digits
+}

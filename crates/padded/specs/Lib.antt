@@ -1,0 +1,2 @@
+-- What contracts of padded blocks cite.
+pub mod Padding

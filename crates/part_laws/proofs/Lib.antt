@@ -1,0 +1,9 @@
+-- The lemmas behind the laws.
+pub mod SplicedBytes
+pub mod SplicedPieces
+pub mod Apart
+pub mod ApartTexts
+pub mod MarkedReadings
+pub mod MarkedPieces
+pub mod MarkedReports
+pub mod MarkedTexts

@@ -1,0 +1,87 @@
+-- What the texts of marked reports make together: what a check prints that tells of bad pieces.
+use Rattle.std.specs.Prelude.{◌≡◌, ◌⊎◌, ℕ, ◌<◌, ◌^◌, List, [], ◌∷◌, ◌++◌, Option, Some, slice_get}
+use Rattle.opening.specs.Description.{Description, FileEntry}
+use Rattle.opening.specs.Sound.{IsSound}
+use Rattle.folders.specs.Folder.{Contents}
+use Rattle.folders.specs.Printed.{end_text}
+use Rattle.folders.specs.declared.lines.Lines.TheVariants as lines
+use Rattle.folders.specs.declared.report.FileVerdict.{FileVerdict}
+use Rattle.folders.specs.declared.report.V1Verdict.{V1Verdict}
+use Rattle.parts.specs.Checking.{AreTold, verdicts_in}
+use Rattle.parts.specs.Collisions.{FileCollides}
+use Rattle.parts.specs.Laws.{IsReportOf}
+use Rattle.parts.specs.MarkedChecks.{AreAllMarked}
+use Rattle.parts.specs.MarkedLines.{marked_text, verdicts_of}
+use Rattle.parts.specs.Parts.{IsTruePart}
+use Rattle.parts.specs.Runs.{AreRunsOf, Run}
+use Rattle.parts.specs.Shares.{share}
+use Rattle.parts.specs.Telling.{AreToldRuns, has_runs}
+use Rattle.parts.specs.declared.telling.Telling.TheVariants as telling
+use Rattle.part_reports.specs.MarkedJoins.{AreJoinedAs}
+use Rattle.part_reports.specs.Texts.{reported}
+use Rattle.part_reports.specs.WholeLines.{ShowsAll, whole_text}
+use Rattle.part_reports.specs.declared.kind.Kind.TheVariants.{Marked}
+use Rattle.part_reports.specs.declared.marked_report.MarkedReport.{MarkedReport}
+
+-- ---- the parts
+
+-- the text is what one of some parts prints of verdicts and of runs of bad pieces that are true of
+-- these contents
+pub record IsTrueMarkedReport (t : Description) (contents : Contents) (text : List ℕ) : Type 0
+  where
+    pub part : ℕ
+    pub count : ℕ
+    pub marked : List (FileVerdict × List Run)
+    pub v1 : Option V1Verdict
+    pub there : part < count
+    pub small : count < 2 ^ 64
+    pub are_true : IsTruePart t contents (reported t part count (verdicts_of marked) v1)
+    pub runs : AreAllMarked t (share t part count) contents marked
+    pub is : text ≡ marked_text t part count marked v1
+
+-- each of the texts is the marked report of a part, and true of these contents
+abbrev pub AreTrueMarkedReports : Description → Contents → List (List ℕ) → Type 0
+AreTrueMarkedReports t contents texts =
+    (i : ℕ) (text : List ℕ) → slice_get texts i ≡ Some text → IsTrueMarkedReport t contents text
+
+-- ---- what a check prints
+
+-- what is told of some files, one after the other
+abbrev pub all_told : List (FileVerdict × List ℕ) → List ℕ
+all_told [] = []
+all_told (x ∷ xs) = x.1 ++ all_told xs
+
+-- the text is what a check of a folder with these contents prints that tells of bad pieces, if
+-- these are its verdicts
+pub record IsCheckText (t : Description) (contents : Contents) (verdicts : List FileVerdict)
+    (v1 : Option V1Verdict) (text : List ℕ) : Type 0 where
+  pub report : IsReportOf t contents verdicts v1
+  pub told : List (FileVerdict × List ℕ)
+  pub verdicts_are : verdicts_in told ≡ verdicts
+  pub tells : AreTold t (telling.LineAndRuns lines.All) contents told
+  pub is : text ≡ all_told told ++ end_text lines.All verdicts v1
+
+-- ---- the laws
+
+-- The runs of a join are those of the check: if each of the texts is the marked report of a part,
+-- and true of the same contents, the runs that are printed of a file whose joined verdict has runs
+-- are exactly the maximal runs of its bad pieces, and of another file there are none. No collision
+-- excuses it.
+abbrev pub JoinedRunsAreTheChecks : Type 0
+JoinedRunsAreTheChecks =
+    (t : Description) (contents : Contents) (texts : List (List ℕ)) (joined : MarkedReport)
+    (marked : List (FileVerdict × List Run)) → IsSound t → AreTrueMarkedReports t contents texts
+    → AreJoinedAs Marked t texts joined → ShowsAll t joined marked
+    → (n : ℕ) (f : FileEntry) (x : FileVerdict × List Run) → slice_get t.files n ≡ Some f
+    → slice_get marked n ≡ Some x
+    → AreToldRuns (AreRunsOf t f) (has_runs x.0) (contents n) x.1
+
+-- A join of such texts prints what a check of these contents prints that tells of bad pieces, or a
+-- collision is named.
+abbrev pub JoinPrintsTheCheck : Type 0
+JoinPrintsTheCheck =
+    (t : Description) (contents : Contents) (texts : List (List ℕ)) (joined : MarkedReport)
+    (marked : List (FileVerdict × List Run)) → IsSound t → AreTrueMarkedReports t contents texts
+    → AreJoinedAs Marked t texts joined → ShowsAll t joined marked
+    → IsCheckText t contents joined.report.files.items joined.report.v1
+    (whole_text t marked joined) ⊎ FileCollides t contents

@@ -1,0 +1,7 @@
+//! What the parts of a check make together where each saw contents of its own, and what a join of
+//! their marked reports prints.
+#![tactic(auto)]
+
+mod laws;
+
+pub use laws::{join_prints_the_check, yes_of_parts_apart, yes_of_texts_apart};

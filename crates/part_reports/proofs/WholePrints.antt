@@ -1,0 +1,68 @@
+-- A report with its bad pieces, printed file by file.
+use Rattle.std.proofs.Common.{◌≡◌, inl, inr, ℕ, List, [], ◌∷◌, ◌++◌, length, slice_get, Some, Result, Ok, Err}
+use Rattle.std.proofs.Common.{sym, ap, ◌∙◌, subst, append_assoc, append-nil}
+use Rattle.std.proofs.lemmas.List.{length-map}
+use Rattle.std.proofs.lemmas.Option.{none-some, same_Some}
+use Rattle.chains.proofs.Cases.{pushed_at}
+use Rattle.benc.specs.Device.{SinkSeen, WroteAndFlushed}
+use Rattle.opening.specs.Description.{Description, FileEntry}
+use Rattle.folders.specs.Printed.{file_verdict_text}
+use Rattle.folders.specs.declared.report.FileVerdict.{FileVerdict}
+use Rattle.parts.specs.Runs.{Run, runs_text}
+use Rattle.parts.specs.Telling.{has_runs}
+use Rattle.part_reports.specs.WholeLines.{AreShown, PrintsMarked, ShowsAll, ShowsFirst, whole_lines, whole_text}
+use Rattle.part_reports.specs.declared.marked_report.MarkedReport.{MarkedReport}
+use Rattle.part_reports.proofs.Listed.{same_items}
+use Rattle.part_reports.proofs.MarkedFiles.{said_at}
+
+-- all that is printed of a file
+abbrev pub file_lines : Description → FileEntry → FileVerdict → List Run → List ℕ
+file_lines t f v runs = file_verdict_text v f ++ runs_text t f runs
+
+pub lines_push : (t : Description) (xs : List (FileVerdict × List Run)) (fs : List FileEntry) (v : FileVerdict) (runs : List Run) (f : FileEntry)
+    → slice_get fs (length xs) ≡ Some f → whole_lines t (xs ++ (v, runs) ∷ []) fs ≡ whole_lines t xs fs ++ file_lines t f v runs
+lines_push t [] [] v runs f at = absurd (none-some f at)
+lines_push t [] (g ∷ fs) v runs f at =
+    append-nil (file_lines t g v runs) ∙ ap (λ (h : FileEntry). file_lines t h v runs) (same_Some g f at)
+lines_push t (x ∷ xs) [] v runs f at = absurd (none-some f at)
+lines_push t (x ∷ xs) (g ∷ fs) v runs f at =
+    let one : List ℕ = file_lines t g x.0 x.1 in
+    ap (λ l. one ++ l) (lines_push t xs fs v runs f at) ∙ sym (append_assoc one (whole_lines t xs fs) (file_lines t f v runs))
+
+pub none_first : (t : Description) (joined : MarkedReport) → ShowsFirst t joined []
+none_first t joined = record {
+  verdicts = λ n x at. absurd (none-some x at);
+  runs = λ n f x there at. absurd (none-some x at);
+}
+
+pub one_first : (t : Description) (joined : MarkedReport) (marked : List (FileVerdict × List Run)) (v : FileVerdict) (runs : List Run) (f : FileEntry)
+    → slice_get t.files (length marked) ≡ Some f → slice_get joined.report.files.items (length marked) ≡ Some v
+    → AreShown t joined.bad f (has_runs v) runs → ShowsFirst t joined marked → ShowsFirst t joined (marked ++ (v, runs) ∷ [])
+one_first t joined marked v runs f f_at v_at shown first = record {
+  verdicts = λ n x at. elim (pushed_at marked (v, runs) x n at) [
+    | inl before ↦ first.verdicts n x before
+    | inr last ↦
+        ap (slice_get joined.report.files.items) last.0 ∙ v_at ∙ ap (λ (y : FileVerdict × List Run). Some y.0) last.1
+  ];
+  runs = λ n g x there at. elim (pushed_at marked (v, runs) x n at) [
+    | inl before ↦ first.runs n g x there before
+    | inr last ↦
+        let same : f ≡ g = same_Some f g (sym f_at ∙ ap (slice_get t.files) (sym last.0) ∙ there) in
+        subst (λ h. AreShown t joined.bad h (has_runs x.0) x.1) same
+        (subst (λ (y : FileVerdict × List Run). AreShown t joined.bad f (has_runs y.0) y.1) last.1 shown)
+  ];
+}
+
+pub all_first : (t : Description) (joined : MarkedReport) (marked : List (FileVerdict × List Run)) → length marked ≡ length joined.report.files.items
+    → ShowsFirst t joined marked → ShowsAll t joined marked
+all_first t joined marked count first = record {
+  verdicts = same_items _ joined.report.files.items (length-map marked (λ x. x.0) ∙ count) (λ n v w v_at w_at.
+      let x = said_at marked n v v_at in
+      sym x.2 ∙ same_Some x.0.0 w (sym (first.verdicts n x.0 x.1) ∙ w_at));
+  runs = first.runs;
+}
+
+pub printed_whole : {E : Type 0} (t : Description) (joined : MarkedReport) (marked : List (FileVerdict × List Run)) (old new : SinkSeen)
+    (r : Result (Unit {0}) E) → ShowsAll t joined marked → WroteAndFlushed old new r (whole_text t marked joined) → PrintsMarked t joined old new r
+printed_whole t joined marked old new (Ok u) shows wrote = (marked, shows, wrote)
+printed_whole t joined marked old new (Err e) shows wrote = inr (marked, shows, wrote)

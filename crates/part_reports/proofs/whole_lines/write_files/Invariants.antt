@@ -1,0 +1,10 @@
+use Rattle.std.proofs.Common.{◌≡◌, List, length}
+use Rattle.benc.specs.Device.{Sent}
+use Rattle.folders.specs.declared.report.FileVerdict.{FileVerdict}
+use Rattle.parts.specs.Runs.{Run}
+use Rattle.part_reports.specs.WholeLines.{ShowsFirst, whole_lines}
+use Rattle.part_reports.proofs.whole_lines.write_files.Given as goal
+
+abbrev pub invariant-files : goal.invariant-files
+invariant-files g l = (marked : List (FileVerdict × List Run)) × (length marked ≡ l.i) × ShowsFirst l.torrent l.joined marked
+    × Sent (g.W.Sink.seen l.fn.out) (g.W.Sink.seen l.out) (whole_lines l.torrent marked l.torrent.files)

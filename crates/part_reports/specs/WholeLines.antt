@@ -1,0 +1,123 @@
+-- What is printed of a report with its bad pieces.
+use Rattle.std.specs.Prelude.{◌≡◌, ◌⊎◌, ℕ, ◌+◌, ◌≤◌, Bool, true, false, List, [], ◌∷◌, ◌++◌, length, slice_get, Some, Result, MatchResult}
+use Rattle.benc.specs.Device.{Broke, BrokeOrUnflushed, Sent, SentAndFlushed, SinkSeen}
+use Rattle.opening.specs.Description.{Description, FileEntry}
+use Rattle.folders.specs.Printed.{end_text, file_verdict_text}
+use Rattle.folders.specs.declared.lines.Lines.TheVariants as lines
+use Rattle.folders.specs.declared.report.FileVerdict.{FileVerdict}
+use Rattle.parts.specs.MarkedLines.{verdicts_of}
+use Rattle.parts.specs.Parts.{piece_count}
+use Rattle.parts.specs.Runs.{AreBadRuns, Run, runs_text}
+use Rattle.parts.specs.Telling.{has_runs}
+use Rattle.part_reports.specs.Marks.{IsMarked}
+use Rattle.part_reports.specs.declared.bad_pieces.BadPieces.{BadPieces}
+use Rattle.part_reports.specs.declared.marked_report.MarkedReport.{MarkedReport}
+
+-- ---- the text
+
+-- the lines of the first files, each with those of its runs of bad pieces behind it
+abbrev pub whole_lines : Description → List (FileVerdict × List Run) → List FileEntry → List ℕ
+whole_lines t [] fs = []
+whole_lines t (x ∷ xs) [] = []
+whole_lines t (x ∷ xs) (f ∷ fs) =
+    (file_verdict_text x.0 f ++ runs_text t f x.1) ++ whole_lines t xs fs
+
+-- ---- the runs
+
+-- a piece of a file, by its number within the file, is not marked as bad
+abbrev pub IsNotBad : BadPieces → FileEntry → ℕ → Type 0
+IsNotBad bad f k = IsMarked bad (f.first_piece + k) → ⊥
+
+-- these are the maximal runs of marked pieces of a file that begin before one of its pieces
+abbrev pub AreMarkedRuns : Description → BadPieces → FileEntry → ℕ → List Run → Type 0
+AreMarkedRuns t bad f to runs = AreBadRuns (piece_count t f) to (IsNotBad bad f) runs
+
+-- these are all of them, if the bad pieces of the file are printed, else none
+abbrev pub AreShown : Description → BadPieces → FileEntry → Bool → List Run → Type 0
+AreShown t bad f true runs = AreMarkedRuns t bad f (piece_count t f) runs
+AreShown t bad f false runs = runs ≡ []
+
+-- these are the first of them
+abbrev pub AreFirstShown : Description → BadPieces → FileEntry → Bool → List Run → Type 0
+AreFirstShown t bad f true runs =
+    (to : ℕ) × (to ≤ piece_count t f) × AreMarkedRuns t bad f to runs
+AreFirstShown t bad f false runs = runs ≡ []
+
+-- ---- what went out
+
+-- of the first files this is printed: the verdicts of a report, and the runs of its bad pieces
+pub record ShowsFirst (t : Description) (joined : MarkedReport)
+    (marked : List (FileVerdict × List Run)) : Type 0 where
+  pub verdicts : (n : ℕ) (x : FileVerdict × List Run) → slice_get marked n ≡ Some x
+      → slice_get joined.report.files.items n ≡ Some x.0
+  pub runs : (n : ℕ) (f : FileEntry) (x : FileVerdict × List Run) → slice_get t.files n ≡ Some f
+      → slice_get marked n ≡ Some x → AreShown t joined.bad f (has_runs x.0) x.1
+
+-- of all files
+pub record ShowsAll (t : Description) (joined : MarkedReport)
+    (marked : List (FileVerdict × List Run)) : Type 0 where
+  pub verdicts : verdicts_of marked ≡ joined.report.files.items
+  pub runs : (n : ℕ) (f : FileEntry) (x : FileVerdict × List Run) → slice_get t.files n ≡ Some f
+      → slice_get marked n ≡ Some x → AreShown t joined.bad f (has_runs x.0) x.1
+
+-- the lines of the runs of a file went out, or those of the first ones broke off
+abbrev pub PrintsRuns : {E : Type 0} → Description → BadPieces → FileEntry → SinkSeen → SinkSeen
+    → Result (Unit {0}) E → Type 0
+PrintsRuns t bad f old new r = MatchResult r
+    (λ _. (runs : List Run) × AreMarkedRuns t bad f (piece_count t f) runs
+    × Sent old new (runs_text t f runs))
+    (λ _. (runs : List Run) × AreFirstShown t bad f true runs × Broke old new (runs_text t f runs))
+
+-- the lines of a file with this verdict went out, or broke off
+abbrev pub PrintsFile : {E : Type 0} → Description → BadPieces → FileEntry → FileVerdict → SinkSeen
+    → SinkSeen → Result (Unit {0}) E → Type 0
+PrintsFile t bad f v old new r = MatchResult r
+    (λ _. (runs : List Run) × AreShown t bad f (has_runs v) runs
+    × Sent old new (file_verdict_text v f ++ runs_text t f runs))
+    (λ _. (runs : List Run) × AreFirstShown t bad f (has_runs v) runs
+    × Broke old new (file_verdict_text v f ++ runs_text t f runs))
+
+-- after all lines of the first files those of the next one broke off
+pub record StopsAtFile (t : Description) (joined : MarkedReport) (old new : SinkSeen) : Type 0 where
+  pub before : List (FileVerdict × List Run)
+  pub shows : ShowsFirst t joined before
+  pub file : FileEntry
+  pub file_is : slice_get t.files (length before) ≡ Some file
+  pub verdict : FileVerdict
+  pub verdict_is : slice_get joined.report.files.items (length before) ≡ Some verdict
+  pub runs : List Run
+  pub first : AreFirstShown t joined.bad file (has_runs verdict) runs
+  pub broke : Broke old new
+      (whole_lines t before t.files ++ (file_verdict_text verdict file ++ runs_text t file runs))
+
+-- the lines of all files went out, or broke off
+abbrev pub PrintsFiles : {E : Type 0} → Description → MarkedReport → SinkSeen → SinkSeen
+    → Result (Unit {0}) E → Type 0
+PrintsFiles t joined old new r = MatchResult r
+    (λ _. (marked : List (FileVerdict × List Run)) × ShowsAll t joined marked
+    × Sent old new (whole_lines t marked t.files))
+    (λ _. StopsAtFile t joined old new)
+
+-- all lines
+abbrev pub whole_text : Description → List (FileVerdict × List Run) → MarkedReport → List ℕ
+whole_text t marked joined = whole_lines t marked t.files
+    ++ end_text lines.All joined.report.files.items joined.report.v1
+
+-- all went out, and was flushed
+abbrev pub PrintsWhole : Description → MarkedReport → SinkSeen → SinkSeen → Type 0
+PrintsWhole t joined old new = (marked : List (FileVerdict × List Run)) × ShowsAll t joined marked
+    × SentAndFlushed old new (whole_text t marked joined)
+
+-- it broke off in the lines of a file, or behind them
+abbrev pub StopsPrinting : Description → MarkedReport → SinkSeen → SinkSeen → Type 0
+StopsPrinting t joined old new = StopsAtFile t joined old new
+    ⊎ ((marked : List (FileVerdict × List Run)) × ShowsAll t joined marked
+    × BrokeOrUnflushed old new (whole_text t marked joined))
+
+-- What a call that prints a report with its bad pieces did, by its answer: of each file its line,
+-- and behind that of one that is bad or has another length the lines of the maximal runs of its bad
+-- pieces; and then the end. Or this broke off.
+abbrev pub PrintsMarked : {E : Type 0} → Description → MarkedReport → SinkSeen → SinkSeen
+    → Result (Unit {0}) E → Type 0
+PrintsMarked t joined old new r =
+    MatchResult r (λ _. PrintsWhole t joined old new) (λ _. StopsPrinting t joined old new)

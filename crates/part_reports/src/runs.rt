@@ -1,0 +1,153 @@
+//! The lines of the runs of bad pieces of a file in a report, read again.
+ghost use Rattle.std.specs.Prelude.{◌≡◌, ◌↔◌, ℕ, ◌+◌, ◌-◌, ◌<◌, ◌≤◌, ◌^◌, List, ◌∷◌, ◌++◌, codes, decimal, length, IsTrue, MatchOption, Some};
+ghost use Rattle.folders.specs.Verdicts.{IsFileOf};
+ghost use Rattle.opening.specs.Seen.{file_entry};
+ghost use Rattle.parts.specs.Parts.{piece_count as pieces_in};
+ghost use Rattle.parts.specs.Runs.{Run, run_text};
+ghost use Rattle.parts.specs.Spans.{end_in, first_in};
+ghost use Rattle.part_reports.specs.Lines.{HasRuns, ReadsRuns};
+ghost use Rattle.part_reports.specs.RunLines.{BeginsRightly, HasOneRun, IsRunWithin, ReadsAll};
+
+use crate::bad_pieces::BadPieces;
+use crate::counts::{has_runs, piece_count};
+use crate::scan::number_behind;
+use folders::FileVerdict;
+use opening::{File, Torrent};
+use parts::{Places, run_line};
+
+/// What follows the lines of the runs of bad pieces of a file with this verdict, in the report of a
+/// part with these places; the pieces in them are marked. `None` if they do not begin with the
+/// piece that the verdict names. Conditions: the torrent has the file, and there is a mark for each
+/// of its pieces.
+pub(crate) fn read_runs<'a>(
+    torrent: &Torrent<'_>,
+    file: &File<'_>,
+    places: Places,
+    verdict: FileVerdict,
+    text: &'a [u8],
+    bad: &mut BadPieces,
+) -> Option<&'a [u8]>
+    requires file { IsFileOf torrent.now (file_entry file.now) }
+    requires room { let f = file_entry file.now in
+        f.first_piece + pieces_in torrent.now f ≤ length bad.old.marks.items }
+    ensures { let f = file_entry file.now in
+        MatchOption result (HasRuns torrent.now places f verdict text.now → ⊥)
+        (λ rest. ReadsRuns torrent.now places f verdict text.now rest.now bad.old bad.new) }
+{
+    torrent.sound();
+    if !has_runs(verdict) {
+        return Some(text);
+    }
+    let from = first_in(places, file);
+    let to = end_in(torrent, places, file);
+    if !begins_rightly(torrent, file, from, to, verdict, text) {
+        return None;
+    }
+    Some(read_all(torrent, file, from, to, text, bad))
+}
+
+// The number within the file of the first of its pieces that is among these places.
+fn first_in(places: Places, file: &File<'_>) -> u64
+    ensures { result ≡ first_in places (file_entry file.now) }
+{
+    places.from.max(file.first_piece) - file.first_piece
+}
+
+// The number within the file of the piece after the last that is among these places.
+fn end_in(torrent: &Torrent<'_>, places: Places, file: &File<'_>) -> u64
+    ensures { result ≡ end_in torrent.now places (file_entry file.now) }
+{
+    let count = piece_count(torrent, file);
+    places.to.saturating_sub(file.first_piece).min(count)
+}
+
+// Whether the first of the runs begins with the piece that the verdict names, if it names one.
+fn begins_rightly(
+    torrent: &Torrent<'_>,
+    file: &File<'_>,
+    from: u64,
+    to: u64,
+    verdict: FileVerdict,
+    text: &[u8],
+) -> bool
+    requires file { IsFileOf torrent.now (file_entry file.now) }
+    requires inside { to ≤ pieces_in torrent.now (file_entry file.now) }
+    ensures { IsTrue result ↔ BeginsRightly torrent.now (file_entry file.now) from to verdict
+        text.now }
+{
+    torrent.sound();
+    match verdict {
+        FileVerdict::Bad(piece) => match read_run(torrent, file, from, to, text) {
+            Some((first, _, _)) => file.first_piece + first == piece,
+            None => false,
+        },
+        _ => true,
+    }
+}
+
+// Reads all runs of pieces of a file from one on and before another, and marks their pieces. Gives
+// what follows them.
+fn read_all<'a>(
+    torrent: &Torrent<'_>,
+    file: &File<'_>,
+    from: u64,
+    to: u64,
+    text: &'a [u8],
+    bad: &mut BadPieces,
+) -> &'a [u8]
+    requires file { IsFileOf torrent.now (file_entry file.now) }
+    requires inside { to ≤ pieces_in torrent.now (file_entry file.now) }
+    requires room { let f = file_entry file.now in
+        f.first_piece + pieces_in torrent.now f ≤ length bad.old.marks.items }
+    ensures { ReadsAll torrent.now (file_entry file.now) from to text.now result.now bad.old
+        bad.new }
+{
+    torrent.sound();
+    let mut rest = text;
+    let mut at = from;
+    'runs: while let Some((first, end, behind)) = read_run(torrent, file, at, to, rest) {
+        bad.mark(file.first_piece + first, file.first_piece + end);
+        at = end + 1;
+        rest = behind;
+    }
+    rest
+}
+
+// The run whose line stands at the front, from one piece up to another, and what follows it. It is
+// of pieces of the file from `at` on and before `to`.
+fn read_run<'a>(
+    torrent: &Torrent<'_>,
+    file: &File<'_>,
+    at: u64,
+    to: u64,
+    text: &'a [u8],
+) -> Option<(u64, u64, &'a [u8])>
+    requires file { IsFileOf torrent.now (file_entry file.now) }
+    requires inside { to ≤ pieces_in torrent.now (file_entry file.now) }
+    ensures { let f = file_entry file.now in
+        MatchOption result (HasOneRun torrent.now f at to text.now → ⊥)
+        (λ x. (x.0 < x.1) × IsRunWithin at to (record { first = x.0; last = x.1 - 1 })
+        × (text.now ≡ run_text torrent.now f (record { first = x.0; last = x.1 - 1 })
+        ++ x.2.now)) }
+{
+    torrent.sound();
+    let (first, last) = run_numbers(text)?;
+    let from = first.checked_sub(file.first_piece)?;
+    let end = last.checked_sub(file.first_piece)?.checked_add(1)?;
+    if from < at || end <= from || to < end {
+        return None;
+    }
+    let rest = text.strip_prefix(run_line(torrent, file, from, end).as_slice())?;
+    Some((from, end, rest))
+}
+
+// The numbers of the first and the last piece of the run whose line stands at the front.
+fn run_numbers(text: &[u8]) -> Option<(u64, u64)>
+    ensures { (n m : ℕ) (more : List ℕ) → n < 2 ^ 64 → m < 2 ^ 64
+        → text.now ≡ codes "bad pieces " ++ (decimal n ++ 32 ∷ (decimal m ++ 32 ∷ more))
+        → result ≡ Some (n, m) }
+{
+    let (first, behind) = number_behind(b"bad pieces ", text)?;
+    let (last, _) = number_behind(b" ", behind)?;
+    Some((first, last))
+}

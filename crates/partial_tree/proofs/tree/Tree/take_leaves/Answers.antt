@@ -1,0 +1,55 @@
+use Rattle.std.proofs.Common.{suc, length, ◌+◌, ◌^◌, ◌<◌, ◌≤◌, sym, ap₂, subst, arith}
+use Rattle.std.specs.FinMap.{len}
+use Rattle.partial_tree.specs.TreeRoot.{TreeRoot}
+use Rattle.node_maps.specs.Places.{tree_height}
+use Rattle.partial_tree.specs.Kept.{KeptTree, kept, IsGoodTree}
+use Rattle.partial_tree.specs.LeafRows.{TreeTakesRow, IsLeafRow}
+use Rattle.partial_tree.proofs.Ranges.{pow_more}
+use Rattle.partial_tree.proofs.TakenRows.{row-len, good_row}
+use Rattle.partial_tree.proofs.Counting.{counted_more, counted_same}
+use Rattle.partial_tree.proofs.tree.Tree.take_leaves.Goals as goal
+
+pub invariant_of-self : goal.invariant_of-self
+invariant_of-self g c =
+    counted_same c.self.inside.known c.self.inside.marked c.self.inside.nodes c.take_leaves.new.self c.self.invariant
+    c.in_err-gained.ensures.refused.1
+
+pub overflow_add-self : goal.overflow_add-self
+overflow_add-self g c =
+    let old = c.self.inside in
+    let t : TreeRoot = record { root = old.root; length = old.nodes.length } in
+    let now : KeptTree = kept old.root old.nodes.length old.nodes.known old.nodes.marked in
+    let good : IsGoodTree now = subst IsGoodTree (sym c.self.view_is) c.requires.good in
+    let row : IsLeafRow old.nodes.length c.args.first c.args.span (length c.args.hashes.now) =
+    subst (λ (v : KeptTree). IsLeafRow v.length c.args.first c.args.span (length c.args.hashes.now)) (sym c.self.view_is) c.requires.row in
+    let taken = c.in_ok-gained.ensures.taken in
+    let fewer : len old.nodes.known + c.in_ok-gained.gained < 2 ^ suc (tree_height old.nodes.length) =
+    row-len t old.nodes.known c.take_leaves.new.self.known c.args.first c.args.span c.args.hashes c.in_ok-gained.gained row
+    good.closed c.are_hashes.ensures taken.0 taken.1 in
+    let low : suc (tree_height old.nodes.length) ≤ 33 = omega (arith, c.self.invariant.low) in
+    let wide : 2 ^ suc (tree_height old.nodes.length) ≤ 2 ^ 33 = pow_more (suc (tree_height old.nodes.length)) 33 low in
+    omega (arith, fewer, wide, c.self.invariant.known_is)
+
+pub invariant_of-self-2 : goal.invariant_of-self-2
+invariant_of-self-2 g c =
+    counted_more c.self.inside.known c.self.inside.marked c.in_ok-gained.gained c.self.inside.nodes c.take_leaves.new.self c.self.invariant
+    c.in_ok-gained.ensures.taken.1.gained c.take_leaves.ensures.stays
+
+pub returns-clause-taken : goal.returns-clause-taken
+returns-clause-taken g c =
+    let old = c.self.inside in
+    let after = c.take_leaves.new.self.known in
+    subst (λ v. TreeTakesRow v c.args.first c.args.span c.args.hashes.now c.in_ok-gained.gained
+    (kept old.root c.take_leaves.new.self.length after c.take_leaves.new.self.marked))
+    c.self.view_is
+    (c.in_ok-gained.ensures.taken, ap₂ (λ n m. kept old.root n after m) c.take_leaves.ensures.stays.length c.take_leaves.ensures.stays.marked)
+
+pub returns-clause-good : goal.returns-clause-good
+returns-clause-good g c =
+    let old = c.self.inside in
+    let after = c.take_leaves.new.self.known in
+    let new : KeptTree = kept old.root c.take_leaves.new.self.length after c.take_leaves.new.self.marked in
+    let taken : TreeTakesRow c.args.self.now c.args.first c.args.span c.args.hashes.now c.in_ok-gained.gained new =
+    subst (λ v. TreeTakesRow v c.args.first c.args.span c.args.hashes.now c.in_ok-gained.gained new) c.self.view_is
+    (c.in_ok-gained.ensures.taken, ap₂ (λ n m. kept old.root n after m) c.take_leaves.ensures.stays.length c.take_leaves.ensures.stays.marked) in
+    good_row c.args.self.now new c.args.first c.args.span c.args.hashes c.in_ok-gained.gained c.requires.row c.requires.good c.are_hashes.ensures taken

@@ -1,0 +1,73 @@
+use Rattle.std.proofs.Common.{not, refl, ◌^◌, ◌+◌, ◌<◌, ◌*◌, ◌/◌, ◌%◌, ◌≡◌, ◌≤◌, List, length, sym, ap, ◌∙◌, subst, arith}
+use Rattle.hashtree.specs.Tree.{block_count}
+use Rattle.node_maps.specs.Digest.{Hash}
+use Rattle.node_maps.specs.Places.{tree_height}
+use Rattle.partial_tree.specs.Kept.{KeptTree, info_of}
+use Rattle.partial_tree.specs.LeafRows.{IsLeafRow, TreeTakesRow, TreeMarksRun}
+use Rattle.partial_tree.specs.LeafPieces.{leaves_in}
+use Rattle.partial_tree.proofs.TakenRows.{row-knows, row-small}
+use Rattle.std.proofs.lemmas.Nat.{one_shl}
+use Rattle.std.proofs.lemmas.Bool.{false≢true}
+use Rattle.chains.proofs.Cases.{some_of}
+use Rattle.node_maps.specs.Known.{look}
+use Rattle.node_maps.specs.Places.{IsKnown}
+use Rattle.node_maps.specs.Runs.{AreKnown}
+use Rattle.partial_tree.proofs.Ranges.{pow_more}
+use Rattle.partial_tree.proofs.LeafPieces.{piece-small, piece-new, piece-row, length-leaves}
+use Rattle.partial_tree.proofs.tree.Tree.take_piece.Goals as goal
+
+pub take_leaves-requires-clause-row : goal.take_leaves-requires-clause-row
+take_leaves-requires-clause-row g c =
+    subst (λ (hs : List Hash). IsLeafRow c.args.self.now.length c.args.first c.args.span (length hs)) (sym (c.deref.ensures.value ∙ c.in-Ok.ensures.leaves))
+    (piece-row c.args.self.now.length c.args.first c.args.span c.args.bytes.now c.requires.row)
+
+pub mark_leaves-requires-clause-range : goal.mark_leaves-requires-clause-range
+mark_leaves-requires-clause-range g c =
+    let low : tree_height c.args.self.now.length ≤ 32 = subst (λ (v : KeptTree). tree_height v.length ≤ 32) c.self.view_is c.self.invariant.low in
+    let small = row-small c.args.self.now.length c.args.first c.args.span (leaves_in c.args.bytes.now)
+    (piece-row c.args.self.now.length c.args.first c.args.span c.args.bytes.now c.requires.row) low in
+    omega (arith, small, c.len.ensures, ap length c.in-Ok.ensures.leaves)
+
+pub mark_leaves-requires-clause-known : goal.mark_leaves-requires-clause-known
+mark_leaves-requires-clause-known g c = λ j low.
+    let row : IsLeafRow c.args.self.now.length c.args.first c.args.span (length c.deref.result.now) =
+    subst (λ (hs : List Hash). IsLeafRow c.args.self.now.length c.args.first c.args.span (length hs)) (sym (c.deref.ensures.value ∙ c.in-Ok.ensures.leaves))
+    (piece-row c.args.self.now.length c.args.first c.args.span c.args.bytes.now c.requires.row) in
+    let items : c.len.result ≡ length c.in-Ok.leaves.items = omega (arith, c.len.ensures, c.in-Ok.leaves.ok) in
+    let same : c.len.result ≡ length c.deref.result.now = items ∙ ap length (sym c.deref.ensures.value) in
+    row-knows (info_of c.args.self.now) c.args.first c.args.span c.deref.result row c.args.self.now.state.known c.take_leaves.new.self.state.known
+    c.in-Ok-take_leaves.field-0 c.in-Ok-take_leaves.ensures.taken.0 j (omega (arith, low, same, row.count_is))
+
+pub returns-in-Ok-take_leaves-clause-taken : goal.returns-in-Ok-take_leaves-clause-taken
+returns-in-Ok-take_leaves-clause-taken g c =
+    let items : c.len.result ≡ length c.in-Ok.leaves.items = omega (arith, c.len.ensures, c.in-Ok.leaves.ok) in
+    let count : c.len.result ≡ block_count (length c.args.bytes.now) = items ∙ ap length c.in-Ok.ensures.leaves ∙ length-leaves c.args.bytes.now in
+    record {
+      count = c.in-Ok-take_leaves.field-0;
+      between = c.take_leaves.new.self;
+      joins = subst (λ (hs : List Hash). TreeTakesRow c.args.self.now c.args.first c.args.span hs c.in-Ok-take_leaves.field-0 c.take_leaves.new.self)
+          (c.deref.ensures.value ∙ c.in-Ok.ensures.leaves) c.in-Ok-take_leaves.ensures.taken;
+      marks = subst (λ n. TreeMarksRun c.take_leaves.new.self c.args.first n c.mark_leaves.new.self) count c.mark_leaves.ensures.marked;
+    }
+
+pub returns-in-Ok-take_leaves-clause-good : goal.returns-in-Ok-take_leaves-clause-good
+returns-in-Ok-take_leaves-clause-good g c = c.mark_leaves.ensures.good
+
+pub knows_leaves-requires : goal.knows_leaves-requires
+knows_leaves-requires g c =
+    let low : tree_height c.args.self.now.length ≤ 32 = subst (λ (v : KeptTree). tree_height v.length ≤ 32) c.self.view_is c.self.invariant.low in
+    let width : 1 * 2 ^ c.args.span % 2 ^ 64 ≡ 2 ^ c.args.span = one_shl c.args.span 64 (omega (arith, low, c.requires.row.span_inside)) in
+    let small = piece-small c.args.self.now.length c.args.first c.args.span c.args.bytes.now c.requires.row low in
+    let span : 2 ^ c.args.span ≤ 2 ^ 32 = pow_more c.args.span 32 (omega (arith, low, c.requires.row.span_inside)) in
+    subst (λ w. c.args.first + w < 2 ^ 64) (sym width) (omega (arith, small, span))
+
+pub returns-in_default-clause-refused : goal.returns-in_default-clause-refused
+returns-in_default-clause-refused g c =
+    let m = c.args.self.now.state.known in
+    let low : tree_height c.args.self.now.length ≤ 32 = subst (λ (v : KeptTree). tree_height v.length ≤ 32) c.self.view_is c.self.invariant.low in
+    let width : 1 * 2 ^ c.args.span % 2 ^ 64 ≡ 2 ^ c.args.span = one_shl c.args.span 64 (omega (arith, low, c.requires.row.span_inside)) in
+    let v = some_of c.hash.result (c.is_none.ensures ∙ ap not c.if-is_none.false) in
+    let top : IsKnown (look m) c.args.span (c.args.first / 2 ^ c.args.span) = (v.0, sym c.hash.ensures ∙ v.1) in
+    let unknown : ¬ AreKnown (look m 0) c.args.first (2 ^ c.args.span) = λ known.
+    false≢true (sym c.if-knows_leaves.false ∙ c.knows_leaves.ensures.1 (subst (AreKnown (look m 0) c.args.first) (sym width) known)) in
+    ((top, piece-new (info_of c.args.self.now) (look m) c.args.first c.args.span c.args.bytes.now c.requires.row unknown), refl)

@@ -1,0 +1,83 @@
+-- A row of leaves under one node, given without the pads past the file's end: the leaves of a
+-- piece.
+use Rattle.std.specs.Prelude.{◌≡◌, ℕ, zero, suc, ◌+◌, ◌-◌, ◌/◌, ◌%◌, ◌^◌, ◌<◌, ◌≤◌, min, List, [], ◌++◌, length, replicate, None}
+use Rattle.std.specs.FinSet.{insert}
+use Rattle.wire.specs.declared.message.Ask.{Ask}
+use Rattle.node_maps.specs.Known.{Known, Marked, look}
+use Rattle.node_maps.specs.Places.{tree_height, PartialTree, IsKnown}
+use Rattle.partial_tree.specs.declared.refusal.HashRefusal.{HashRefusal}
+use Rattle.partial_tree.specs.declared.refusal.HashRefusal.TheVariants.{NoMemory as Lacking}
+use Rattle.partial_tree.specs.declared.refusal.PieceRefusal.{PieceRefusal}
+use Rattle.partial_tree.specs.declared.refusal.PieceRefusal.TheVariants.{Unproved, NoMemory, BadPiece}
+use Rattle.node_maps.specs.Digest.{Hash}
+use Rattle.hashtree.specs.Tree.{block_count, zero_hash}
+use Rattle.partial_tree.specs.Claims.{claims, HasNew, IsAgreed, IsMismatch}
+use Rattle.partial_tree.specs.Joins.{Joins}
+use Rattle.partial_tree.specs.Kept.{KeptTree, kept, ChangesKnownAlone}
+
+-- the ask for 2 ^ k leaves, from one on
+abbrev pub row_ask : ℕ → ℕ → Ask
+row_ask first k = record { root = []; base = 0; index = first; length = 2 ^ k; proof = 0 }
+
+-- the hashes of these leaves, the pads supplied
+abbrev pub row_hashes : ℕ → List Hash → List Hash
+row_hashes k hashes = hashes ++ replicate (2 ^ k - length hashes) (zero_hash 0)
+
+-- what follows from them
+abbrev pub row_claims : ℕ → ℕ → List Hash → PartialTree
+row_claims first k hashes = claims (row_ask first k) (row_hashes k hashes)
+
+-- so many blocks stand under the node (k, first / 2 ^ k) of a tree, from one on, at least one
+pub record IsLeafRow (len first k count : ℕ) : Type 0 where
+  pub span_inside : k ≤ tree_height len
+  pub aligned : first % 2 ^ k ≡ 0
+  pub some : first < block_count len
+  pub count_is : count ≡ min (2 ^ k) (block_count len - first)
+
+-- the node over the leaves is known, and what follows agrees with what is known
+pub record IsRowAccepted (K : PartialTree) (first k : ℕ) (hashes : List Hash) : Type 0 where
+  pub top_known : IsKnown K k (first / 2 ^ k)
+  pub agrees : IsAgreed K (row_claims first k hashes)
+
+-- why leaves are refused: the first test that fails; or out of memory, if none does and a place is
+-- new
+abbrev pub RowRefuses : PartialTree → ℕ → ℕ → List Hash → PieceRefusal → Type 0
+RowRefuses K first k hashes Unproved = K k (first / 2 ^ k) ≡ None
+RowRefuses K first k hashes BadPiece = IsKnown K k (first / 2 ^ k)
+    × IsMismatch K (row_claims first k hashes)
+RowRefuses K first k hashes NoMemory = IsRowAccepted K first k hashes
+    × HasNew K (row_claims first k hashes)
+RowRefuses K first k hashes r = ⊥
+
+-- a refusal to store leaves, as one of their piece
+abbrev pub piece_refusal : HashRefusal → PieceRefusal
+piece_refusal Lacking = NoMemory
+piece_refusal r = BadPiece
+
+-- leaves are accepted, and what follows is joined to what was known
+abbrev pub TakesRow : ℕ → ℕ → List Hash → Known → ℕ → Known → Type 0
+TakesRow first k hashes before c after = IsRowAccepted (look before) first k hashes
+    × Joins (row_claims first k hashes) before after c
+
+-- a tree accepts leaves, and what follows is joined to what is known, with c more places; the rest
+-- of the tree stays
+abbrev pub TreeTakesRow : KeptTree → ℕ → ℕ → List Hash → ℕ → KeptTree → Type 0
+TreeTakesRow before first k hashes c after =
+    TakesRow first k hashes before.state.known c after.state.known
+    × ChangesKnownAlone before after
+
+-- with so many leaves marked, from one on
+abbrev pub mark_run : Marked → ℕ → ℕ → Marked
+mark_run marked first zero = marked
+mark_run marked first (suc n) = insert (mark_run marked first n) (first + n)
+
+-- a tree with so many leaves marked, from one on; the rest of it stays
+abbrev pub TreeMarksRun : KeptTree → ℕ → ℕ → KeptTree → Type 0
+TreeMarksRun before first count after = after
+    ≡ kept before.root before.length before.state.known
+    (mark_run before.state.marked first count)
+
+-- a tree with one leaf marked
+abbrev pub with_leaf_marked : KeptTree → ℕ → KeptTree
+with_leaf_marked t block =
+    kept t.root t.length t.state.known (insert t.state.marked block)

@@ -1,0 +1,180 @@
+-- What callers see of a check whose lines go out as it goes.
+use Rattle.std.proofs.Common.{◌≡◌, ◌∙◌, inl, inr, ℕ, suc, ◌+◌, List, [], ◌∷◌, ◌++◌, length}
+use Rattle.std.proofs.Common.{slice_get, take, Option, Some, Result, Ok, Err, IfOk, IfErr, refl, sym, ap, subst, arith}
+use Rattle.std.proofs.lemmas.List.{length_push, take_all}
+use Rattle.std.proofs.lemmas.Option.{get_or_from_slice_get, slice_get_within}
+use Rattle.std.specs.Io.KnownBytes.{Appends}
+use Rattle.std.proofs.Math.Seq.{take-append-add}
+use Rattle.benc.specs.Device.{Broke, BrokeOrUnflushed, Sent, SentAndFlushed, SinkSeen, SourceSeen, one_more}
+use Rattle.benc.proofs.Known.{Appends-append, Appends_nothing}
+use Rattle.benc.proofs.Out.{Broke-append, Sent-append}
+use Rattle.chains.specs.Chain.{Chain}
+use Rattle.chains.proofs.Chains.{Chain-next}
+use Rattle.opening.specs.Description.{Description, FileEntry}
+use Rattle.folders.specs.Printed.{end_text, report_text, verdicts_text, wanted_text}
+use Rattle.folders.specs.Stopping.{BreaksOff}
+use Rattle.folders.specs.Visits.{Visits}
+use Rattle.folders.specs.declared.lines.Lines.{Lines}
+use Rattle.folders.specs.declared.report.FileVerdict.{FileVerdict}
+use Rattle.folders.specs.declared.report.Report.{Report}
+use Rattle.folders.specs.declared.report.V1Verdict.{V1Verdict}
+use Rattle.folders.specs.declared.shelf.Shelf.{Ghosts}
+use Rattle.folders.proofs.SentLines.{verdicts_push}
+use Rattle.parts.proofs.ToldFirst.{length-told}
+use Rattle.parts.specs.Checking.{ChecksAll, ChecksAndPrints, ChecksFile, ChecksWhole, EndsFiles, StopsTelling, verdicts_in}
+use Rattle.parts.specs.declared.all_files.CheckFault.{CheckFault}
+use Rattle.parts.specs.declared.all_files.CheckFault.TheVariants as stopped
+use Rattle.parts.specs.declared.telling.Telling.{Telling}
+use Rattle.parts.specs.declared.telling.Telling.TheVariants as telling
+
+-- each text is the line of its file
+abbrev AreLines : Lines → List FileEntry → List (FileVerdict × List ℕ) → Type 0
+AreLines lines fs told = (n : ℕ) (f : FileEntry) (x : FileVerdict × List ℕ) → slice_get fs n ≡ Some f → slice_get told n ≡ Some x
+    → x.1 ≡ wanted_text lines x.0 f
+
+pub flushed_after : (a b c : SinkSeen) (x y : List ℕ) → Sent a b x → SentAndFlushed b c y → SentAndFlushed a c (x ++ y)
+flushed_after a b c x y p q = record {
+  bytes = Appends-append a.written b.written c.written x y p.bytes q.bytes;
+  faults = q.faults ∙ p.faults;
+  flushes = q.flushes ∙ ap one_more p.flushes;
+  last = q.last;
+}
+
+unflushed_after : (a b c : SinkSeen) (x y : List ℕ) → Sent a b x → BrokeOrUnflushed b c y → BrokeOrUnflushed a c (x ++ y)
+unflushed_after a b c x y p q =
+    let n = q.bytes.0 in
+    let both = Appends-append a.written b.written c.written x (take n y) p.bytes q.bytes.1 in
+    let front : x ++ take n y ≡ take (length x + n) (x ++ y) = sym (take-append-add x y n) in
+    record {
+      bytes = (length x + n, subst (λ t. Appends a.written c.written t) front both);
+      faults = q.faults ∙ ap one_more p.faults;
+      flushes = elim q.flushes [
+        | inl none ↦ inl (none ∙ p.flushes)
+        | inr all ↦ inr (Appends-append a.written b.written c.written x y p.bytes all.0, all.1 ∙ ap one_more p.flushes)
+      ];
+    }
+
+module _ {S F : Type 0} (shelf : Ghosts S F) (seen : F → SourceSeen) (t : Description) where
+  -- the visits of some files
+  visits_of : (old : S × SinkSeen) (fs : List FileEntry) (told : List (FileVerdict × List ℕ)) (new : S × SinkSeen)
+      → Chain (ChecksFile shelf seen t) old fs told new → Chain (Visits shelf seen t) old.0 fs (verdicts_in told) new.0
+  visits_of old [] [] new e = ap (λ (x : S × SinkSeen). x.0) e
+  visits_of old [] (x ∷ xs) new e = absurd e
+  visits_of old (f ∷ fs) [] new e = absurd e
+  visits_of old (f ∷ fs) (x ∷ xs) new (mid, step, rest) = (mid.0, step.visits, visits_of mid fs xs new rest)
+
+  -- and their lines
+  sent_of : (lines : Lines) (old : S × SinkSeen) (fs : List FileEntry) (told : List (FileVerdict × List ℕ)) (new : S × SinkSeen)
+      → Chain (ChecksFile shelf seen t) old (take (length told) fs) told new → AreLines lines fs told
+      → Sent old.1 new.1 (verdicts_text lines (verdicts_in told) fs)
+  sent_of lines old fs [] new e each =
+      subst (λ (x : S × SinkSeen). Sent old.1 x.1 []) (sym e) (record { bytes = Appends_nothing old.1.written; faults = refl; flushes = refl })
+  sent_of lines old [] (x ∷ xs) new e each = absurd e
+  sent_of lines old (f ∷ fs) (x ∷ xs) new (mid, step, rest) each =
+      Sent-append old.1 mid.1 new.1 (wanted_text lines x.0 f) (verdicts_text lines (verdicts_in xs) fs)
+      (subst (Sent old.1 mid.1) (each 0 f x refl refl) step.told)
+      (sent_of lines mid fs xs new rest (λ n g y there is. each (n + 1) g y (at_next fs f n ∙ there) (at_next xs x n ∙ is)))
+    where
+      at_next : {A : Type 0} (xs : List A) (x : A) (n : ℕ) → slice_get (x ∷ xs) (n + 1) ≡ slice_get xs n
+      at_next xs x n = let e : n + 1 ≡ suc n = omega arith in ap (slice_get (x ∷ xs)) e
+
+  -- each file was visited once
+  pub whole_once : (telling : Telling) (verdicts : List FileVerdict) (v1 : Option V1Verdict) (old new : S × SinkSeen)
+      → ChecksAll shelf seen t telling verdicts v1 old new → Chain (Visits shelf seen t) old.0 t.files verdicts new.0
+  whole_once telling verdicts v1 old new all =
+      subst (λ vs. Chain (Visits shelf seen t) old.0 t.files vs new.0) all.verdicts_are (visits_of old t.files all.told new all.files)
+
+  -- the lines of all files
+  lines_all : (lines : Lines) (verdicts : List FileVerdict) (v1 : Option V1Verdict) (old new : S × SinkSeen)
+      → ChecksAll shelf seen t (telling.Line lines) verdicts v1 old new → Sent old.1 new.1 (verdicts_text lines verdicts t.files)
+  lines_all lines verdicts v1 old new all =
+      let count : length all.told ≡ length t.files =
+      sym (length-told all.told) ∙ ap length all.verdicts_are ∙ all.has.count in
+      subst (λ vs. Sent old.1 new.1 (verdicts_text lines vs t.files)) all.verdicts_are
+      (sent_of lines old t.files all.told new
+      (subst (λ fs. Chain (ChecksFile shelf seen t) old fs all.told new) (sym (take_all (length all.told) t.files (omega (arith, count)))) all.files)
+      all.tells)
+
+  -- the whole report went out
+  pub onto_report : (lines : Lines) (verdicts : List FileVerdict) (v1 : Option V1Verdict) (old new : S × SinkSeen)
+      → ChecksWhole shelf seen t (telling.Line lines) lines verdicts v1 old new → SentAndFlushed old.1 new.1 (report_text lines t.files verdicts v1)
+  onto_report lines verdicts v1 old new whole =
+      flushed_after old.1 whole.mid new.1 (verdicts_text lines verdicts t.files) (end_text lines verdicts v1)
+      (lines_all lines verdicts v1 old (new.0, whole.mid) whole.all) whole.end
+
+  -- or it broke off
+  pub onto_cut : (lines : Lines) (old new : S × SinkSeen) → StopsTelling shelf seen t (telling.Line lines) lines old new
+      → BreaksOff shelf seen t old.0 lines old.1 new.1 new.0
+  onto_cut lines old new (inl one) =
+      let vs : List FileVerdict = verdicts_in one.told in
+      let count : length vs ≡ length one.told = length-told one.told in
+      let there : slice_get t.files (length vs) ≡ Some one.file = ap (slice_get t.files) count ∙ one.file_is in
+      let before : Chain (Visits shelf seen t) old.0 (take (length vs) t.files) vs one.between.0 =
+      subst (λ m. Chain (Visits shelf seen t) old.0 (take m t.files) vs one.between.0) (sym count)
+      (visits_of old (take (length one.told) t.files) one.told one.between one.before) in
+      let step = Chain-next (Visits shelf seen t) old.0 one.between.0 new.0 t.files (length vs) vs one.file one.verdict
+      (slice_get_within t.files (length vs) one.file there) before
+      (subst (λ h. Visits shelf seen t one.between.0 h one.verdict new.0) (sym (get_or_from_slice_get t.files
+      (length vs) one.file one.file there)) one.visits) in
+      record {
+        files = vs ++ one.verdict ∷ [];
+        visits = record {
+          once = subst (λ m. Chain (Visits shelf seen t) old.0 (take m t.files) (vs ++ one.verdict ∷ []) new.0) (sym (length_push vs one.verdict)) step;
+          counted = one.counts.counted;
+          are_true = one.are_true;
+        };
+        broke = inl (subst (Broke old.1 new.1) (sym (verdicts_push lines vs t.files one.verdict one.file there))
+            (Broke-append old.1 one.between.1 new.1 (verdicts_text lines vs t.files) (wanted_text lines one.verdict one.file)
+            (sent_of lines old t.files one.told one.between one.before one.tells) (subst (Broke one.between.1 new.1) one.last one.broke)));
+      }
+  onto_cut lines old new (inr end) =
+      let all = end.all in
+      record {
+        files = end.verdicts;
+        visits = record {
+          once = subst (λ fs. Chain (Visits shelf seen t) old.0 fs end.verdicts new.0)
+              (sym (take_all (length end.verdicts) t.files (omega (arith, all.has.count))))
+              (whole_once (telling.Line lines) end.verdicts end.v1 old (new.0, end.mid) all);
+          counted = all.counts.counted;
+          are_true = record {
+            contents = all.are_true.contents;
+            agree = λ k f lt there. all.are_true.agree k f there;
+            each = all.are_true.are_true.each;
+          };
+        };
+        broke = inr (
+          end.v1,
+          all.has,
+          all.are_true,
+          unflushed_after old.1 end.mid new.1 (verdicts_text lines end.verdicts t.files) (end_text lines end.verdicts end.v1)
+              (lines_all lines end.verdicts end.v1 old (new.0, end.mid) all) end.broke,
+        );
+      }
+
+  -- ---- by the answer
+
+  -- a check of the files that was stopped
+  pub stopped_files : (telling : Telling) (lines : Lines) (old new : S × SinkSeen) (e : CheckFault) → EndsFiles shelf seen t telling old new (Err e)
+      → ChecksAndPrints shelf seen t telling lines old new (Err e)
+  stopped_files telling lines old new stopped.Write ends = inl ends
+  stopped_files telling lines old new stopped.NoMemory same = same
+
+  pub if_whole : (telling : Telling) (lines : Lines) (old new : S × SinkSeen) (r : Result Report CheckFault) (P : Report → Type 0)
+      → ChecksAndPrints shelf seen t telling lines old new r
+      → ((report : Report) → ChecksWhole shelf seen t telling lines report.files.items report.v1 old new → P report) → IfOk r P
+  if_whole telling lines old new (Ok report) P checks onto = onto report checks
+  if_whole telling lines old new (Err e) P checks onto = tt
+
+  pub if_stopped : (telling : Telling) (lines : Lines) (old new : S × SinkSeen) (r : Result Report CheckFault) (P : Type 0)
+      → ChecksAndPrints shelf seen t telling lines old new r → (StopsTelling shelf seen t telling lines old new → P)
+      → IfErr r (λ e. e ≡ stopped.Write → P)
+  if_stopped telling lines old new (Ok report) P checks onto = tt
+  if_stopped telling lines old new (Err stopped.Write) P checks onto = λ _. onto checks
+  if_stopped telling lines old new (Err stopped.NoMemory) P checks onto = λ is. (let no : ⊥ = cc in absurd no)
+
+  pub if_refused : (telling : Telling) (lines : Lines) (old new : S × SinkSeen) (r : Result Report CheckFault) (P : Type 0)
+      → ChecksAndPrints shelf seen t telling lines old new r → (((new.0 ≡ old.0) × (new.1 ≡ old.1)) → P)
+      → IfErr r (λ e. e ≡ stopped.NoMemory → P)
+  if_refused telling lines old new (Ok report) P checks onto = tt
+  if_refused telling lines old new (Err stopped.Write) P checks onto = λ is. (let no : ⊥ = cc in absurd no)
+  if_refused telling lines old new (Err stopped.NoMemory) P checks onto = λ _. onto checks

@@ -1,0 +1,138 @@
+-- What the check of a part does that prints the bad pieces of its files: a marked report. Each file
+-- is visited once, and its line and those of its runs go out before the next is opened. `shelf` and
+-- `opens_at` stand for what the shelf's type says of its shelves, and `seen` for what its files
+-- say.
+use Rattle.std.specs.Prelude.{◌≡◌, ◌⊎◌, ℕ, ◌+◌, ◌<◌, List, [], ◌∷◌, ◌++◌, length, take, slice_get, Option, Some, Result, Ok, Err}
+use Rattle.benc.specs.Device.{Broke, BrokeOrUnflushed, Sent, SentAndFlushed, SinkSeen, SourceSeen}
+use Rattle.benc.specs.declared.device.DeviceFault.{DeviceFault}
+use Rattle.chains.specs.Chain.{Chain}
+use Rattle.folders.specs.Folder.{Contents}
+use Rattle.folders.specs.Verdicts.{Agrees, CountsUnreadable, HasVerdicts}
+use Rattle.folders.specs.declared.report.FileVerdict.{FileVerdict}
+use Rattle.folders.specs.declared.report.Report.{Report}
+use Rattle.folders.specs.declared.report.V1Verdict.{V1Verdict}
+use Rattle.folders.specs.declared.shelf.Shelf.{Ghosts}
+use Rattle.opening.specs.Description.{Description, FileEntry}
+use Rattle.parts.specs.Checking.{shelf_and_sink}
+use Rattle.parts.specs.Finding.{IsTrueOfPlaces}
+use Rattle.parts.specs.MarkedLines.{marked_head_text, marked_line, marked_text, verdicts_of}
+use Rattle.parts.specs.PartLines.{end_lines}
+use Rattle.parts.specs.Parts.{IsPartVerdict}
+use Rattle.parts.specs.PartVisits.{VisitsPart}
+use Rattle.parts.specs.Runs.{Run}
+use Rattle.parts.specs.Shares.{share}
+use Rattle.parts.specs.Telling.{AreFirstMarkedRuns, AreMarkedRuns}
+use Rattle.parts.specs.declared.all_files.CheckFault.{CheckFault}
+use Rattle.parts.specs.declared.all_files.CheckFault.TheVariants as stopped
+use Rattle.parts.specs.declared.places.Places.{Places}
+
+-- these are the runs of each of the first files, if these are the files' contents
+abbrev pub AreAllMarked : Description → Places → Contents → List (FileVerdict × List Run) → Type 0
+AreAllMarked t r contents marked = (n : ℕ) (f : FileEntry) (x : FileVerdict × List Run)
+    → slice_get t.files n ≡ Some f → slice_get marked n ≡ Some x
+    → AreMarkedRuns t r f (contents n) x.0 x.1
+
+-- A marked report went out whole, and was flushed once: its verdicts are true of what stands at the
+-- files' paths, and its runs are those of the same contents.
+pub record PrintsMarked (t : Description) (part parts : ℕ)
+    (under : List (List ℕ) → Option (Option (List ℕ))) (verdicts : List FileVerdict)
+    (v1 : Option V1Verdict) (old new : SinkSeen) : Type 0 where
+  pub are_true : IsTrueOfPlaces t (share t part parts) under verdicts v1
+  pub marked : List (FileVerdict × List Run)
+  pub verdicts_are : verdicts_of marked ≡ verdicts
+  pub runs : AreAllMarked t (share t part parts) are_true.contents marked
+  pub went : SentAndFlushed old new (marked_text t part parts marked v1)
+
+module _ {S F : Type 0} (shelf : Ghosts S F)
+    (opens_at : S → List (List ℕ) → ℕ → Result (Option F) DeviceFault → S → Type 0)
+    (seen : F → SourceSeen) where
+  -- a file was visited for this verdict; then its line and those of these runs went out
+  pub record MarksFile (t : Description) (r : Places) (old : S × SinkSeen) (f : FileEntry)
+      (x : FileVerdict × List Run) (new : S × SinkSeen) : Type 0 where
+    pub visits : VisitsPart opens_at shelf.closes seen t r old.0 f x.0 new.0
+    pub went : Sent old.1 new.1 (marked_line t r f x.0 x.1)
+
+  -- all files were, each before the next was opened, for these verdicts, which are true of what
+  -- stands at the files' paths; and the runs are those of the same contents
+  pub record MarksAll (t : Description) (r : Places) (verdicts : List FileVerdict)
+      (v1 : Option V1Verdict) (old new : S × SinkSeen) : Type 0 where
+    pub has : HasVerdicts t verdicts v1
+    pub are_true : IsTrueOfPlaces t r (shelf.contents old.0).under verdicts v1
+    pub marked : List (FileVerdict × List Run)
+    pub verdicts_are : verdicts_of marked ≡ verdicts
+    pub runs : AreAllMarked t r are_true.contents marked
+    pub files : Chain (MarksFile t r) old t.files marked new
+    pub counts : CountsUnreadable (shelf.faults old.0) (shelf.faults new.0) verdicts
+
+  -- After the lines of the files before it, a file was visited for this verdict, and its line or
+  -- one of those of its first runs broke off. No later file was opened. The verdicts are true of
+  -- what stands at the files' paths, and the runs are those of the same contents.
+  pub record StopsAtMarks (t : Description) (r : Places) (old new : S × SinkSeen) : Type 0 where
+    pub marked : List (FileVerdict × List Run)
+    pub between : S × SinkSeen
+    pub before : Chain (MarksFile t r) old (take (length marked) t.files) marked between
+    pub file : FileEntry
+    pub file_is : slice_get t.files (length marked) ≡ Some file
+    pub verdict : FileVerdict
+    pub visits : VisitsPart opens_at shelf.closes seen t r between.0 file verdict new.0
+    pub first : List Run
+    pub broke : Broke between.1 new.1 (marked_line t r file verdict first)
+    pub contents : Contents
+    pub agree : (n : ℕ) (f : FileEntry) → n < length marked + 1 → slice_get t.files n ≡ Some f
+        → Agrees ((shelf.contents old.0).under f.path) (contents n)
+    pub each : (n : ℕ) (f : FileEntry) (x : FileVerdict × List Run) → slice_get t.files n ≡ Some f
+        → slice_get marked n ≡ Some x → IsPartVerdict t r f (contents n) x.0
+    pub runs : AreAllMarked t r contents marked
+    pub says : IsPartVerdict t r file (contents (length marked)) verdict
+    pub first_are : AreFirstMarkedRuns t r file (contents (length marked)) verdict first
+    pub counts : CountsUnreadable (shelf.faults old.0) (shelf.faults new.0)
+        (verdicts_of marked ++ verdict ∷ [])
+
+  -- the first line went out, then those of all files as each was done, and then the last lines,
+  -- with one flush
+  pub record ChecksMarkedPart (t : Description) (part parts : ℕ) (verdicts : List FileVerdict)
+      (v1 : Option V1Verdict) (old new : S × SinkSeen) : Type 0 where
+    pub begun : SinkSeen
+    pub head : Sent old.1 begun (marked_head_text t part parts)
+    pub mid : SinkSeen
+    pub all : MarksAll t (share t part parts) verdicts v1 (shelf_and_sink old.0 begun)
+        (shelf_and_sink new.0 mid)
+    pub end : SentAndFlushed mid new.1 (end_lines verdicts v1)
+
+  -- the first line broke off, and nothing was opened
+  pub record StopsAtHead (t : Description) (part parts : ℕ) (old new : S × SinkSeen) : Type 0 where
+    pub shelf_stays : new.0 ≡ old.0
+    pub broke : Broke old.1 new.1 (marked_head_text t part parts)
+
+  -- the first line went out, and the lines of a file broke off
+  pub record StopsBehindHead (t : Description) (part parts : ℕ) (old new : S × SinkSeen) : Type 0
+    where
+      pub begun : SinkSeen
+      pub head : Sent old.1 begun (marked_head_text t part parts)
+      pub stops : StopsAtMarks t (share t part parts) (shelf_and_sink old.0 begun) new
+
+  -- those of all files went out, and the last lines broke off or were not flushed
+  pub record StopsBehindFiles (t : Description) (part parts : ℕ) (old new : S × SinkSeen) : Type 0
+    where
+      pub begun : SinkSeen
+      pub head : Sent old.1 begun (marked_head_text t part parts)
+      pub verdicts : List FileVerdict
+      pub v1 : Option V1Verdict
+      pub mid : SinkSeen
+      pub all : MarksAll t (share t part parts) verdicts v1 (shelf_and_sink old.0 begun)
+          (shelf_and_sink new.0 mid)
+      pub broke : BrokeOrUnflushed mid new.1 (end_lines verdicts v1)
+
+  -- the sink failed at the first line, at a file, or behind the last one
+  abbrev pub StopsMarking : Description → ℕ → ℕ → S × SinkSeen → S × SinkSeen → Type 0
+  StopsMarking t part parts old new =
+      StopsAtHead t part parts old new
+      ⊎ (StopsBehindHead t part parts old new ⊎ StopsBehindFiles t part parts old new)
+
+  -- what the check of a part did that prints a marked report, by its answer
+  abbrev pub ChecksMarked : Description → ℕ → ℕ → S × SinkSeen → S × SinkSeen
+      → Result Report CheckFault → Type 0
+  ChecksMarked t part parts old new (Ok report) =
+      ChecksMarkedPart t part parts report.files.items report.v1 old new
+  ChecksMarked t part parts old new (Err stopped.Write) = StopsMarking t part parts old new
+  ChecksMarked t part parts old new (Err stopped.NoMemory) = (new.0 ≡ old.0) × (new.1 ≡ old.1)

@@ -1,0 +1,142 @@
+//! The whole files of a torrent, checked one after the other.
+ghost use Rattle.std.specs.Prelude.{◌≡◌, ◌*◌, ◌<◌, ◌≤◌, length};
+ghost use Rattle.std.specs.Vec.{vec_capacity};
+ghost use Rattle.folders.specs.Shelf.{more};
+ghost use Rattle.folders.specs.Verdicts.{IsFileOf, fault_count};
+ghost use Rattle.folders.specs.Visits.{Visits};
+ghost use Rattle.opening.specs.Seen.{file_entry};
+ghost use Rattle.parts.specs.Checking.{EndsFiles, shelf_and_sink};
+ghost use Rattle.parts.specs.Finding.{FindsWhole};
+ghost use Rattle.parts.specs.Parts.{piece_count as pieces_in};
+ghost use Rattle.parts.specs.Telling.{TellsWhole};
+ghost use Rattle.parts.specs.declared.all_files.CheckFault.TheVariants as fault;
+
+use crate::bits::clear_bits;
+use crate::file_pieces::read_pieces;
+use crate::places::piece_count;
+use crate::room::Room;
+use crate::span::Span;
+use crate::telling::Telling;
+use crate::verdicts::Verdicts;
+use crate::visiting::{Visitor, visit_files};
+use benc::{DeviceFault, Sink, WriteFault};
+use folders::{FileVerdict, Report, Shelf};
+use opening::{File, Torrent};
+use std::alloc::{AllocError, Global};
+use thiserror::Error;
+
+/// The visits of whole files.
+pub(crate) struct WholeFiles;
+
+impl<S: Shelf> Visitor<S> for WholeFiles {
+    ghost use Rattle.parts.specs.Visiting.{whole_visiting};
+
+    ghost visiting = { λ _ t. whole_visiting S.Shelf S.File.seen t };
+
+    fn visit(
+        &self,
+        shelf: &mut S,
+        torrent: &Torrent<'_>,
+        file: &File<'_>,
+        bits: &mut Vec<u8>,
+        buffer: &mut [u8],
+    ) -> Verdicts {
+        visit_file(shelf, torrent, file, bits, buffer)
+    }
+}
+
+/// Checks each file of a torrent, and writes what is wanted of it before the next one is opened.
+/// Memory is taken before the first path is opened, for the report, and for the bits of pieces if
+/// they are told of. What breaks off ends the check. Condition: what is told is of whole files.
+pub(crate) fn visit_whole<S: Shelf, W: Sink>(
+    alloc: Global,
+    torrent: &Torrent<'_>,
+    shelf: &mut S,
+    telling: Telling,
+    out: &mut W,
+) -> Result<Report, CheckFault>
+    requires whole { TellsWhole telling }
+    ensures checks { EndsFiles S.Shelf S.File.seen torrent.now telling
+        (shelf_and_sink shelf.old (W.seen out.old)) (shelf_and_sink shelf.new (W.seen out.new))
+        result }
+    ensures stays { S.contents shelf.new ≡ S.contents shelf.old }
+{
+    torrent.sound();
+    let room = Room::of(alloc, torrent, telling)?;
+    let report = visit_files(room, torrent, &WholeFiles, shelf, telling, out)?;
+    Ok(report)
+}
+
+// Opens a file, checks it, and hands it back; the bits tell which of its pieces are whole and good.
+fn visit_file<S: Shelf>(
+    shelf: &mut S,
+    torrent: &Torrent<'_>,
+    file: &File<'_>,
+    bits: &mut Vec<u8>,
+    buffer: &mut [u8],
+) -> Verdicts
+    requires some { 0 < length buffer.old }
+    requires file { IsFileOf torrent.now (file_entry file.now) }
+    ensures found { FindsWhole torrent.now (file_entry file.now)
+        ((S.contents shelf.old).under file.now.path) bits.new.items result }
+    ensures visits { Visits S.Shelf S.File.seen torrent.now shelf.old (file_entry file.now)
+        result.file shelf.new }
+    ensures counts { S.faults shelf.new ≡ more (S.faults shelf.old) (fault_count result.file) }
+    ensures room { pieces_in torrent.now (file_entry file.now) ≤ 8 * vec_capacity bits.old
+        → pieces_in torrent.now (file_entry file.now) ≤ 8 * length bits.new.items }
+    ensures capacity { vec_capacity bits.new ≡ vec_capacity bits.old }
+    ensures stays { S.contents shelf.new ≡ S.contents shelf.old }
+{
+    torrent.sound();
+    let count = piece_count(torrent, file.length);
+    clear_bits(bits, count);
+    let span = Span {
+        from: 0,
+        to: count,
+        ends: true,
+    };
+    match shelf.open(&file.path.parts()) {
+        Ok(Some(mut source)) => {
+            let found = read_pieces(&mut source, torrent, file, span, bits, buffer);
+            shelf.close(source);
+            Verdicts::of_whole(file, found)
+        }
+        Ok(None) => Verdicts::not_whole(FileVerdict::Missing),
+        Err(_) => Verdicts::not_whole(FileVerdict::Unreadable),
+    }
+}
+
+/// Why a check did not end with a whole report.
+#[derive(Clone, Copy, Debug, PartialEq, Eq, Drop, Error)]
+pub enum CheckFault {
+    /// Memory for the report was refused, and no path was opened.
+    #[error("out of memory")]
+    NoMemory,
+    /// The report failed, and a prefix of it went out, or its flush failed.
+    #[error("cannot write")]
+    Write,
+}
+
+impl From<AllocError> for CheckFault {
+    ghost from_gives = { λ _ e. e ≡ fault.NoMemory };
+
+    fn from(_error: AllocError) -> CheckFault {
+        CheckFault::NoMemory
+    }
+}
+
+impl From<DeviceFault> for CheckFault {
+    ghost from_gives = { λ _ e. e ≡ fault.Write };
+
+    fn from(_error: DeviceFault) -> CheckFault {
+        CheckFault::Write
+    }
+}
+
+impl From<WriteFault> for CheckFault {
+    ghost from_gives = { λ _ e. e ≡ fault.Write };
+
+    fn from(_error: WriteFault) -> CheckFault {
+        CheckFault::Write
+    }
+}

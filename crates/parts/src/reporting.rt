@@ -1,0 +1,122 @@
+//! The check of a folder with a report as it goes.
+ghost use Rattle.std.specs.Prelude.{◌≡◌, IfErr, IfOk};
+ghost use Rattle.benc.specs.Device.{SentAndFlushed};
+ghost use Rattle.chains.specs.Chain.{Chain};
+ghost use Rattle.folders.specs.Printed.{report_text};
+ghost use Rattle.folders.specs.Shelf.{more};
+ghost use Rattle.folders.specs.Stopping.{BreaksOff};
+ghost use Rattle.folders.specs.Verdicts.{HasVerdicts, IsTrueOfFolder, unreadable_count};
+ghost use Rattle.folders.specs.Visits.{Visits};
+ghost use Rattle.parts.specs.Checking.{ChecksAndPrints, shelf_and_sink};
+ghost use Rattle.parts.specs.Telling.{TellsWhole};
+ghost use Rattle.parts.specs.declared.telling.Telling.TheVariants as telling;
+
+use crate::all_files::{CheckFault, visit_whole};
+use crate::telling::Telling;
+use benc::Sink;
+use folders::{Lines, Report, Shelf, write_end};
+use opening::Torrent;
+use printing::flush_after;
+use std::alloc::Global;
+
+/// Checks that the shelf holds the torrent's files, as `check` does, and writes the lines that are
+/// wanted: each file's as soon as the file is done, before the next is opened, and at last what
+/// `print_report` writes behind them. Then it flushes once. All lines together are those of
+/// `print_report`, less those that are not wanted.
+///
+/// # Errors
+///
+/// `NoMemory`: memory for the report was refused before the first path was opened, and nothing was
+/// written. `Write`: the sink failed in a file's line, and no later file was visited; or it failed
+/// behind the last file's line or at the flush. A prefix of the lines of the visited files went
+/// out.
+pub fn check_onto<S: Shelf, W: Sink>(
+    alloc: Global,
+    torrent: &Torrent<'_>,
+    shelf: &mut S,
+    lines: Lines,
+    out: &mut W,
+) -> Result<Report, CheckFault>
+    ensures verdicts { IfOk result (λ r. HasVerdicts torrent.now r.files.items r.v1) }
+    ensures are_true { IfOk result (λ r.
+        IsTrueOfFolder torrent.now (S.contents shelf.old).under r.files.items r.v1) }
+    ensures once { IfOk result (λ r. Chain (Visits S.Shelf S.File.seen torrent.now) shelf.old
+        torrent.now.files r.files.items shelf.new) }
+    ensures unreadable { IfOk result (λ r.
+        S.faults shelf.new ≡ more (S.faults shelf.old) (unreadable_count r.files.items)) }
+    ensures readable { IfOk result (λ r.
+        S.faults shelf.new ≡ S.faults shelf.old → unreadable_count r.files.items ≡ 0) }
+    ensures report { IfOk result (λ r. SentAndFlushed (W.seen out.old) (W.seen out.new)
+        (report_text lines torrent.now.files r.files.items r.v1)) }
+    ensures cut { IfErr result (λ e. e ≡ CheckFault.Write → BreaksOff S.Shelf S.File.seen
+        torrent.now shelf.old lines (W.seen out.old) (W.seen out.new) shelf.new) }
+    ensures in_turn { ChecksAndPrints S.Shelf S.File.seen torrent.now (telling.Line lines) lines
+        (shelf_and_sink shelf.old (W.seen out.old)) (shelf_and_sink shelf.new (W.seen out.new))
+        result }
+    ensures no_memory { IfErr result (λ e. e ≡ CheckFault.NoMemory → shelf.new ≡ shelf.old) }
+    ensures silent { IfErr result (λ e. e ≡ CheckFault.NoMemory
+        → W.seen out.new ≡ W.seen out.old) }
+    ensures stays { S.contents shelf.new ≡ S.contents shelf.old }
+{
+    print_files(alloc, torrent, shelf, Telling::Line(lines), lines, out)
+}
+
+/// Checks that the shelf holds the torrent's files, as `check` does, and writes the lines that are
+/// wanted: each file's as soon as the file is done, and behind the line of one that is bad or has
+/// another length the line `bad pieces FIRST LAST bytes FROM-TO` of each maximal run of its pieces
+/// that are bad (BEP 52, "pieces root", "piece layers"), in ascending order. FIRST and LAST are the
+/// torrent's numbers of pieces, FROM and TO offsets in the file, both included. A piece that the
+/// content does not have whole is bad; what lies after the file's stated length is no piece. At
+/// last it writes what `print_report` writes behind the files' lines, and flushes once.
+///
+/// Each file is opened and read once, as by `check`. Memory is taken before the first path is
+/// opened: for the report, and a bit for each piece of the file that has the most.
+///
+/// # Errors
+///
+/// `NoMemory`: nothing was opened or written. `Write`: the sink failed. What the files before print
+/// went out, and a prefix of what this file prints; no later file was opened. Or it failed behind
+/// the last file.
+pub fn check_with_bad_pieces<S: Shelf, W: Sink>(
+    alloc: Global,
+    torrent: &Torrent<'_>,
+    shelf: &mut S,
+    lines: Lines,
+    out: &mut W,
+) -> Result<Report, CheckFault>
+    ensures checks { ChecksAndPrints S.Shelf S.File.seen torrent.now (telling.LineAndRuns lines)
+        lines (shelf_and_sink shelf.old (W.seen out.old))
+        (shelf_and_sink shelf.new (W.seen out.new)) result }
+    ensures stays { S.contents shelf.new ≡ S.contents shelf.old }
+{
+    print_files(
+        alloc,
+        torrent,
+        shelf,
+        Telling::LineAndRuns(lines),
+        lines,
+        out,
+    )
+}
+
+// Checks all files, and writes what is wanted of each, and then what follows; and flushes.
+// Condition: what is wanted is of whole files.
+fn print_files<S: Shelf, W: Sink>(
+    alloc: Global,
+    torrent: &Torrent<'_>,
+    shelf: &mut S,
+    telling: Telling,
+    lines: Lines,
+    out: &mut W,
+) -> Result<Report, CheckFault>
+    requires whole { TellsWhole telling }
+    ensures checks { ChecksAndPrints S.Shelf S.File.seen torrent.now telling lines
+        (shelf_and_sink shelf.old (W.seen out.old)) (shelf_and_sink shelf.new (W.seen out.new))
+        result }
+    ensures stays { S.contents shelf.new ≡ S.contents shelf.old }
+{
+    let report = visit_whole(alloc, torrent, shelf, telling, out)?;
+    let written = write_end(&report, lines, out);
+    flush_after(out, written)?;
+    Ok(report)
+}

@@ -1,0 +1,96 @@
+//! How a check visits the files of a torrent: one after the other, each told of as soon as it is
+//! done.
+ghost use Rattle.std.specs.Prelude.{◌≡◌, ◌*◌, ◌<◌, ◌≤◌, length};
+ghost use Rattle.std.specs.Vec.{vec_capacity};
+ghost use Rattle.folders.specs.Shelf.{more};
+ghost use Rattle.folders.specs.Verdicts.{IsFileOf, fault_count};
+ghost use Rattle.opening.specs.Seen.{file_entry};
+ghost use Rattle.parts.specs.Checking.{shelf_and_sink};
+ghost use Rattle.parts.specs.Parts.{piece_count};
+ghost use Rattle.parts.specs.Rooms.{IsRoomFor};
+ghost use Rattle.parts.specs.Visiting.{EndsVisits};
+
+use crate::buffer::buffer_of;
+use crate::joining::worse_v1;
+use crate::room::Room;
+use crate::telling::Telling;
+use crate::verdicts::Verdicts;
+use benc::{DeviceFault, Sink};
+use folders::{Report, V1Verdict};
+use opening::{File, Torrent};
+
+/// Visits the files of a torrent on a shelf of this type.
+pub(crate) trait Visitor<S> {
+    ghost use Rattle.opening.specs.Description.{Description};
+    ghost use Rattle.parts.specs.Visiting.{Finds, Visiting};
+
+    // How it does.
+    ghost visiting: { Self → Description → Visiting S };
+
+    /// Opens a file if it is one to be checked, reads what is to be read of it, and hands it back.
+    /// The bits tell of its pieces. Conditions: the torrent has the file, and the buffer is not
+    /// empty.
+    fn visit(
+        &self,
+        shelf: &mut S,
+        torrent: &Torrent<'_>,
+        file: &File<'_>,
+        bits: &mut Vec<u8>,
+        buffer: &mut [u8],
+    ) -> Verdicts
+        requires some { 0 < length buffer.old }
+        requires file { IsFileOf torrent.now (file_entry file.now) }
+        ensures found { Finds (visiting self.now torrent.now) torrent.now (file_entry file.now)
+            (((visiting self.now torrent.now).contents shelf.old).under file.now.path)
+            bits.new.items result }
+        ensures visits { (visiting self.now torrent.now).visits shelf.old (file_entry file.now)
+            result.file shelf.new }
+        ensures counts { (visiting self.now torrent.now).faults shelf.new
+            ≡ more ((visiting self.now torrent.now).faults shelf.old) (fault_count result.file) }
+        ensures room { piece_count torrent.now (file_entry file.now) ≤ 8 * vec_capacity bits.old
+            → piece_count torrent.now (file_entry file.now) ≤ 8 * length bits.new.items }
+        ensures capacity { vec_capacity bits.new ≡ vec_capacity bits.old }
+        ensures stays { (visiting self.now torrent.now).contents shelf.new
+            ≡ (visiting self.now torrent.now).contents shelf.old };
+}
+
+/// Visits each file of a torrent, and writes what is wanted of it before the next one is visited.
+/// No memory is taken but for the buffer: if that is refused, it is a smaller one. What breaks off
+/// ends the visits. Condition: there is room for what is told.
+// It has a block in its frame, so it is not inlined.
+#[inline(never)]
+pub(crate) fn visit_files<S, V: Visitor<S>, W: Sink>(
+    room: Room,
+    torrent: &Torrent<'_>,
+    visitor: &V,
+    shelf: &mut S,
+    telling: Telling,
+    out: &mut W,
+) -> Result<Report, DeviceFault>
+    requires room { IsRoomFor torrent.now telling room }
+    ensures ends { EndsVisits (V.visiting visitor.now torrent.now) torrent.now telling
+        (shelf_and_sink shelf.old (W.seen out.old)) (shelf_and_sink shelf.new (W.seen out.new))
+        result }
+    ensures stays { (V.visiting visitor.now torrent.now).contents shelf.new
+        ≡ (V.visiting visitor.now torrent.now).contents shelf.old }
+{
+    torrent.sound();
+    let entries = torrent.files();
+    let Room {
+        mut files,
+        mut bits,
+    } = room;
+    let mut v1 = V1Verdict::Good;
+    let mut buffer = buffer_of(*files.allocator(), torrent);
+    'files: for file in entries {
+        let found = visitor.visit(shelf, torrent, file, &mut bits, buffer.as_mut_slice());
+        files.push_reserved(found.file);
+        v1 = worse_v1(v1, found.v1);
+        telling.tell(torrent, file, found.file, &bits, out)?;
+    }
+    let v1 = match torrent.v1() {
+        Some(_) => Some(v1),
+        None => None,
+    };
+    Ok(Report { files, v1 })
+}

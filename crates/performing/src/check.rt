@@ -1,0 +1,103 @@
+//! `check`: whether a folder holds the files of a torrent.
+use crate::extra::print_extra;
+use crate::printed::{buffered_output, line_output, memory_first, refuse};
+use crate::sizes::all_bytes;
+use crate::summary::{print_hint, print_summary};
+use crate::tally::Tally;
+use crate::torrent_file::{open_torrent, read_torrent};
+use actions::Check;
+use benc::Sink;
+use commands::checks;
+use folders::Lines;
+use json_lines::{LineWriter, check_forms};
+use opening::Torrent;
+use printing::Fault;
+use real_files::{Cleared, Folder, Progress, System};
+use std::io::IsTerminal;
+use std::time::Instant;
+
+/// Checks that a folder holds the files of a torrent. A terminal gets each line as soon as it is
+/// known, all else gets full buffers. Gives the exit status.
+pub(crate) fn perform_check<'a>(system: &System, asked: &Check<'a>) -> Result<u8, Fault<'a>> {
+    let bytes = read_torrent(system, asked.torrent)?;
+    if system.rt().stdout().is_terminal() {
+        judge_torrent(system, bytes.as_slice(), asked, line_output(system)?)
+    } else {
+        judge_torrent(system, bytes.as_slice(), asked, buffered_output(system)?)
+    }
+}
+
+fn judge_torrent<'a, W: Sink + Drop>(
+    system: &System,
+    bytes: &[u8],
+    asked: &Check<'a>,
+    out: W,
+) -> Result<u8, Fault<'a>> {
+    match open_torrent(system, bytes) {
+        Ok(torrent) => {
+            let progress = Progress::new(system.rt(), Some(all_bytes(&torrent)));
+            let cleared = Cleared::new(out, &progress);
+            print_check(system, &torrent, asked, &progress, cleared)
+        }
+        Err(refusal) => refuse(system, &refusal, asked.json, check_forms(), out),
+    }
+}
+
+fn print_check<'a, W: Sink + Drop>(
+    system: &System,
+    torrent: &Torrent<'_>,
+    asked: &Check<'a>,
+    progress: &Progress,
+    out: W,
+) -> Result<u8, Fault<'a>> {
+    if !asked.json {
+        let mut lines = Tally::new(out);
+        return explain_folder(system, torrent, asked, progress, &mut lines);
+    }
+    let mut lines = Tally::new(LineWriter::new(system.alloc(), check_forms(), out));
+    let status = explain_folder(system, torrent, asked, progress, &mut lines);
+    memory_first(status, lines.sink())
+}
+
+// Prints the report, and on standard error what else is told of it.
+fn explain_folder<'a, W: Sink>(
+    system: &System,
+    torrent: &Torrent<'_>,
+    asked: &Check<'a>,
+    progress: &Progress,
+    lines: &mut Tally<W>,
+) -> Result<u8, Fault<'a>> {
+    let start = if asked.summary {
+        Instant::now(system.rt()).ok()
+    } else {
+        None
+    };
+    let status = judge_folder(system, torrent, asked, progress, lines)?;
+    print_hint(system, torrent, asked, lines.counts(), progress);
+    if asked.summary {
+        print_summary(system, torrent, lines.counts(), progress, start);
+    }
+    Ok(status)
+}
+
+fn judge_folder<'a, W: Sink>(
+    system: &System,
+    torrent: &Torrent<'_>,
+    asked: &Check<'a>,
+    progress: &Progress,
+    out: &mut W,
+) -> Result<u8, Fault<'a>> {
+    if asked.extra {
+        print_extra(system, torrent, asked.dir, out)?;
+    }
+    let mut folder = Folder::with_torrent(system, asked.dir, torrent, progress);
+    let lines = if asked.quiet {
+        Lines::NotGood
+    } else {
+        Lines::All
+    };
+    if asked.bad {
+        return checks::check_bad(system.alloc(), torrent, &mut folder, lines, out);
+    }
+    checks::check(system.alloc(), torrent, &mut folder, lines, out)
+}

@@ -1,0 +1,62 @@
+//! `check --part`: one part of a check.
+use crate::printed::{buffered_output, line_output};
+use crate::sizes::bytes_in;
+use crate::torrent_file::{open_torrent, read_torrent};
+use actions::CheckPart;
+use benc::Sink;
+use commands::{outcomes, part_checks};
+use opening::Torrent;
+use parts::Places;
+use printing::Fault;
+use real_files::{Cleared, Folder, Progress, System};
+use std::io::IsTerminal;
+
+/// Checks one part of a torrent's files, and prints what `join` needs of it. With its bad pieces a
+/// terminal gets each line as soon as it is known, all else gets full buffers. Gives the exit
+/// status.
+pub(crate) fn perform_check_part<'a>(
+    system: &System,
+    asked: &CheckPart<'a>,
+) -> Result<u8, Fault<'a>> {
+    let bytes = read_torrent(system, asked.torrent)?;
+    if asked.bad && system.rt().stdout().is_terminal() {
+        judge_torrent(system, bytes.as_slice(), asked, line_output(system)?)
+    } else {
+        judge_torrent(system, bytes.as_slice(), asked, buffered_output(system)?)
+    }
+}
+
+fn judge_torrent<'a, W: Sink + Drop>(
+    system: &System,
+    bytes: &[u8],
+    asked: &CheckPart<'a>,
+    out: W,
+) -> Result<u8, Fault<'a>> {
+    let mut out = out;
+    match open_torrent(system, bytes) {
+        Ok(torrent) => judge_part(system, &torrent, asked, out),
+        Err(refusal) => outcomes::refuse(&refusal, &[], &mut out),
+    }
+}
+
+fn judge_part<'a, W: Sink + Drop>(
+    system: &System,
+    torrent: &Torrent<'_>,
+    asked: &CheckPart<'a>,
+    out: W,
+) -> Result<u8, Fault<'a>> {
+    let places = Places::of_part(torrent, asked.part.number - 1, asked.part.count);
+    let progress = Progress::new(system.rt(), Some(bytes_in(torrent, places)));
+    let mut folder = Folder::with_torrent(system, asked.dir, torrent, &progress);
+    let mut out = Cleared::new(out, &progress);
+    if asked.bad {
+        return part_checks::check_part_bad(
+            system.alloc(),
+            torrent,
+            &mut folder,
+            asked.part,
+            &mut out,
+        );
+    }
+    outcomes::check_part(system.alloc(), torrent, &mut folder, asked.part, &mut out)
+}

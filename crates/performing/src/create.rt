@@ -1,0 +1,164 @@
+//! `create`: a torrent of a folder.
+use crate::excluded::refuse_globs;
+use actions::{Create, NewTorrent, PieceLength, auto_length};
+use benc::{FromWrite, Sink};
+use commands::outcomes;
+use drafts::Draft;
+use excluding::{Excluding, regex_of};
+use folders::Shelf;
+use printing::Fault;
+use real_files::{
+    Cause, Cleared, Folder, Noted, Progress, System, bytes_of, create_new_output, create_output,
+    refuse_if_there,
+};
+use regex::Regex;
+use std::alloc::AllocError;
+use std::fs::File;
+use std::io::BufWriter;
+
+/// Makes a torrent of a folder. What is no glob is refused before anything is read. Gives the exit
+/// status.
+pub(crate) fn perform_create<'a>(system: &System, asked: &NewTorrent<'a>) -> Result<u8, Fault<'a>> {
+    let progress = Progress::new(system.rt(), None);
+    let mut out = Cleared::new(FromWrite::new(system.output()), &progress);
+    if asked.exclude.is_empty() {
+        return create_of_all(system, asked, &progress, &mut out);
+    }
+    match regex_of(system.alloc(), asked.exclude.as_slice()) {
+        Ok(pattern) => create_without(system, asked, &pattern, &progress, &mut out),
+        Err(fault) => refuse_globs(system, asked.exclude.as_slice(), fault),
+    }
+}
+
+fn create_of_all<'a, W: Sink>(
+    system: &System,
+    asked: &NewTorrent<'a>,
+    progress: &Progress,
+    out: &mut W,
+) -> Result<u8, Fault<'a>> {
+    refuse_clobbering(system, asked)?;
+    let mut folder = Folder::new(system, asked.dir, progress);
+    let draft = gather(system, asked, &mut folder, out)?;
+    write_gathered(system, asked, draft, &folder, progress, out)
+}
+
+// Leaves out the files in whose paths the pattern is found.
+fn create_without<'a, W: Sink>(
+    system: &System,
+    asked: &NewTorrent<'a>,
+    pattern: &Regex,
+    progress: &Progress,
+    out: &mut W,
+) -> Result<u8, Fault<'a>> {
+    refuse_clobbering(system, asked)?;
+    let shelf = Folder::new(system, asked.dir, progress).read_in_part();
+    let (draft, folder) = gather_without(system, asked, shelf, pattern, out)?;
+    write_gathered(system, asked, draft, &folder, progress, out)
+}
+
+// Gathers what a shelf lists without the files in whose paths the pattern is found, and gives the
+// shelf back.
+fn gather_without<'a, S: Shelf + Drop, W: Sink>(
+    system: &System,
+    asked: &NewTorrent<'a>,
+    shelf: S,
+    pattern: &Regex,
+    out: &mut W,
+) -> Result<(Result<Draft, u8>, S), Fault<'a>> {
+    let matcher = pattern.matcher(system.alloc())?;
+    let mut kept = Excluding::new(system.alloc(), shelf, matcher);
+    let draft = gather(system, asked, &mut kept, out)?;
+    Ok((draft, kept.into_inner()))
+}
+
+// What is there already is seen before anything is read, if it is to stay.
+fn refuse_clobbering<'a>(system: &System, asked: &NewTorrent<'a>) -> Result<(), Fault<'a>> {
+    if asked.no_clobber {
+        refuse_if_there(system, asked.out)?;
+    }
+    Ok(())
+}
+
+// Gathers what a shelf lists.
+fn gather<'a, S: Shelf, W: Sink>(
+    system: &System,
+    asked: &NewTorrent<'a>,
+    shelf: &mut S,
+    out: &mut W,
+) -> Result<Result<Draft, u8>, Fault<'a>> {
+    let create = Create {
+        dir: asked.dir,
+        name: asked.name,
+        piece_length: piece_length(system, asked, shelf)?,
+        hybrid: asked.hybrid,
+    };
+    outcomes::gather(system.alloc(), &create, shelf, out)
+}
+
+// How many bytes a piece has.
+fn piece_length<S: Shelf>(
+    system: &System,
+    asked: &NewTorrent<'_>,
+    shelf: &mut S,
+) -> Result<u64, AllocError> {
+    match asked.piece_length {
+        PieceLength::Bytes(bytes) => Ok(bytes),
+        PieceLength::Auto => Ok(auto_length(all_bytes(system, asked.dir, shelf)?)),
+    }
+}
+
+// How many bytes the files have that a shelf lists of this folder. What cannot be listed is a fault
+// of the gathering, which lists it again.
+fn all_bytes<S: Shelf>(system: &System, dir: &str, shelf: &mut S) -> Result<u64, AllocError> {
+    match shelf.list() {
+        Ok(paths) => bytes_of(system, dir, paths.as_slice()),
+        Err(_) => Ok(0),
+    }
+}
+
+// The torrent's file is opened once all files are hashed, and stays untouched if one is refused. It
+// is none of those files.
+fn write_gathered<'a, W: Sink>(
+    system: &System,
+    asked: &NewTorrent<'a>,
+    gathered: Result<Draft, u8>,
+    folder: &Folder<'_>,
+    progress: &Progress,
+    out: &mut W,
+) -> Result<u8, Fault<'a>> {
+    match gathered {
+        Ok(draft) => {
+            if folder.has_opened(asked.out) {
+                system.note(Cause::IsInput);
+                return Err(Fault::Write(asked.out));
+            }
+            let file = open_output(system, asked)?;
+            write_torrent(system, &draft, file, asked.out, progress, out)
+        }
+        Err(status) => Ok(status),
+    }
+}
+
+// The torrent's file.
+fn open_output<'a>(system: &System, asked: &NewTorrent<'a>) -> Result<File, Fault<'a>> {
+    if asked.no_clobber {
+        create_new_output(system, asked.out)
+    } else {
+        create_output(system, asked.out, &[])
+    }
+}
+
+fn write_torrent<'a, W: Sink>(
+    system: &System,
+    draft: &Draft,
+    file: File,
+    path: &'a str,
+    progress: &Progress,
+    out: &mut W,
+) -> Result<u8, Fault<'a>> {
+    let Ok(buffered) = BufWriter::new(system.alloc(), Noted::new(file, system)) else {
+        return Err(Fault::NoMemory);
+    };
+    let mut torrent = Cleared::new(FromWrite::new(buffered), progress);
+    outcomes::write_torrent(draft, path, &mut torrent, out)
+}

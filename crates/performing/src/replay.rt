@@ -1,0 +1,164 @@
+//! `replay`: which messages of a record are right.
+use crate::holding::hold_onto;
+use crate::printed::refuse;
+use crate::sizes::all_bytes;
+use crate::torrent_file::{open_torrent, read_torrent};
+use actions::Replay;
+use benc::{FromRead, FromWrite, Sink};
+use commands::outcomes;
+use json_lines::refusal_forms;
+use lines::{LineSink, Objects};
+use opening::Torrent;
+use printing::Fault;
+use real_files::{Cause, Cleared, Folder, Noted, Progress, System, create_output};
+use session::{Paged, Session};
+use std::fs::File;
+
+// How many bytes a block has.
+const BLOCK: u64 = 16_384;
+
+/// Replays the messages that peers sent. The torrent is read, and a refusal is printed, before the
+/// record is opened. Gives the exit status.
+pub(crate) fn perform_replay<'a>(system: &System, asked: &Replay<'a>) -> Result<u8, Fault<'a>> {
+    let bytes = read_torrent(system, asked.torrent)?;
+    let out = FromWrite::new(system.output());
+    replay_torrent(system, bytes.as_slice(), asked, out)
+}
+
+fn replay_torrent<'a, W: Sink + Drop>(
+    system: &System,
+    bytes: &[u8],
+    asked: &Replay<'a>,
+    out: W,
+) -> Result<u8, Fault<'a>> {
+    match open_torrent(system, bytes) {
+        Ok(torrent) => {
+            let progress = Progress::new(system.rt(), Some(all_bytes(&torrent)));
+            print_replay(
+                system,
+                &torrent,
+                asked,
+                &progress,
+                Cleared::new(out, &progress),
+            )
+        }
+        Err(refusal) => refuse(system, &refusal, asked.json, refusal_forms(), out),
+    }
+}
+
+fn print_replay<'a, W: Sink + Drop>(
+    system: &System,
+    torrent: &Torrent<'_>,
+    asked: &Replay<'a>,
+    progress: &Progress,
+    out: W,
+) -> Result<u8, Fault<'a>> {
+    let mut out = out;
+    if !asked.json {
+        return replay_file(system, torrent, asked, progress, &mut out);
+    }
+    replay_file(system, torrent, asked, progress, &mut Objects::new(out))
+}
+
+// The record is opened before the file of the answers, which is not touched if it fails. After that
+// the session is filled from the folder.
+fn replay_file<'a, L: LineSink>(
+    system: &System,
+    torrent: &Torrent<'_>,
+    asked: &Replay<'a>,
+    progress: &Progress,
+    out: &mut L,
+) -> Result<u8, Fault<'a>> {
+    let file = system.open(asked.record)?;
+    let answers = answers_file(system, torrent, asked, progress)?;
+    let mut session = outcomes::new_session(system.alloc(), torrent, asked.info_only)?;
+    seed(system, torrent, asked, progress, &mut session, out)?;
+    if asked.pieces {
+        let longest = torrent.piece_length() / BLOCK;
+        return hold_onto(
+            system,
+            &mut session,
+            longest,
+            file,
+            asked.padded,
+            out,
+            answers,
+        );
+    }
+    replay_onto(system, &mut session, file, asked.padded, out, answers)
+}
+
+// Fills the session from the folder, if there is one.
+fn seed<'a, L: LineSink>(
+    system: &System,
+    torrent: &Torrent<'_>,
+    asked: &Replay<'a>,
+    progress: &Progress,
+    session: &mut Session<'_, Paged>,
+    out: &mut L,
+) -> Result<(), Fault<'a>> {
+    let Some(dir) = asked.seed else {
+        return Ok(());
+    };
+    let mut folder = Folder::with_torrent(system, dir, torrent, progress);
+    outcomes::seed(system.alloc(), session, &mut folder, out)
+}
+
+// Replays the record, and writes the answers to their file, if they are wanted.
+fn replay_onto<'a, L: LineSink>(
+    system: &System,
+    session: &mut Session<'_, Paged>,
+    record: File,
+    padded: bool,
+    out: &mut L,
+    answers: Option<(&'a str, File)>,
+) -> Result<u8, Fault<'a>> {
+    let mut source = FromRead::new(Noted::new(record, system));
+    match answers {
+        None => outcomes::replay(system.alloc(), session, &mut source, out, padded),
+        Some((path, file)) => {
+            let mut answers = FromWrite::new(Noted::new(file, system));
+            outcomes::replay_and_answer(
+                system.alloc(),
+                session,
+                &mut source,
+                out,
+                padded,
+                path,
+                &mut answers,
+            )
+        }
+    }
+}
+
+// The file that takes the answers, emptied, if they are wanted. It is no file that is read.
+fn answers_file<'a>(
+    system: &System,
+    torrent: &Torrent<'_>,
+    asked: &Replay<'a>,
+    progress: &Progress,
+) -> Result<Option<(&'a str, File)>, Fault<'a>> {
+    let Some(path) = asked.answers else {
+        return Ok(None);
+    };
+    if is_seed(system, torrent, asked, progress, path)? {
+        system.note(Cause::IsInput);
+        return Err(Fault::Write(path));
+    }
+    let file = create_output(system, path, &[asked.torrent, asked.record])?;
+    Ok(Some((path, file)))
+}
+
+// Whether this path is that of a file of the torrent below the folder that fills the session.
+fn is_seed<'a>(
+    system: &System,
+    torrent: &Torrent<'_>,
+    asked: &Replay<'a>,
+    progress: &Progress,
+    path: &str,
+) -> Result<bool, Fault<'a>> {
+    match asked.seed {
+        None => Ok(false),
+        Some(dir) => Ok(Folder::new(system, dir, progress).holds(torrent, path)?),
+    }
+}

@@ -1,0 +1,37 @@
+//! `root`: the length and the pieces root of a file.
+use crate::printed::memory_first;
+use crate::sizes::length_of;
+use benc::{FromRead, FromWrite, Sink, Source};
+use commands::outcomes;
+use json_lines::{LineWriter, root_forms};
+use printing::Fault;
+use real_files::{Cleared, Counted, Noted, Progress, System};
+
+/// Prints the length and the pieces root of the file with this path. Gives the exit status.
+pub(crate) fn perform_root<'a>(
+    system: &System,
+    path: &'a str,
+    json: bool,
+) -> Result<u8, Fault<'a>> {
+    let file = system.open(path)?;
+    let progress = Progress::new(system.rt(), length_of(&file));
+    let mut source = Counted::new(FromRead::new(Noted::new(file, system)), path, 0, &progress);
+    let out = Cleared::new(FromWrite::new(system.output()), &progress);
+    print_root(system, path, &mut source, json, out)
+}
+
+fn print_root<'a, R: Source, W: Sink + Drop>(
+    system: &System,
+    path: &'a str,
+    source: &mut R,
+    json: bool,
+    out: W,
+) -> Result<u8, Fault<'a>> {
+    let mut out = out;
+    if !json {
+        return outcomes::root(system.alloc(), path, source, &mut out);
+    }
+    let mut objects = LineWriter::new(system.alloc(), root_forms(), out);
+    let status = outcomes::root(system.alloc(), path, source, &mut objects);
+    memory_first(status, &objects)
+}

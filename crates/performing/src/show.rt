@@ -1,0 +1,54 @@
+//! `show`: what a torrent holds.
+use crate::long::print_long;
+use crate::printed::{buffered_output, memory_first};
+use crate::torrent_file::{open_torrent, read_torrent};
+use benc::Sink;
+use commands::outcomes;
+use json_lines::{LineWriter, show_forms};
+use printing::Fault;
+use real_files::System;
+
+/// Prints what the torrent with this path holds. Gives the exit status.
+pub(crate) fn perform_show<'a>(
+    system: &System,
+    path: &'a str,
+    json: bool,
+    long: bool,
+) -> Result<u8, Fault<'a>> {
+    let bytes = read_torrent(system, path)?;
+    let out = buffered_output(system)?;
+    print_show(system, bytes.as_slice(), json, long, out)
+}
+
+fn print_show<'a, W: Sink + Drop>(
+    system: &System,
+    bytes: &[u8],
+    json: bool,
+    long: bool,
+    out: W,
+) -> Result<u8, Fault<'a>> {
+    let mut out = out;
+    if !json {
+        return show_torrent(system, bytes, long, &mut out);
+    }
+    let mut objects = LineWriter::new(system.alloc(), show_forms(), out);
+    let status = show_torrent(system, bytes, long, &mut objects);
+    memory_first(status, &objects)
+}
+
+fn show_torrent<'a, W: Sink>(
+    system: &System,
+    bytes: &[u8],
+    long: bool,
+    out: &mut W,
+) -> Result<u8, Fault<'a>> {
+    let torrent = match open_torrent(system, bytes) {
+        Ok(torrent) => torrent,
+        Err(refusal) => return outcomes::refuse(&refusal, &[], out),
+    };
+    let status = outcomes::show(&torrent, out)?;
+    if long {
+        print_long(&torrent, out)?;
+    }
+    Ok(status)
+}

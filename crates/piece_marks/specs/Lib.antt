@@ -1,0 +1,2 @@
+-- What the bits of a row of pieces tell.
+pub mod Marks

@@ -1,0 +1,16 @@
+use Rattle.std.proofs.Common.{◌≡◌, ◌+◌, ◌*◌, take, drop, slice_index, ap, ◌∙◌, arith}
+use Rattle.sha2.specs.Sha256.{padded_message, word_at}
+use Rattle.sha256_lanes.specs.Lanes.{message_at}
+use Rattle.lanes.proofs.Messages.{word_of_bytes}
+use Rattle.sha256_lanes.proofs.places.take_blocks.Goals as goal
+
+pub returns : goal.returns
+returns c j lt short =
+    let m = padded_message (message_at c.args.buffer.now (slice_index c.args.starts.now j) (slice_index c.args.sizes.now j)) in
+    let at = 64 * c.args.block in
+    let row = c.places.row in
+    c.compress.ensures j lt (take 64 (drop at m)) (λ k below.
+    let spot : j * 64 + (0 + 4 * k) ≡ 64 * j + 4 * k = omega arith in
+    c.block_at-words.ensures j k lt below
+    ∙ ap (word_at row) spot
+    ∙ word_of_bytes row m (64 * j) at k below (λ i inside. c.places.invariant.1 j i (omega arith) inside short))

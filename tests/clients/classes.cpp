@@ -1,0 +1,109 @@
+// classes TORRENT CONTENT: the classes of btcheck.hpp on the pair of the examples. It prints nothing.
+#include <btcheck.hpp>
+
+#include <cstdio>
+#include <cstdlib>
+#include <fstream>
+#include <iterator>
+
+namespace {
+
+std::string all_of(const char *path) {
+  std::ifstream in(path, std::ios::binary);
+  return std::string{std::istreambuf_iterator<char>(in), {}};
+}
+
+void must(bool is, int line) {
+  if (!is) std::fprintf(stderr, "line %d\n", line), std::exit(1);
+}
+#define MUST(it) must(it, __LINE__)
+
+template <class Call> btcheck_status refused(Call call) {
+  try {
+    call();
+  } catch (const btcheck::Refused &refused) {
+    MUST(std::string(refused.what()).back() == '.');
+    return refused.status();
+  }
+  return BTCHECK_OK;
+}
+
+void says_what_the_torrent_says(btcheck::Session &session) {
+  std::vector<btcheck::File> files = session.files();
+  MUST(files.size() == 2 && files[1].path == "c" && files[1].first_piece == 1 && *files[0].tree == 0);
+  MUST(session.tree_count() == 2 && session.name() == "pair" && session.is_hybrid());
+  MUST(session.piece_length() == 2 * BTCHECK_BLOCK && session.pieces() == 2);
+  MUST(session.info_hashes().first[0] == 0x4d && btcheck::version() == BTCHECK_VERSION);
+  MUST(refused([&] { session.file(2); }) == BTCHECK_NO_SUCH && refused([&] { session.path(2); }) == BTCHECK_NO_SUCH);
+}
+
+void checks(btcheck::Session &session, const std::string &content) {
+  btcheck::Root root;
+  MUST(refused([&] { root.finish(); }) == BTCHECK_NO_ROOT);
+  root.push(content);
+  btcheck::Root::Found found = root.finish();
+  MUST(found.length == content.size() && found.hash == session.file(0).root);
+  btcheck::Check whole(session, 0), row(session, 0, 0, 1);
+  whole.push(content);
+  MUST(refused([&] { whole.push(content); }) == BTCHECK_TOO_LONG && !whole.finish());
+  std::string wrong = content;
+  wrong[0] ^= 1;
+  btcheck::Bits good(1), none;
+  row.push_bits(content, good);
+  MUST(!row.finish_bits(good) && good[0] == 0x80);
+  row.push_bits(wrong, none);
+  MUST(*row.finish_bits(none) == 0);
+  MUST(refused([&] { row.finish_bits(good); }) == BTCHECK_TOO_SHORT);
+}
+
+void holds(btcheck::Session &session, const std::string &content) {
+  btcheck::Holdings holdings(session, 10);
+  for (bool is_true : {false, true}) {
+    std::string sent = content;
+    sent[0] = char(sent[0] ^ !is_true);
+    btcheck::Bytes front(sent.data(), BTCHECK_BLOCK), back(sent.data() + BTCHECK_BLOCK, sent.size() - BTCHECK_BLOCK);
+    btcheck::HeldBlocks held = session.hold(holdings, 0, BTCHECK_BLOCK, back);
+    MUST(held.blocks.first == 1 && held.blocks.statuses[0] == BTCHECK_HELD && held.dropped[0].tree == UINT64_MAX);
+    MUST(!session.settle(holdings));
+    session.hold(holdings, 0, 0, front);
+    MUST(holdings.held() == 2 && session.is_marked(0, 0) == false);
+    std::optional<btcheck::Settled> settled = session.settle(holdings);
+    MUST(settled && settled->is_proved == is_true && settled->run.first == 0 && settled->run.last == 1);
+    MUST(!session.settle(holdings) && session.is_marked(0, 0) == is_true);
+  }
+  holdings.look_at(0);
+  MUST(holdings.held() == 0);
+}
+
+void asks(btcheck::Session &session, const std::string &content) {
+  std::optional<btcheck::Ask> ask = session.want(0, 1);
+  MUST(ask && ask->length == 2 && !session.can_answer(*ask) && !session.answer(*ask));
+  std::vector<btcheck::Hash> leaves;
+  for (size_t at = 0; at < content.size(); at += BTCHECK_BLOCK) {
+    btcheck::Root root;
+    root.push(content.substr(at, BTCHECK_BLOCK));
+    leaves.push_back(root.finish().hash);
+  }
+  MUST(refused([&] { session.take_answer(*ask, leaves); }) == BTCHECK_H8_UNASKED);
+  session.note(*ask);
+  MUST(refused([&] { session.take_answer(*ask, {}); }) == BTCHECK_H3_BAD_COUNT);
+  MUST(session.take_answer(*ask, leaves) == 2 && session.answer(*ask) == leaves && !session.want(0, 1));
+  MUST(session.take_hashes(*ask, leaves) == 0);
+  MUST(refused([&] { session.take_block(0, 0, std::string(BTCHECK_BLOCK, 'a')); }) == BTCHECK_P4_BAD_BLOCK);
+  MUST(session.take_block(0, BTCHECK_BLOCK, content.substr(BTCHECK_BLOCK)).block == 1);
+  MUST(session.take_blocks(0, 0, content).count == 2 && session.take_piece(0, content).block == 0);
+  MUST(session.counts(0).second == 2 && session.frame(std::string()).kind == BTCHECK_KEEP_ALIVE);
+}
+
+} // namespace
+
+int main(int, char **words) {
+  std::string torrent = all_of(words[1]), content = all_of(words[2]);
+  MUST(refused([] { btcheck::Session(std::string("abc")); }) == BTCHECK_TORRENT_NOT_BENCODE);
+  btcheck::Session first(torrent), session(std::move(first)), other(torrent);
+  MUST(refused([&] { first.counts(0); }) == BTCHECK_WRONG_HANDLE);
+  says_what_the_torrent_says(session);
+  checks(session, content);
+  holds(session, content);
+  asks(other, content);
+}

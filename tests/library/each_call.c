@@ -1,0 +1,151 @@
+/* Each call, done and refused, by a thread with a stack of STACK bytes; 0: as large as usual.
+   usage: each_call STACK CONTENT TORRENT .. where CONTENT is the first torrent's first file, of 8 blocks at most */
+#include "btcheck.h"
+#include "want.h"
+
+#include <pthread.h>
+#include <stdlib.h>
+
+static uint8_t torrent[1 << 21], content[8 * BTCHECK_BLOCK];
+static size_t len, size;
+
+/* The leaf of a block is the root of a file of that block alone. */
+static void leaves_of(uint8_t (*leaves)[32]) {
+  btcheck_root root = BTCHECK_INIT;
+  uint64_t length;
+  WANT(btcheck_root_new(&root), BTCHECK_OK);
+  memset(leaves, 0, 8 * 32);
+  for (size_t at = 0; at < size; at += BTCHECK_BLOCK) {
+    WANT(btcheck_root_push(&root, content + at, size - at < BTCHECK_BLOCK ? size - at : BTCHECK_BLOCK), BTCHECK_OK);
+    WANT(btcheck_root_finish(&root, &length, leaves[at / BTCHECK_BLOCK]), BTCHECK_OK);
+  }
+  WANT(btcheck_root_finish(&root, &length, leaves[0]), BTCHECK_NO_ROOT);
+  btcheck_root_free(&root);
+}
+
+/* All that a check of the first file does: on true content, on one with a bad byte, and on a part of it. */
+static void checks(btcheck_session *session) {
+  static uint8_t bits[4];
+  uint64_t piece;
+  btcheck_check check = BTCHECK_INIT;
+  WANT(btcheck_check_new(&check, session, 0), BTCHECK_OK);
+  WANT(btcheck_check_push_bits(&check, content, size, bits, sizeof bits), BTCHECK_OK);
+  WANT(btcheck_check_push(&check, content, 1), BTCHECK_TOO_LONG);
+  WANT(btcheck_check_finish(&check, &piece), BTCHECK_OK);
+  content[0] ^= 1;
+  WANT(btcheck_check_push(&check, content, size), BTCHECK_OK);
+  WANT(btcheck_check_finish_bits(&check, &piece, bits, sizeof bits), BTCHECK_BAD_PIECE);
+  content[0] ^= 1;
+  WANT(btcheck_check_push_bits(&check, content, size - 1, bits, sizeof bits), BTCHECK_OK);
+  WANT(btcheck_check_finish(&check, &piece), BTCHECK_TOO_SHORT);
+  WANT(btcheck_check_finish_bits(&check, &piece, bits, sizeof bits), BTCHECK_TOO_SHORT);
+  btcheck_check_free(&check);
+  WANT(btcheck_check_new_pieces(&check, session, 0, 0, 1), BTCHECK_OK);
+  WANT(btcheck_check_finish(&check, &piece), BTCHECK_TOO_SHORT);
+  btcheck_check_free(&check);
+  WANT(btcheck_check_new_pieces(&check, session, 0, 1, 1), BTCHECK_NO_SUCH);
+}
+
+/* Hashes and blocks of the first file, false ones first. */
+static void messages(btcheck_session *session, const btcheck_file *file) {
+  static uint8_t leaves[8][32], room[16][32];
+  static btcheck_blocks blocks;
+  btcheck_ask ask = {{0}, 0, 0, 8, 0};
+  uint64_t one, other;
+  leaves_of(leaves);
+  memcpy(ask.root, file->root, 32);
+  WANT(btcheck_session_take_hashes(session, ask.root, 0, 1, 8, 0, (const uint8_t(*)[32])leaves, 8, &one), BTCHECK_H2_BAD_RANGE);
+  leaves[0][0] ^= 1;
+  WANT(btcheck_session_take_hashes(session, ask.root, 0, 0, 8, 0, (const uint8_t(*)[32])leaves, 8, &one), BTCHECK_H6_MISMATCH);
+  leaves[0][0] ^= 1;
+  WANT(btcheck_session_take_answer(session, &ask, (const uint8_t(*)[32])leaves, 8, &one), BTCHECK_H8_UNASKED);
+  WANT(btcheck_session_answer(session, &ask, room, 16, &one), BTCHECK_NOTHING);
+  WANT(btcheck_session_take_block(session, 0, 0, content, BTCHECK_BLOCK, &one, &other), BTCHECK_P3_UNPROVED);
+  WANT(btcheck_session_note(session, &ask), BTCHECK_OK);
+  WANT(btcheck_session_take_answer(session, &ask, (const uint8_t(*)[32])leaves, 8, &one), BTCHECK_OK);
+  WANT(btcheck_session_can_answer(session, &ask), BTCHECK_OK);
+  WANT(btcheck_session_answer(session, &ask, room, 1, &one), BTCHECK_TOO_SMALL);
+  WANT(btcheck_session_answer(session, &ask, room, 16, &one), BTCHECK_OK);
+  WANT(btcheck_session_take_block(session, 0, 0, content, BTCHECK_BLOCK, &one, &other), BTCHECK_OK);
+  WANT(btcheck_session_take_block(session, 0, 0, content + 1, BTCHECK_BLOCK, &one, &other), BTCHECK_P4_BAD_BLOCK);
+  WANT(btcheck_session_take_blocks(session, 0, 0, content, 2 * BTCHECK_BLOCK, &blocks), BTCHECK_OK);
+  WANT(btcheck_session_take_blocks(session, 77, 0, content, BTCHECK_BLOCK, &blocks), BTCHECK_P1_BAD_PLACE);
+  WANT(btcheck_session_take_piece(session, 0, content + 1, 2 * BTCHECK_BLOCK, &one, &other), BTCHECK_P4_BAD_BLOCK);
+  WANT(btcheck_session_take_piece(session, 0, content, 2 * BTCHECK_BLOCK, &one, &other), BTCHECK_OK);
+}
+
+/* Blocks that are held until their piece is whole: a false one, then all of it; and what a bound drops. The piece has 2 blocks. */
+static void holds(void) {
+  static btcheck_held held;
+  btcheck_session session = BTCHECK_INIT;
+  btcheck_holdings holdings = BTCHECK_INIT;
+  btcheck_run run;
+  uint64_t count;
+  WANT(btcheck_session_open(&session, torrent, len, true), BTCHECK_OK);
+  WANT(btcheck_holdings_new(&holdings, &session, 0), BTCHECK_OK);
+  WANT(btcheck_session_hold(&session, &holdings, 77, 0, content, BTCHECK_BLOCK, &held), BTCHECK_P1_BAD_PLACE);
+  WANT(btcheck_session_hold(&session, &holdings, 0, 0, content + 1, 2 * BTCHECK_BLOCK, &held), BTCHECK_OK);
+  CHECK(held.blocks.count == 2 && held.blocks.statuses[1] == BTCHECK_HELD && held.dropped[0].tree == UINT64_MAX);
+  WANT(btcheck_session_settle(&session, &holdings, &run), BTCHECK_BAD_PIECE);
+  CHECK(run.tree == 0 && run.first == 0 && run.last == 1);
+  WANT(btcheck_session_settle(&session, &holdings, &run), BTCHECK_NOTHING);
+  WANT(btcheck_session_hold(&session, &holdings, 1, 0, content, BTCHECK_BLOCK, &held), BTCHECK_OK);
+  WANT(btcheck_session_hold(&session, &holdings, 0, 0, content, BTCHECK_BLOCK, &held), BTCHECK_OK);
+  CHECK(held.dropped[0].tree == 0 && held.dropped[0].first == 2 && held.dropped[0].last == 3);
+  WANT(btcheck_session_held(&holdings, &count), BTCHECK_OK);
+  CHECK(count == 1);
+  WANT(btcheck_session_hold(&session, &holdings, 0, BTCHECK_BLOCK, content + BTCHECK_BLOCK, BTCHECK_BLOCK, &held), BTCHECK_OK);
+  WANT(btcheck_holdings_look_at(&holdings, 0), BTCHECK_OK);
+  WANT(btcheck_session_settle(&session, &holdings, &run), BTCHECK_OK);
+  CHECK(run.tree == 0 && run.first == 0 && run.last == 1);
+  WANT(btcheck_session_is_marked(&session, 0, 1), BTCHECK_OK);
+  btcheck_holdings_free(&holdings);
+  btcheck_session_free(&session);
+}
+
+/* Every call, on what opens; what does not is refused on the same stack. */
+static void *calls(void *is_first) {
+  static uint8_t room[64][32], small[20];
+  static btcheck_file file;
+  static btcheck_verdict verdict;
+  uint64_t one, other;
+  btcheck_ask ask;
+  btcheck_session session = BTCHECK_INIT;
+  if (btcheck_session_open(&session, torrent, len, true) != BTCHECK_OK) return is_first;
+  WANT(btcheck_session_files(&session, &one, &other), BTCHECK_OK);
+  WANT(btcheck_session_file(&session, 0, &file), BTCHECK_OK);
+  WANT(btcheck_session_file(&session, SIZE_MAX, &file), BTCHECK_NO_SUCH);
+  WANT(btcheck_session_path(&session, 0, room[0], 0, &one), BTCHECK_TOO_SMALL);
+  WANT(btcheck_session_path(&session, 0, room[0], sizeof room, &one), BTCHECK_OK);
+  WANT(btcheck_session_info_hashes(&session, room[0], small), BTCHECK_OK);
+  WANT(btcheck_session_name(&session, room[0], 0, &one), BTCHECK_TOO_SMALL);
+  WANT(btcheck_session_name(&session, room[0], sizeof room, &one), BTCHECK_OK);
+  WANT(btcheck_session_piece_length(&session, &one), BTCHECK_OK);
+  WANT(btcheck_session_pieces(&session, &one), BTCHECK_OK);
+  WANT(btcheck_session_is_hybrid(&session), BTCHECK_NOTHING);
+  WANT(btcheck_session_counts(&session, 0, &one, &other), BTCHECK_OK);
+  WANT(btcheck_session_is_marked(&session, 0, 0), BTCHECK_NOTHING);
+  if (btcheck_session_want(&session, 0, 0, &ask) == BTCHECK_OK) WANT(btcheck_session_can_answer(&session, &ask), BTCHECK_NOTHING);
+  WANT(btcheck_session_frame(&session, (const uint8_t *)"\4\0\0", 3, &verdict), BTCHECK_OK);
+  WANT(btcheck_session_frame(&session, (const uint8_t *)"\7\0\0", 3, &verdict), BTCHECK_BAD_SIZE);
+  if (is_first) checks(&session), messages(&session, &file), holds();
+  btcheck_session_free(&session);
+  return is_first;
+}
+
+int main(int argc, char **argv) {
+  if (argc < 4) return 2;
+  size = whole_file(argv[2], content, sizeof content);
+  for (int at = 3; at < argc; at++) {
+    len = whole_file(argv[at], torrent, sizeof torrent);
+    if (!len) return 2;
+    pthread_attr_t attributes;
+    pthread_t thread;
+    size_t stack = (size_t)atol(argv[1]);
+    CHECK(pthread_attr_init(&attributes) == 0);
+    CHECK(stack == 0 || pthread_attr_setstacksize(&attributes, stack) == 0);
+    CHECK(pthread_create(&thread, &attributes, calls, at == 3 ? content : NULL) == 0 && pthread_join(thread, NULL) == 0);
+    pthread_attr_destroy(&attributes);
+  }
+  return 0;
+}

@@ -1,0 +1,217 @@
+"""`btcheck-many`: one torrent and a whole archive over cores and machines, stopped at any time, with hostile names."""
+import os
+import re
+import signal
+import subprocess
+import time
+
+from slurm import Cluster
+from support import BTCHECK, TOP, folder, need, write, written
+from test_many import FAULTS, NOT_GOOD, REASONS, Archive, Big, whole_reports
+import torrents
+
+MANY = f"{TOP}/tools/btcheck-many"
+CHECK = "btcheck-many check --parts 5 big.torrent content/big"
+ARCHIVE = "btcheck-many archive torrents content reports"
+
+# What an archive prints of its torrents that are not good, and then of those with a fault.
+LINES = [f"{name}: {line}" for name, lines in sorted(NOT_GOOD.items()) for line in lines]
+WHY = [f"{name}: {line}" for name, lines in REASONS.items() for line in lines]
+ERRORS = WHY + [f"{name}: {line}" for name, lines in FAULTS.items() for line in lines]
+
+HOSTILE = ["-n", "--help", "a b", "it's", 'do"$(touch hit)`touch hit`', "{}", "{1}", "*", "a=b", "line\nfeed\n", "\\n", b"\xff\xfe",
+           ".hidden", "%s", "~", "a;touch hit"]
+
+
+class Many:
+    """An archive of the tests of recipes, with `btcheck-many` beside its `btcheck`."""
+
+    def __init__(self, archive):
+        self.archive, self.place = archive, archive.place
+        os.symlink(MANY, f"{self.place}/bin/btcheck-many")
+
+    def run(self, code):
+        """The status and the lines of standard output, in their order."""
+        program = self.archive.start(code)
+        out, error = program.communicate(timeout=120)
+        return program.returncode, out.splitlines(), error
+
+    def kept(self):
+        return self.archive.reports()
+
+    def left(self):
+        """What the run left beside what it is for."""
+        places = [place for place in (self.place, f"{self.place}/reports") if os.path.isdir(place)]
+        return [name for place in places for name in os.listdir(place) if name.startswith(".btcheck-many")]
+
+
+def test_help_and_wrong_arguments():
+    with folder() as place:
+        many = Many(Archive(place))
+        status, lines, _ = many.run("btcheck-many --help")
+        assert status == 0 and lines[0].startswith("Checks torrents") and many.run("btcheck-many check -h")[1] == lines
+        version = subprocess.run([BTCHECK, "--version"], stdout=subprocess.PIPE, text=True, check=True).stdout
+        assert many.run("btcheck-many --version")[:2] == (0, version.splitlines())
+        for words in ["", "none", "check", "check a", "check a b c", "check -j 0 a b", "check -j x a b", "check -j", "archive a b",
+                      "check --nothing a b", "check --submit a b", "check --parts 1000000 a b"]:
+            status, lines, error = many.run(f"btcheck-many {words}")
+            assert (status, lines) == (2, []) and "Try btcheck-many --help." in error, (words, status, lines, error)
+        manual = written(f"{TOP}/man/btcheck-many.1").decode()
+        named = set(re.findall(r"(?<=Fl )-?\w+", manual))
+        helped = re.findall(r"^  (-\w.*|--\w.*)", written(MANY).decode(), re.M)
+        assert {option for line in helped for option in re.findall(r"(?<![\w-])-(-?\w+)", line[:18])} == named, (helped, named)
+
+
+def test_shells_read_it():
+    need("shellcheck")
+    subprocess.run(["shellcheck", "-s", "sh", "-e", "SC2016,SC2317", MANY], check=True)
+    subprocess.run(["sh", "-n", MANY], check=True)
+
+
+def test_one_torrent():
+    """What `btcheck check` prints, in its order, with its status; nothing is left."""
+    with folder() as place:
+        many = Many(Big(place))
+        done = subprocess.run([BTCHECK, "check", "big.torrent", "content/big"], cwd=place, stdout=subprocess.PIPE, text=True)
+        for words in ["", "-j 2", "--keep 'a folder'"]:
+            ended = many.run(f"btcheck-many check --parts 5 {words} big.torrent content/big")
+            assert ended[:2] == (done.returncode, done.stdout.splitlines()), (words, ended)
+        assert many.left() == [] and not os.path.exists(f"{place}/a folder")
+        # what is refused, and what is not there
+        write(f"{place}/none.torrent", b"abc")
+        assert many.run("btcheck-many check none.torrent content/big")[:2] == (1, ["refused 2 NotBencode BadStart 0"])
+        assert many.run("btcheck-many check gone.torrent content/big") == (2, [], "fault: cannot read the torrent\n")
+        assert many.left() == []
+
+
+def stopped(many, code, how, until):
+    """Starts a run, stops it in the middle of its work, and gives its status."""
+    many.archive.halt()
+    program, end = many.archive.start(code), time.monotonic() + 60
+    while not until():
+        assert time.monotonic() < end, "nothing is done"
+        time.sleep(0.01)
+    (os.kill if how == signal.SIGTERM else os.killpg)(program.pid, how)
+    program.communicate(timeout=60)
+    many.archive.go_on()
+    return program.returncode
+
+
+def test_one_torrent_that_is_stopped():
+    """Parts that are there are not done again, and no process of the run is left."""
+    for how in [signal.SIGTERM, signal.SIGINT]:
+        with folder() as place:
+            many = Many(Big(place, slow=True))
+            keep = f"{place}/kept"
+            code = CHECK.replace("--parts 5", "-j 1 --parts 9 --keep kept")
+            assert stopped(many, "exec " + code, how, lambda: os.path.isdir(f"{keep}/parts") and len(os.listdir(f"{keep}/parts")) > 2) == -how
+            there = [name for name in os.listdir(f"{keep}/parts") if not name.startswith(".")]
+            before = len(many.archive.checked())
+            assert 1 < len(there) < 9, there
+            status, lines, error = many.run(code)
+            assert (status, sorted(lines)) == many.archive.whole and f"{len(there)} of 9 parts" in error, (lines, error)
+            # each part that was missing, the look at the torrent, and the join
+            assert len(many.archive.checked()) - before == 9 - len(there) + 2
+            assert not os.path.exists(keep)
+
+
+def test_one_torrent_twice_at_once():
+    with folder() as place:
+        many = Many(Big(place, slow=True))
+        code = CHECK.replace("--parts 5", "-j 1 --parts 9 --keep kept")
+        many.archive.halt()
+        first = many.archive.start(code)
+        end = time.monotonic() + 60
+        while not os.path.isdir(f"{place}/kept/parts"):
+            assert time.monotonic() < end
+            time.sleep(0.01)
+        assert many.run(code) == (2, [], "fault: another run is at work there\n")
+        many.archive.go_on()
+        out, _ = first.communicate(timeout=60)
+        assert (first.returncode, sorted(out.splitlines())) == many.archive.whole
+
+
+def test_one_torrent_on_machines():
+    """One of three does not answer: the others check its parts."""
+    with folder() as place:
+        many = Many(Big(place))
+        write(f"{place}/hosts", b"2/:\n2/alpha\n2/beta\n")
+        status, lines, _ = many.run("btcheck-many check --hosts hosts --parts 7 big.torrent content/big")
+        assert (status, sorted(lines)) == many.archive.whole
+
+
+def test_an_archive():
+    with folder() as place:
+        many = Many(Archive(place))
+        for _ in range(2):
+            assert many.run(ARCHIVE)[:2] == (2, LINES + ERRORS)
+            assert many.kept() == whole_reports() and many.left() == []
+        for name in FAULTS:
+            os.remove(f"{place}/torrents/{name}.torrent")
+        assert many.run(ARCHIVE)[:2] == (1, LINES + WHY)
+        for name in NOT_GOOD:
+            os.remove(f"{place}/torrents/{name}.torrent")
+        assert many.run(ARCHIVE)[:2] == (0, [])
+        os.mkdir(f"{place}/torrents/below")
+        write(f"{place}/torrents/below/good 1.torrent", b"")
+        assert many.run(ARCHIVE) == (2, [], "fault: two torrents have the name good 1.torrent\n")
+        assert many.run("btcheck-many archive nowhere content reports")[0] == 2
+
+
+def test_an_archive_on_machines():
+    with folder() as place:
+        many = Many(Archive(place))
+        write(f"{place}/hosts", b"2/:\n2/alpha\n2/beta\n")
+        assert many.run("btcheck-many archive --hosts hosts torrents content reports")[:2] == (2, LINES + ERRORS)
+        assert many.kept() == whole_reports()
+
+
+def test_an_archive_that_is_stopped():
+    for how in [signal.SIGTERM, signal.SIGINT]:
+        with folder() as place:
+            many = Many(Archive(place, slow=True))
+            names = [name.removesuffix(".torrent") for name in os.listdir(f"{place}/torrents")]
+            code = ARCHIVE.replace("archive", "archive -j 2")
+            is_some = lambda: os.path.isdir(f"{place}/reports") and len(os.listdir(f"{place}/reports")) > 5
+            assert stopped(many, "exec " + code, how, is_some) == -how
+            assert many.kept().items() <= whole_reports().items()
+            there = {name for name in many.kept() if name.endswith(".report")}
+            before = len(many.archive.checked())
+            assert many.run(code)[:2] == (2, LINES + ERRORS)
+            assert many.kept() == whole_reports() and many.left() == []
+            # each torrent once that had no report; the name of one without a folder is looked at too
+            missing = {f"torrents/{name}.torrent" for name in names} - {f"torrents/{name.removesuffix('.report')}.torrent" for name in there}
+            assert sorted(many.archive.checked()[before:]) == sorted([*missing, "torrents/gone.torrent"])
+
+
+def test_hostile_names():
+    """Of torrents, of the folders of their content, and of what is checked in parts."""
+    with folder() as place:
+        many = Many(Archive(place))
+        archive = os.path.join(os.fsencode(place), b"other")
+        for kind in (b"torrents", b"content"):
+            os.makedirs(os.path.join(archive, kind))
+        whole = torrents.torrent(torrents.info({"file": torrents.file(b"abc")}, name="none"))
+        names = [os.fsencode(name) for name in HOSTILE]
+        for name in names:
+            write(os.path.join(archive, b"torrents", name + b".torrent"), whole)
+            os.mkdir(os.path.join(archive, b"content", name))
+            write(os.path.join(archive, b"content", name, b"file"), b"abc")
+        assert many.run("cd other && btcheck-many archive torrents content reports")[:2] == (0, [])
+        assert sorted(os.listdir(os.path.join(archive, b"reports"))) == sorted(name + b".report" for name in names)
+        for name in names:
+            code = b'cd other && btcheck-many check --parts 2 -- "torrents/$1.torrent" "content/$1"'
+            done = subprocess.run(["sh", "-c", code, "sh", name], cwd=place, env=many.archive.environment, stdout=subprocess.PIPE)
+            assert (done.returncode, done.stdout) == (0, b"good file\nyes\n"), (name, done)
+        assert not any("hit" in names for _, _, names in os.walk(place))
+
+
+def test_a_job_array():
+    with Cluster() as cluster, folder() as place:
+        many = Many(Big(place))
+        many.archive.environment.update(cluster.environment, PATH=f"{place}/bin:{cluster.environment['PATH']}")
+        status, lines, error = many.run("btcheck-many slurm --parts 6 --keep kept --submit big.torrent content/big")
+        assert status == 0, (lines, error)
+        cluster.wait_for_jobs()
+        with open(f"{place}/kept/report", encoding="utf-8") as report:
+            assert sorted(report.read().splitlines()) == many.archive.whole[1]
