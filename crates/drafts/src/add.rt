@@ -2,6 +2,7 @@
 
 ghost use Rattle.std.specs.Prelude.{◌≡◌, ◌<◌, ◌≤◌, ◌+◌, ◌^◌, All, List, length, map, MatchResult, IfErr, OnErr, OnOk};
 ghost use Rattle.std.specs.String.{string_bytes};
+ghost use Rattle.std.specs.Vec.{vec_capacity};
 ghost use Rattle.filetree.specs.Paths.{IsFilePath};
 ghost use Rattle.filetree.specs.Tests.{NoneHolds, GivesUnlessNoMemory};
 ghost use Rattle.pieces.specs.Pieces.{pieces_of};
@@ -14,7 +15,7 @@ use crate::component::test_path;
 use crate::draft::{Draft, DraftFile, KeptRoot};
 use crate::path_order::place_among;
 use filetree::Refusal;
-use hashtree::{Hash, MAX_LENGTH};
+use hashtree::{Hash, MAX_LENGTH, reserve_thrifty};
 use pieces::{MAX_PIECES, V1File};
 use std::alloc::Global;
 use std::collections::BTreeMap;
@@ -125,7 +126,7 @@ impl Draft {
     {
         let pieces = self.pieces + self.piece_length.pieces(file.length);
         let piece_length = self.piece_length.bytes();
-        self.files.reserve(1)?;
+        reserve_thrifty(&mut self.files)?;
         keep_root(self.alloc, &mut self.roots, &file, layer, piece_length)?;
         self.files.insert(place, file)?;
         self.pieces = pieces;
@@ -177,12 +178,13 @@ fn kept_root(
 
 // Copies of texts.
 fn texts(alloc: Global, parts: &[&str]) -> Result<Vec<String>, Refusal>
-    ensures { GivesUnlessNoMemory result
+    ensures texts { GivesUnlessNoMemory result
         (λ ts. map string_bytes ts.items ≡ map (λ s. s.now) parts.now) }
+    ensures room { GivesUnlessNoMemory result (λ ts. vec_capacity ts ≡ length parts.now) }
 {
     let mut texts = Vec::with_capacity(alloc, parts.len())?;
     'parts: for part in parts {
-        texts.push(String::from_str(alloc, part)?)?;
+        texts.push_reserved(String::from_str(alloc, part)?);
     }
     Ok(texts)
 }

@@ -29,7 +29,8 @@ pub(crate) struct KeptRoot {
 
 /// A torrent that is put together, to which files are added.
 ///
-/// Its files stand in the order of their paths, whatever the order in which they are added.
+/// Its files stand in the order of their paths, whatever the order in which they are added. It has
+/// room for at most twice as many, and one.
 #[derive(Drop)]
 pub struct Draft {
     pub(crate) alloc: Global,
@@ -43,7 +44,9 @@ pub struct Draft {
 }
 
 impl Model for Draft {
+    ghost use Rattle.std.specs.Prelude.{◌*◌, ◌+◌, ◌≤◌, vec_len};
     ghost use Rattle.std.specs.String.{string_bytes};
+    ghost use Rattle.std.specs.Vec.{vec_capacity};
     ghost use Rattle.drafts.specs.DraftSeen.{IsKept, outline};
     ghost use Rattle.drafts.specs.Outline.{Outline};
 
@@ -53,7 +56,7 @@ impl Model for Draft {
         d.roots.entries };
 
     ghost invariant = { λ d. IsKept (string_bytes d.name) d.piece_length d.hybrid d.files.items
-        d.roots.entries d.pieces };
+        d.roots.entries d.pieces × (vec_capacity d.files ≤ 2 * vec_len d.files + 1) };
 }
 
 impl Draft {

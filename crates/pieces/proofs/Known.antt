@@ -1,5 +1,5 @@
 -- Digests of whole cuts, known before these are taken.
-use Rattle.std.proofs.Common.{◌≡◌, ℕ, ◌+◌, ◌-◌, ◌*◌, ◌<◌, ◌≤◌, List, [], ◌++◌, length, take, drop, slice_index_or, ap, sym, ◌∙◌, arith, append-nil}
+use Rattle.std.proofs.Common.{◌≡◌, ℕ, ◌+◌, ◌-◌, ◌*◌, ◌<◌, ◌≤◌, List, [], ◌++◌, take, drop, slice_index_or, ap, sym, ◌∙◌, arith, append-nil}
 use Rattle.std.proofs.lemmas.List.{drop-drop, length-drop}
 use Rattle.sha1.specs.Sha1.{sha1}
 use Rattle.sha1_lanes.specs.Batches.{filled_at}

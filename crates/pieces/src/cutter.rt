@@ -7,7 +7,7 @@ use sha1::Sha1;
 use std::mem;
 
 /// How many zeros are digested at once.
-pub(crate) const ZEROS: usize = 16384;
+pub(crate) const ZEROS: usize = 4096;
 
 /// The running cut of a stream: the bytes since the last cut was closed, at most a piece length.
 #[derive(Drop)]

@@ -11,11 +11,14 @@ read_more f g xs x ys i d low here before =
     ∙ sym (map-append g (take i ys) (get_or ys i d ∷ [])) ∙ ap (map g) (sym (take_more ys i d low))
 
 pub parts-preserved : goal.parts-preserved
-parts-preserved c =
-    ap (map string_bytes) c.in_ok-push.ensures.items
-    ∙ read_more string_bytes (λ (s : Bor (List ℕ)). s.now) c.parts.texts.items c.in_ok-from_str.field-0 c.args.parts.now c.parts.part-index _
-    c.parts-test.true c.in_ok-from_str.ensures.ok c.parts.invariant
+parts-preserved c = record {
+  texts = ap (map string_bytes) c.push_reserved.ensures.items
+      ∙ read_more string_bytes (λ (s : Bor (List ℕ)). s.now) c.parts.texts.items c.in_ok-from_str.field-0 c.args.parts.now c.parts.part-index _
+      c.parts-test.true c.in_ok-from_str.ensures.ok c.parts.invariant.texts;
+  count = omega (arith, c.push_reserved.ensures.len, c.parts.invariant.count);
+  room = c.push_reserved.ensures.capacity ∙ c.parts.invariant.room;
+}
 
-pub returns : goal.returns
-returns c =
-    c.parts.invariant ∙ ap (map (λ (s : Bor (List ℕ)). s.now)) (take_all c.parts.part-index c.args.parts.now c.parts-test.false)
+pub returns-clause-texts : goal.returns-clause-texts
+returns-clause-texts c =
+    c.parts.invariant.texts ∙ ap (map (λ (s : Bor (List ℕ)). s.now)) (take_all c.parts.part-index c.args.parts.now c.parts-test.false)

@@ -85,7 +85,7 @@ returns-in_err-file c =
 pub place_among-requires : goal.place_among-requires
 place_among-requires c =
     subst (λ (fs : List DraftFile). AreInOrder (map (λ (g : OutlineFile). g.path) (map outline_file fs))) (sym c.deref.ensures.value)
-    c.self.invariant.outline_is.in_order
+    c.self.invariant.0.outline_is.in_order
 
 pub insert-requires-clause-room : goal.insert-requires-clause-room
 insert-requires-clause-room c =

@@ -60,7 +60,7 @@ returns-in-Ok-clause-opens g c =
     let fs = c.self.inside.files in
     let some : d.files ≢ [] = subst (λ (o : Outline). o.files ≢ []) c.self.view_is
     (some_drafted fs.items _ c.is_empty.result (omega (arith, fs.ok.0)) c.is_empty.ensures c.if-is_empty.false) in
-    let kept = subst (λ (o : Outline). IsOutline o) c.self.view_is c.self.invariant.outline_is in
+    let kept = subst (λ (o : Outline). IsOutline o) c.self.view_is c.self.invariant.0.outline_is in
     c.draft_describes.ensures d kept some (c.is_small.ensures.answer.0 c.if-not-is_small.false)
 
 pub returns-in-Err-clause-refused : goal.returns-in-Err-clause-refused

@@ -15,48 +15,51 @@ use Rattle.drafts.proofs.draft.Draft.insert.Goals as goal
 pub insert-requires : goal.insert-requires
 insert-requires c =
     let same : length (map outline_file c.self.inside.files.items) ≡ length c.args.self.now.files = ap (λ (d : Outline). length d.files) c.self.view_is in
-    omega (arith, c.requires.room, same, length-map c.self.inside.files.items outline_file, c.self.inside.files.ok.0, c.in_ok-reserve.ensures.len)
+    omega (arith, c.requires.room, same, length-map c.self.inside.files.items outline_file, c.self.inside.files.ok.0, c.in_ok-reserve_thrifty.ensures.count)
 
 pub invariant_of-self : goal.invariant_of-self
 invariant_of-self c =
     let i = c.self.inside in
-    subst (λ fs. IsKept (string_bytes i.name) i.piece_length i.hybrid fs i.roots.entries i.pieces) (sym c.in_err-reserve.ensures.items) c.self.invariant
+    (subst (λ fs. IsKept (string_bytes i.name) i.piece_length i.hybrid fs i.roots.entries i.pieces) (sym c.in_err-reserve_thrifty.ensures.items)
+    c.self.invariant.0, c.reserve_thrifty.ensures.room c.self.invariant.1)
 
-pub returns-in_err-reserve-clause-unchanged : goal.returns-in_err-reserve-clause-unchanged
-returns-in_err-reserve-clause-unchanged c =
+pub returns-in_err-reserve_thrifty-clause-unchanged : goal.returns-in_err-reserve_thrifty-clause-unchanged
+returns-in_err-reserve_thrifty-clause-unchanged c =
     let i = c.self.inside in
     on_err c.from_residual.result
-    (ap (λ fs. outline (string_bytes i.name) i.piece_length i.hybrid fs i.roots.entries) c.in_err-reserve.ensures.items ∙ c.self.view_is)
+    (ap (λ fs. outline (string_bytes i.name) i.piece_length i.hybrid fs i.roots.entries) c.in_err-reserve_thrifty.ensures.items ∙ c.self.view_is)
 
 pub invariant_of-self-in_err-keep_root : goal.invariant_of-self-in_err-keep_root
 invariant_of-self-in_err-keep_root c =
     let i = c.self.inside in
-    subst₂ (λ fs es. IsKept (string_bytes i.name) i.piece_length i.hybrid fs es i.pieces) (sym c.in_ok-reserve.ensures.items)
-    (sym c.in_err-keep_root.ensures.unchanged) c.self.invariant
+    (subst₂ (λ fs es. IsKept (string_bytes i.name) i.piece_length i.hybrid fs es i.pieces) (sym c.in_ok-reserve_thrifty.ensures.items)
+    (sym c.in_err-keep_root.ensures.unchanged) c.self.invariant.0, c.reserve_thrifty.ensures.room c.self.invariant.1)
 
 pub returns-in_err-keep_root-clause-unchanged : goal.returns-in_err-keep_root-clause-unchanged
 returns-in_err-keep_root-clause-unchanged c =
     let i = c.self.inside in
     on_err c.from_residual-in_err-keep_root.result
-    (ap (λ fs. outline (string_bytes i.name) i.piece_length i.hybrid fs c.keep_root.new.roots.entries) c.in_ok-reserve.ensures.items
+    (ap (λ fs. outline (string_bytes i.name) i.piece_length i.hybrid fs c.keep_root.new.roots.entries) c.in_ok-reserve_thrifty.ensures.items
     ∙ ap (λ es. outline (string_bytes i.name) i.piece_length i.hybrid i.files.items es) c.in_err-keep_root.ensures.unchanged ∙ c.self.view_is)
 
 pub invariant_of-self-in_err-insert : goal.invariant_of-self-in_err-insert
 invariant_of-self-in_err-insert c =
-    absurd (false≢true (c.in_err-insert.ensures.succeeds (omega (arith, c.in_ok-reserve.ensures.ok, c.in_ok-reserve.ensures.len))))
+    absurd (false≢true (c.in_err-insert.ensures.succeeds (omega (arith, c.in_ok-reserve_thrifty.ensures.ok, c.in_ok-reserve_thrifty.ensures.count))))
 
 pub invariant_of-self-2 : goal.invariant_of-self-2
 invariant_of-self-2 c =
     let i = c.self.inside in
-    (put_file (string_bytes i.name) i.piece_length i.hybrid i.files.items c.insert.new.self.items i.roots.entries c.keep_root.new.roots.entries i.pieces _
+    ((put_file (string_bytes i.name) i.piece_length i.hybrid i.files.items c.insert.new.self.items i.roots.entries c.keep_root.new.roots.entries i.pieces _
     c.args.place c.args.file c.args.layer.now
-    c.bytes-piece_length.result c.self.invariant
+    c.bytes-piece_length.result c.self.invariant.0
     (subst (λ d. NoneHolds (add_rows d (outline_file c.args.file))) (sym c.self.view_is) c.requires.tests) c.requires.path
     (subst (λ d. IsGiven d (outline_file c.args.file) c.args.layer.now) (sym c.self.view_is) c.requires.fits)
     (subst (λ (d : Outline). IsPlaceOf (outline_file c.args.file).path (map (λ (f : OutlineFile). f.path) d.files) c.args.place) (sym c.self.view_is)
     c.requires.place)
-    (c.in_ok-insert.ensures.items ∙ ap (λ fs. insert fs c.args.place c.args.file) c.in_ok-reserve.ensures.items)
-    (ap (λ n. i.pieces + n) c.pieces.ensures) c.in_ok-keep_root.ensures.kept c.bytes-piece_length.ensures.value).1
+    (c.in_ok-insert.ensures.items ∙ ap (λ fs. insert fs c.args.place c.args.file) c.in_ok-reserve_thrifty.ensures.items)
+    (ap (λ n. i.pieces + n) c.pieces.ensures) c.in_ok-keep_root.ensures.kept c.bytes-piece_length.ensures.value).1,
+    omega (arith, (c.in_ok-insert.ensures.in_place c.in_ok-reserve_thrifty.ensures.ok).1.0, c.in_ok-insert.ensures.len,
+    c.reserve_thrifty.ensures.room c.self.invariant.1))
 
 pub returns-clause-added : goal.returns-clause-added
 returns-clause-added c =
@@ -65,10 +68,10 @@ returns-clause-added c =
     (outline_file c.args.file) c.args.layer.now) c.self.view_is
     (put_file (string_bytes i.name) i.piece_length i.hybrid i.files.items c.insert.new.self.items i.roots.entries c.keep_root.new.roots.entries i.pieces _
     c.args.place c.args.file c.args.layer.now
-    c.bytes-piece_length.result c.self.invariant
+    c.bytes-piece_length.result c.self.invariant.0
     (subst (λ d. NoneHolds (add_rows d (outline_file c.args.file))) (sym c.self.view_is) c.requires.tests) c.requires.path
     (subst (λ d. IsGiven d (outline_file c.args.file) c.args.layer.now) (sym c.self.view_is) c.requires.fits)
     (subst (λ (d : Outline). IsPlaceOf (outline_file c.args.file).path (map (λ (f : OutlineFile). f.path) d.files) c.args.place) (sym c.self.view_is)
     c.requires.place)
-    (c.in_ok-insert.ensures.items ∙ ap (λ fs. insert fs c.args.place c.args.file) c.in_ok-reserve.ensures.items)
+    (c.in_ok-insert.ensures.items ∙ ap (λ fs. insert fs c.args.place c.args.file) c.in_ok-reserve_thrifty.ensures.items)
     (ap (λ n. i.pieces + n) c.pieces.ensures) c.in_ok-keep_root.ensures.kept c.bytes-piece_length.ensures.value).0

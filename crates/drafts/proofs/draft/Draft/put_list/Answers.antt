@@ -13,7 +13,7 @@ use Rattle.drafts.proofs.draft.Draft.put_list.Goals as goal
 
 pub put_entries-requires : goal.put_entries-requires
 put_entries-requires g c = λ n f at.
-    (c.self.invariant.outline_is.files n f (subst (λ (fs : List DraftFile). slice_get (map outline_file fs) n ≡ Some f) c.deref-else-is_single.ensures.value
+    (c.self.invariant.0.outline_is.files n f (subst (λ (fs : List DraftFile). slice_get (map outline_file fs) n ≡ Some f) c.deref-else-is_single.ensures.value
     at)).bound
 
 pub returns-then-is_single : goal.returns-then-is_single

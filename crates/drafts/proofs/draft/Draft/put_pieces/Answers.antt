@@ -22,4 +22,4 @@ returns g c =
     subst (λ (o : Outline). Put c.args.pen.now (g.W.Sink.seen c.args.w.now) c.put_digests.new.pen (g.W.Sink.seen c.put_digests.new.w)
     (pairs_spelling (pieces_pair o))) c.self.view_is
     (put_as (pairs_spelling (pieces_pair d)) (put_both c.put.ensures (put_both count (put_both c.put-3.ensures digests)))
-    (pieces_text d i.pieces c.self.invariant.outline_is c.if-not-self.false c.self.invariant.pieces_are))
+    (pieces_text d i.pieces c.self.invariant.0.outline_is c.if-not-self.false c.self.invariant.0.pieces_are))

@@ -7,6 +7,6 @@ pub returns-in-Some : goal.returns-in-Some
 returns-in-Some c = (
   refl,
   subst (λ d. ReusesRoot d c.args.length c.args.root.now) c.self.view_is
-      (reuses _ c.self.inside.roots.entries c.args.length c.args.root.now c.in-Some.kept.now c.self.invariant.roots (sym c.in-Some.ensures.value)
+      (reuses _ c.self.inside.roots.entries c.args.length c.args.root.now c.in-Some.kept.now c.self.invariant.0.roots (sym c.in-Some.ensures.value)
       c.if-length-gt0.true c.if-kept-length.true),
 )

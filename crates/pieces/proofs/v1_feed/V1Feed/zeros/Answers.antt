@@ -16,17 +16,17 @@ pub push-requires : goal.push-requires
 push-requires c =
     let feeds = c.parts.invariant.feeds in
     let part = c.min-part.result in
-    let bound : part ≤ 16384 = omega (arith, c.min-part.ensures) in
-    omega (arith, c.requires, c.min-part.ensures, feeds.given_is, feeds.same_total, length-replicate {A = ℕ} c.parts.done 0, length-zeros part 16384 bound)
+    let bound : part ≤ 4096 = omega (arith, c.min-part.ensures) in
+    omega (arith, c.requires, c.min-part.ensures, feeds.given_is, feeds.same_total, length-replicate {A = ℕ} c.parts.done 0, length-zeros part 4096 bound)
 
 pub parts-preserved : goal.parts-preserved
 parts-preserved c =
     let done = c.parts.done in
     let part = c.min-part.result in
-    let bound : part ≤ 16384 = omega (arith, c.min-part.ensures) in
+    let bound : part ≤ 4096 = omega (arith, c.min-part.ensures) in
     record {
       within = omega (arith, c.min-part.ensures);
-      feeds = feeds_both c.args.self.now c.parts.self c.push.new.self (replicate done 0) (take part (replicate 16384 0)) _ (zeros_more done part 16384 bound)
+      feeds = feeds_both c.args.self.now c.parts.self c.push.new.self (replicate done 0) (take part (replicate 4096 0)) _ (zeros_more done part 4096 bound)
           c.parts.invariant.feeds c.push.ensures;
     }
 

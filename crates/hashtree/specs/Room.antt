@@ -1,4 +1,4 @@
--- How much room digests take.
+-- How much room a list takes.
 use Rattle.std.specs.Prelude.{ℕ, ◌*◌, ◌≤◌, List, vec_len}
 use Rattle.std.specs.Vec.{vec_capacity}
 use Rattle.std.specs.Global.{Vec}
