@@ -2,8 +2,8 @@
 use Rattle.std.specs.Prelude.{ℕ, ◌≤◌, ◌<◌, ◌*◌, ◌/◌}
 use Rattle.std.specs.Int.{IsPowerOfTwo}
 
--- The smallest power of two from 16 KiB to 16 MiB of which 2,048 hold so many bytes, and 16 MiB if
--- none does.
+-- The smallest power of two from 16 KiB to 16 MiB of which 2,048 hold this many bytes, and 16 MiB
+-- if none does.
 pub record IsAutoLength (total length : ℕ) : Type 0 where
   pub power : IsPowerOfTwo length
   pub least : 16384 ≤ length

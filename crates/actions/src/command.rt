@@ -77,7 +77,7 @@ pub struct CheckPart<'a> {
     pub bad: bool,
 }
 
-/// One of so many parts of a check. The number is at least 1 and at most the count.
+/// One of this many parts of a check. The number is at least 1 and at most the count.
 #[derive(Clone, Copy)]
 pub struct Part {
     /// Its number, from 1.

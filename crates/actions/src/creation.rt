@@ -1,12 +1,12 @@
 //! What can be asked of a torrent that is made.
 ghost use Rattle.actions.specs.AutoLength.{IsAutoLength};
 
-// Where nothing else is asked for, a piece has so many bytes at least and at most.
+// Where nothing else is asked for, a piece has this many bytes at least and at most.
 const SHORTEST: u64 = 16_384;
 
 const LONGEST: u64 = 16_777_216;
 
-// And there are so many pieces at most, unless the longest are too short for that.
+// And there are this many pieces at most, unless the longest are too short for that.
 const MOST_PIECES: u64 = 2_048;
 
 /// Of what a torrent is made, how, and where it goes.
@@ -31,13 +31,13 @@ pub struct NewTorrent<'a> {
 /// How long the pieces of a new torrent are.
 #[derive(Clone, Copy, Drop)]
 pub enum PieceLength {
-    /// So many bytes.
+    /// This many bytes.
     Bytes(u64),
     /// As its files need.
     Auto,
 }
 
-/// How many bytes a piece has where the files have so many in all and nothing else is asked for:
+/// How many bytes a piece has where the files have this many in all and nothing else is asked for:
 /// the smallest power of two from 16 KiB to 16 MiB that leaves 2,048 pieces at most, and 16 MiB if
 /// none does.
 pub fn auto_length(total: u64) -> u64

@@ -6,7 +6,7 @@ ghost use Rattle.benc.specs.View.{view, items_view, pairs_view};
 use crate::scan::is_above;
 use crate::value::{Pair, Value};
 
-/// At most so many lists and dictionaries are open at once, the innermost counted.
+/// At most this many lists and dictionaries are open at once, the innermost counted.
 pub(crate) const MAX_OPEN: u32 = 128;
 
 // The least length of more than ten digits.

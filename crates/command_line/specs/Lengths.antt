@@ -6,7 +6,7 @@ use Rattle.actions.specs.declared.creation.PieceLength.{PieceLength}
 use Rattle.actions.specs.declared.creation.PieceLength.TheVariants as pieces
 use Rattle.command_line.specs.Texts.{IsNumberText}
 
--- The text is a number and behind it this letter, of units of so many bytes each.
+-- The text is a number and behind it this letter, of units of this many bytes each.
 pub record IsUnits (letter factor : ℕ) (text : Text) (bytes : ℕ) : Type 0 where
   pub there : position_or_len (λ b. eqb b letter) text < length text
   pub last : after_first (λ b. eqb b letter) text ≡ []

@@ -28,7 +28,7 @@ fn size_in(text: &str) -> Option<u64>
     number_in(text)
 }
 
-// The number of bytes that a text names in units with this letter, of so many bytes each.
+// The number of bytes that a text names in units with this letter, of this many bytes each.
 fn units_in(text: &str, letter: char, factor: u64) -> Option<u64>
     requires { letter < 128 }
     ensures { IsUnitsIfThere letter factor text.now result }

@@ -126,8 +126,8 @@ pub record BreaksOff (start now : SinkSeen) (fed more : List ℕ) : Type 0 where
   pub reached : Reached left (fed ++ take count more) text
   pub broke : Broke start now text
 
--- the text for so many of these bytes follows what was outgoing, or the sink failed in the text for
--- some of them
+-- the text for this many of these bytes follows what was outgoing, or the sink failed in the text
+-- for some of them
 abbrev pub ConvertsPart : List ℕ → SinkSeen → SinkSeen → List ℕ → List ℕ → ℕ → ℕ
     → Result ℕ WriteFault → Type 0
 ConvertsPart part out out' outgoing outgoing' left left' result =
@@ -136,7 +136,7 @@ ConvertsPart part out out' outgoing outgoing' left left' result =
     (λ done. ConvertsFurther start out' outgoing' left' (fed ++ take done part))
     (λ _. BreaksOff start out' fed part)
 
--- the text for all but so many of the bytes that stood in the buffer went out, and these stand at
+-- the text for all but this many of the bytes that stood in the buffer went out, and these stand at
 -- its front; or the sink failed in the text for some of them
 abbrev pub ConvertsHeld : List ℕ → List ℕ → SinkSeen → SinkSeen → ℕ → ℕ → Result ℕ WriteFault
     → Type 0
@@ -161,8 +161,8 @@ pub record FailsInFront (old new : SourceSeen) : Type 0 where
   pub counted : new.faults ≡ one_more old.faults
   pub prefix : IsPrefixOf bytes header
 
--- so many bytes at the front of the buffer show the form, and whether more may come; or the source
--- failed, after a prefix of the header
+-- this many bytes at the front of the buffer show the form, and whether more may come; or the
+-- source failed, after a prefix of the header
 abbrev pub GivesFront : SourceSeen → SourceSeen → List ℕ → Result (ℕ × Bool) DeviceFault → Type 0
 GivesFront old new buffer result = MatchResult result
     (λ front. GaveFaultless old new (take front.0 buffer)

@@ -6,7 +6,7 @@ use crate::head::{convert_head, head_len};
 use crate::outgoing::{Outgoing, ROOM, put};
 use benc::{Sink, WriteFault};
 
-/// Converts these bytes, after so many that are left of a body, and answers how many of them: the
+/// Converts these bytes, after this many that are left of a body, and answers how many of them: the
 /// others are less than the head of a frame.
 pub(crate) fn convert_part<W: Sink>(
     out: &mut W,

@@ -28,7 +28,7 @@ pub(crate) fn compare(
     print_text(rt, &text)
 }
 
-// Checks in so many parts, and joins what they report.
+// Checks in this many parts, and joins what they report.
 fn join_parts(
     rt: &HostRuntime,
     torrent: &Torrent<'_>,

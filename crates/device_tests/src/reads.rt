@@ -76,8 +76,8 @@ pub(crate) fn try_all(rt: &HostRuntime, world: &World<'_, '_>) -> io::Result<()>
     Ok(())
 }
 
-// Tries a call over sources that give at most so many bytes a call. Each byte is read once, and the
-// end.
+// Tries a call over sources that give at most this many bytes a call. Each byte is read once, and
+// the end.
 fn try_call(rt: &HostRuntime, world: &World<'_, '_>, call: Call, at_most: usize) -> io::Result<()>
     requires { 0 < at_most }
 {

@@ -115,7 +115,7 @@ pub(crate) fn try_all(rt: &HostRuntime, world: &World<'_, '_>) -> io::Result<()>
     Ok(())
 }
 
-// Tries a call over sinks that take at most so many bytes a call.
+// Tries a call over sinks that take at most this many bytes a call.
 fn try_call(rt: &HostRuntime, world: &World<'_, '_>, call: Call, at_most: usize) -> io::Result<()>
     requires { 0 < at_most }
 {
@@ -139,7 +139,7 @@ fn try_call(rt: &HostRuntime, world: &World<'_, '_>, call: Call, at_most: usize)
     Ok(())
 }
 
-// How many calls it takes to write so many bytes one by one, with the flushes: a write of nothing
+// How many calls it takes to write this many bytes one by one, with the flushes: a write of nothing
 // would be one more.
 fn bytes_and_flushes(out: &MemSink) -> u64 {
     (out.written().len() as u64).wrapping_add(out.flushes())

@@ -44,7 +44,7 @@ pub record Hashes (old : Hashing) (bytes : List ℕ) (new : Hashing) : Type 0 wh
   pub tree : Collects old.tree bytes new.tree
   pub cuts : CutsIf old.cuts bytes new.cuts
 
--- a file of at most 2 ^ 46 bytes has room for so many more
+-- a file of at most 2 ^ 46 bytes has room for this many more
 abbrev pub CanHash : Hashing → ℕ → Type 0
 CanHash h n = CanCollect h.tree n
 

@@ -51,7 +51,7 @@ RowsHaveNodes = (file own rest : List ℕ) (layer from j : ℕ)
     → (16384 * ((j + 1) * 2 ^ layer) ≤ length own) ⊎ (rest ≡ [])
     → slice_index_or (piece_nodes layer own) j [] ≡ node file layer (from + j)
 
--- the nodes over the pieces of two rows of bytes, of which the first is so many whole pieces, are
+-- the nodes over the pieces of two rows of bytes, of which the first is this many whole pieces, are
 -- those of the one, and then those of the other
 abbrev pub RowsJoin : Type 0
 RowsJoin = (xs ys : List ℕ) (layer k : ℕ) → length xs ≡ 16384 * (k * 2 ^ layer)

@@ -33,7 +33,7 @@ pub record IsFedRow (c : PieceCheck) (good : List ℕ) (content : List ℕ) : Ty
   pub nodes : IsCompared c.hashes.now (complete_nodes content c.layer) c.place c.other
   pub marked : AreMarked good c.hashes.now (complete_nodes content c.layer)
 
--- nothing was given yet to a check of a row of so many bytes against these hashes of this layer
+-- nothing was given yet to a check of a row of this many bytes against these hashes of this layer
 pub record BeginsRow (size layer : ℕ) (hashes : List (List ℕ)) (c : PieceCheck) : Type 0 where
   pub count : byte_count c ≡ 0
   pub shape_is : chosen_shape c ≡ size

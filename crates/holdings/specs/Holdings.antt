@@ -27,8 +27,8 @@ pub record HoldingsSeen : Type 0 where
   pub most : ℕ
   pub clock : ℕ
 
--- how many pieces may be held if so many blocks may, and the longest piece has so many: at least
--- one, and 2^31 at most
+-- how many pieces may be held, by the bound on the blocks held and the blocks of the longest piece:
+-- at least one, and 2^31 at most
 abbrev pub most_pieces : ℕ → ℕ → ℕ
 most_pieces bound longest = min (max (bound / max longest 1) 1) (2 ^ 31)
 

@@ -56,7 +56,7 @@ abbrev pub CannotMark : SessionSeen → ℕ → ℕ → Cells → ℕ → Type 0
 CannotMark S n first cells j = (d : Hash) → digest_in cells j ≡ Some d
     → known_at S n 0 (first + j) ≢ Some d
 
--- so many blocks of the piece, from block j on, are marked one after the other
+-- this many blocks of the piece, from block j on, are marked one after the other
 abbrev pub AreMarked : SessionSeen → ℕ → ℕ → Cells → ℕ → ℕ → SessionSeen → Cells → Type 0
 AreMarked S n first cells j zero S' cells' = (S' ≡ S) × (cells' ≡ cells)
 AreMarked S n first cells j (suc k) S' cells' = (M : SessionSeen) × (between : Cells)

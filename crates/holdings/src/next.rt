@@ -139,7 +139,7 @@ impl Holdings {
     }
 }
 
-// Whether so many blocks of a tree, from one on, are a piece.
+// Whether this many blocks of a tree, from one on, are a piece.
 fn is_piece<N: NodeMap>(session: &Session<'_, N>, tree: usize, first: u64, size: usize) -> bool
     requires { tree < length session.now.torrent.trees }
     ensures { IsTrue result ↔ HasPiece session.now tree first size }

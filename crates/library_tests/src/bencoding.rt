@@ -90,7 +90,7 @@ const VALUES: &[&[u8]] = &[
 
 const BEHIND: &[&[u8]] = &[b"", b"e", b"x", b"i1e", b"1:", b"\0"];
 
-// Whether the value at the front takes so many bytes, and is decoded as without what follows.
+// Whether the value at the front takes this many bytes, and is decoded as without what follows.
 fn stands_at_front(alloc: Global, input: &[u8], length: usize) -> Result<bool, Fault> {
     let (value, used) = decode_front(alloc, input)?;
     Ok(used == length && decode(alloc, &input[..used])? == value)
@@ -110,7 +110,7 @@ fn values_at_the_front(rt: HostRuntime) {
     }
 }
 
-// A list of so many values, or a dictionary of so many keys with a value each, and another `e`.
+// A list of this many values, or a dictionary of this many keys with a value each, and another `e`.
 fn long_value(alloc: Global, count: u32, start: u8) -> Result<Vec<u8>, AllocError> {
     let mut text = Vec::from_slice(alloc, &[start])?;
     let size = if start == b'd' { 8 } else { 6 };

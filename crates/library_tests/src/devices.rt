@@ -184,7 +184,7 @@ fn one_call_fails(rt: HostRuntime) {
     }
 }
 
-// How often `write` of a writer is called for a text, which it takes so many bytes a call of.
+// How often `write` of a writer is called for a text, which it takes this many bytes a call of.
 fn writes_of(text: &[u8], at_most: u64) -> Option<u64> {
     let mut sink = FromWrite::new(Claims::new(u64::MAX).at_most(at_most));
     if write_all(&mut sink, text).is_err() {
@@ -244,7 +244,7 @@ fn more_than_four_gib_is_read(rt: HostRuntime) {
     assert!(rt; source.into_inner().calls == 5121);
 }
 
-// Whether so many writes of these bytes succeed.
+// Whether this many writes of these bytes succeed.
 fn writes_often<W: Sink>(sink: &mut W, bytes: &[u8], count: u64) -> bool {
     for _ in 0..count {
         if write_all(sink, bytes).is_err() {

@@ -32,7 +32,7 @@ const A_BLOCK: [u8; 64] = [
 // Two hashes for each lane.
 const TWICE: usize = 2 * LANES;
 
-// The digests of messages of so many bytes, if they can be hashed side by side.
+// The digests of messages of this many bytes, if they can be hashed side by side.
 fn digests_of(messages: &[u8], size: usize) -> Option<[[u8; 32]; LANES]> {
     let is_fit = size % 64 == 0 && size < 1 << 32;
     if !is_fit || messages.len() != LANES * size {
@@ -114,7 +114,7 @@ fn a_million_letters_in_all_lanes(rt: HostRuntime) {
     assert!(rt; digests_of(&letters, 1_000_000) == Some([OF_A_MILLION; LANES]));
 }
 
-// Messages of so many bytes, of which each is another.
+// Messages of this many bytes, of which each is another.
 fn of_each_lane(alloc: Global, size: usize) -> Result<Vec<u8>, AllocError> {
     let mut messages = Vec::new(alloc);
     for lane in 0..LANES as u8 {

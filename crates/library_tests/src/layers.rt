@@ -58,8 +58,8 @@ fn leaves(alloc: Global, count: u64) -> Result<Vec<Hash>, AllocError> {
     Ok(leaves)
 }
 
-// Whether the layers of so many blocks from this one up are these, and the root over it is the last
-// of them.
+// Whether the layers of this many blocks from this one up are these, and the root over it is the
+// last of them.
 fn are_above(
     alloc: Global,
     blocks: u64,
@@ -105,7 +105,7 @@ fn each_layer_of_each_shape(rt: HostRuntime) {
     }
 }
 
-// Gives the bytes in parts of at most so many.
+// Gives the bytes in parts of at most this many.
 fn feed(builder: &mut LayerBuilder, bytes: &[u8], at_most: usize) -> Result<(), AllocError> {
     for part in bytes.chunks(at_most.max(1)) {
         if builder.len() <= 1 << 40 && part.len() <= 1 << 40 {

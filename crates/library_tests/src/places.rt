@@ -22,7 +22,7 @@ impl Places {
         }
     }
 
-    /// Places of messages of less than `most` bytes that begin within so many bytes.
+    /// Places of messages of less than `most` bytes that begin within this many bytes.
     pub(crate) fn any(random: &mut Random, within: usize, most: usize) -> Places {
         let mut places = Places::all(0, 0);
         for lane in 0..LANES {
@@ -32,7 +32,7 @@ impl Places {
         places
     }
 
-    /// Whether each message stands in this buffer, and has at most so many bytes.
+    /// Whether each message stands in this buffer, and has at most this many bytes.
     pub(crate) fn fit(&self, buffer: &[u8], most: usize) -> bool
         ensures inside { IsTrue result → (j : ℕ) → j < LANES
             → slice_index self.now.starts j + slice_index self.now.sizes j ≤ length buffer.now }

@@ -19,7 +19,7 @@ impl Random {
         (self.state ^ (self.state >> 32)).to_be_bytes()
     }
 
-    /// So many times eight bytes.
+    /// This many times eight bytes.
     pub(crate) fn fill(&mut self, bytes: &mut Vec<u8>, count: usize) -> Result<(), AllocError> {
         bytes.clear();
         for _ in 0..count {

@@ -84,7 +84,7 @@ fn tree_of<'a>(torrent: &Torrent<'a>, file: &File<'_>) -> TreeInfo<'a>
     }
 }
 
-// A digest for each piece of a file of so many bytes.
+// A digest for each piece of a file of this many bytes.
 fn digests(alloc: Global, piece_length: u64, bytes: u64) -> Result<V1File, AllocError>
     requires { 0 < piece_length }
     ensures { IfOk result (λ v1. length v1.cuts.items ≡ pieces_of piece_length bytes) }

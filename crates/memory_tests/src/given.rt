@@ -109,7 +109,7 @@ impl<'g> Given<'g> {
         new_again(rt, self.torrent, self.with_layers)
     }
 
-    /// A session that took so many of the messages, and no others.
+    /// A session that took this many of the messages, and no others.
     pub(crate) fn session_after<N: NodeMap>(
         &self,
         alloc: Global,

@@ -55,7 +55,7 @@ fn name(call: Call) -> &'static str {
     }
 }
 
-/// Takes the messages by runs of so many, and prints after each the verdicts and the session's
+/// Takes the messages by runs of this many, and prints after each the verdicts and the session's
 /// state.
 pub(crate) fn run_messages<'t, N: NodeMap>(
     rt: &HostRuntime,

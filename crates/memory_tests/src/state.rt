@@ -43,8 +43,8 @@ pub(crate) fn print_state<N: NodeMap>(
     println!(rt; "{:?}", State::of(session))
 }
 
-/// Names a call that failed, and prints `changed` if the session is not as one that took so many of
-/// the messages, and no others.
+/// Names a call that failed, and prints `changed` if the session is not as one that took this many
+/// of the messages, and no others.
 pub(crate) fn compare<N: NodeMap>(
     rt: &HostRuntime,
     call: &str,

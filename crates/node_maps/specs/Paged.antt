@@ -77,7 +77,7 @@ AreAsMany old new = (l : ℕ) → row_pages new l ≡ row_pages old l
 abbrev pub AreNotMore : List PagedRow → List PagedRow → Type 0
 AreNotMore old new = (l : ℕ) → row_pages new l ≤ row_pages old l
 
--- a layer has at most so many pages more, and each other as many as before
+-- a layer has at most this many pages more, and each other as many as before
 pub record GrowsBy (layer more : ℕ) (old new : List PagedRow) : Type 0 where
   pub here : row_pages new layer ≤ row_pages old layer + more
   pub others : (l : ℕ) → l ≢ layer → row_pages new l ≡ row_pages old l

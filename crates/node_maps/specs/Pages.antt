@@ -71,7 +71,7 @@ marks_where f zero = set.empty
 marks_where f (suc n) =
     (if f n then set.insert (marks_where f n) n else marks_where f n)
 
--- so many numbers have a page, all below 2 ^ 32
+-- this many numbers have a page, all below 2 ^ 32
 pub record AreCounted (pages : Numbered) (count : ℕ) : Type 0 where
   pub count_is : count ≡ set.len (marks_where (λ n. is_some (pages n)) (2 ^ 32))
   pub low : (n : ℕ) → is_some (pages n) ≡ true → n < 2 ^ 32

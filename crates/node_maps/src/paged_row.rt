@@ -181,7 +181,7 @@ impl PagedRow {
         self.give_back(0);
     }
 
-    // Gives back the pages that hold nothing and that were made since so many were fresh.
+    // Gives back the pages that hold nothing and that were made since this many were fresh.
     #[tactic(auto, unfolding(crate::specs::PagedRow::pages_of))]
     fn give_back(&mut self, before: usize)
         ensures cells { AreSameRowCells self.old self.new }

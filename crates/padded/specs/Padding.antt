@@ -7,7 +7,7 @@ use Rattle.opening.specs.Places.{place_of}
 use Rattle.wire.specs.declared.message.Message.{Message}
 use Rattle.wire.specs.declared.message.Message.TheVariants as message
 
--- from the block at this place, so many bytes of its file are left
+-- from the block at this place, this many bytes of its file are left
 pub record HasLeft (t : Description) (index begin left : ℕ) : Type 0 where
   pub file : ℕ
   pub number : ℕ
@@ -16,14 +16,14 @@ pub record HasLeft (t : Description) (index begin left : ℕ) : Type 0 where
   pub there : slice_get t.files file ≡ Some entry
   pub left_is : left ≡ entry.length - 16384 * number
 
--- the bytes are more than so many, and at most as many as their blocks have if each is whole; all
+-- the bytes are more than this many, and at most as many as their blocks have if each is whole; all
 -- bytes behind them are zeros
 pub record IsPaddedTo (bytes : List ℕ) (left : ℕ) : Type 0 where
   pub more : left < length bytes
   pub within : length bytes ≤ 16384 * block_count left
   pub zeros : All (λ byte. byte ≡ 0) (drop left bytes)
 
--- the bytes at this place are padded: so many of them are the file's
+-- the bytes at this place are padded: this many of them are the file's
 abbrev pub IsPadded : Description → ℕ → ℕ → List ℕ → ℕ → Type 0
 IsPadded t index begin bytes left = HasLeft t index begin left × IsPaddedTo bytes left
 

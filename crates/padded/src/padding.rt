@@ -37,7 +37,7 @@ fn cut<'a>(torrent: &Torrent<'_>, index: u32, begin: u32, bytes: &'a [u8]) -> &'
     }
 }
 
-// The first bytes, so many, if they are padded to that, and else all.
+// The first bytes, this many, if they are padded to that, and else all.
 fn first_bytes<'a>(bytes: &'a [u8], left: u64) -> &'a [u8]
     ensures { (IsPaddedTo bytes.now left × (result.now ≡ take left bytes.now))
         ⊎ ((¬ IsPaddedTo bytes.now left) × (result.now ≡ bytes.now)) }
@@ -60,7 +60,7 @@ fn left_at(torrent: &Torrent<'_>, index: u32, begin: u32) -> Option<u64>
     }
 }
 
-// Whether the bytes are more than so many, but as many blocks, and end in zeros.
+// Whether the bytes are more than this many, but as many blocks, and end in zeros.
 fn is_padded_to(bytes: &[u8], left: u64) -> bool
     ensures { IsTrue result ↔ IsPaddedTo bytes.now left }
 {

@@ -19,7 +19,7 @@ AreHashes = All IsHash
 abbrev pub most_asked : ℕ
 most_asked = 8192
 
--- it spans so many layers
+-- it spans this many layers
 abbrev pub most_span : ℕ
 most_span = 13
 

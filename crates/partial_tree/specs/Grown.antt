@@ -17,18 +17,18 @@ pub record GrownTree : Type 0 where
 abbrev pub grown : ℕ → List Hash → GrownTree
 grown length leaves = record { length = length; leaves = leaves }
 
--- the first leaves, so many
+-- the first leaves, this many
 abbrev pub leaves_in : Known → ℕ → List Hash
 leaves_in K count = hashes_from (look K 0) 0 count
 
--- the first leaves are known, so many, and nothing else
+-- the first leaves are known, this many, and nothing else
 pub record IsGrowing (count : ℕ) (K : Known) : Type 0 where
   pub leaves_known : AreKnown (look K 0) 0 count
   pub hashes : AreHashes (leaves_in K count)
   pub none_else : (l i : ℕ) → (l ≢ 0) ⊎ (count ≤ i) → look K l i ≡ None
   pub counted : len K ≡ count
 
--- what is known is what follows from the leaves, so many, and the pads after them
+-- what is known is what follows from the leaves, this many, and the pads after them
 pub record FollowsFromLeaves (files count : ℕ) (K : Known) : Type 0 where
   pub claimed : (l i : ℕ) → look K l i ≡ fill_claims files 0 (leaves_in K count) l i
   pub leaves_known : AreKnown (look K 0) 0 count
@@ -53,7 +53,7 @@ HasRow f from hashes = (j : ℕ) → j < 8 → f (from + j) ≡ Some (slice_inde
 abbrev pub AgreeAt : PartialTree → PartialTree → ℕ → ℕ → Type 0
 AgreeAt J K l i = (u v : Hash) → J l i ≡ Some u → K l i ≡ Some v → u ≡ v
 
--- the same at the first places of a layer, so many
+-- the same at the first places of a layer, this many
 abbrev pub AgreeInRow : PartialTree → PartialTree → ℕ → ℕ → Type 0
 AgreeInRow J K layer count = (i : ℕ) → i < count → AgreeAt J K layer i
 

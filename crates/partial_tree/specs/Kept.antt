@@ -44,7 +44,8 @@ info_of t = record { root = t.root; length = t.length }
 abbrev pub root_only : Hash → ℕ → KeptTree
 root_only root length = kept root length (insert empty (tree_height length, 0) root) set.empty
 
--- so many nodes of a tree are known and so many leaves marked, of places few enough to be counted
+-- this many nodes of a tree are known and this many leaves marked, of places few enough to be
+-- counted
 pub record IsCounted (known marked : ℕ) (n : Nodes) : Type 0 where
   pub low : tree_height n.length ≤ 32
   pub known_is : known ≡ map.len n.known

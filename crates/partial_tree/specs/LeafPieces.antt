@@ -14,7 +14,7 @@ use Rattle.partial_tree.specs.declared.refusal.PieceRefusal.TheVariants.{Unprove
 abbrev pub leaves_in : List ℕ → List Hash
 leaves_in bytes = block_hashes bytes (block_count (length bytes))
 
--- so many bytes are the blocks under the node (k, first / 2 ^ k) of a tree, at least one
+-- this many bytes are the blocks under the node (k, first / 2 ^ k) of a tree, at least one
 pub record IsPieceRow (len first k size : ℕ) : Type 0 where
   pub span_inside : k ≤ tree_height len
   pub aligned : first % 2 ^ k ≡ 0

@@ -27,7 +27,7 @@ row_hashes k hashes = hashes ++ replicate (2 ^ k - length hashes) (zero_hash 0)
 abbrev pub row_claims : ℕ → ℕ → List Hash → PartialTree
 row_claims first k hashes = claims (row_ask first k) (row_hashes k hashes)
 
--- so many blocks stand under the node (k, first / 2 ^ k) of a tree, from one on, at least one
+-- this many blocks stand under the node (k, first / 2 ^ k) of a tree, from one on, at least one
 pub record IsLeafRow (len first k count : ℕ) : Type 0 where
   pub span_inside : k ≤ tree_height len
   pub aligned : first % 2 ^ k ≡ 0
@@ -66,12 +66,12 @@ TreeTakesRow before first k hashes c after =
     TakesRow first k hashes before.state.known c after.state.known
     × ChangesKnownAlone before after
 
--- with so many leaves marked, from one on
+-- with this many leaves marked, from one on
 abbrev pub mark_run : Marked → ℕ → ℕ → Marked
 mark_run marked first zero = marked
 mark_run marked first (suc n) = insert (mark_run marked first n) (first + n)
 
--- a tree with so many leaves marked, from one on; the rest of it stays
+-- a tree with this many leaves marked, from one on; the rest of it stays
 abbrev pub TreeMarksRun : KeptTree → ℕ → ℕ → KeptTree → Type 0
 TreeMarksRun before first count after = after
     ≡ kept before.root before.length before.state.known

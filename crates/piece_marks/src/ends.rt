@@ -4,7 +4,7 @@ ghost use Rattle.std.specs.Prelude.{◌≡◌, ◌↔◌, ◌*◌, ◌%◌, ◌^
 
 use hashtree::BLOCK_LENGTH;
 
-/// Whether so many bytes are whole pieces, at least one. A piece has 16384 bytes times two to the
+/// Whether this many bytes are whole pieces, at least one. A piece has 16384 bytes times two to the
 /// layer (BEP 52, "piece length").
 pub fn ends_with_piece(count: u64, layer: u32) -> bool
     requires { layer ≤ 32 }

@@ -29,7 +29,7 @@ cut_count_is n c filled some bound =
     (let a : (c + 1) * n ≤ n * c + filled + (n - 1) = omega arith in a)
     (let b : n * c + filled + (n - 1) < (c + 1 + 1) * n = omega arith in b)
 
--- so many whole cuts are there at most
+-- this many whole cuts are there at most
 pub cut_count_least : (n c len : ℕ) → 0 < n → n * c ≤ len → c ≤ pieces_of n len
 cut_count_least n c len some whole = (le-div_iff_mul-le {k = n} {x = c} {y = len + (n - 1)} some).1 (let a : c * n ≤ len + (n - 1) = omega arith in a)
 

@@ -4,7 +4,7 @@ use Rattle.sha1.specs.Sha1.{sha1}
 use Rattle.lanes.specs.declared.words.TheConstants.{LANES}
 use Rattle.pieces.specs.declared.next_cuts.NextCuts.{NextCuts}
 
--- of these digests so many are left, and they are those of the first cuts of these bytes
+-- of these digests this many are left, and they are those of the first cuts of these bytes
 pub record AreOfCuts (digests : List (List ℕ)) (left size : ℕ) (bytes : List ℕ) : Type 0 where
   pub whole : left * size ≤ length bytes
   pub are : (i : ℕ) → i < left

@@ -11,8 +11,8 @@ const BLOCK: usize = 16_384;
 // The most blocks that room is asked for: 32 MiB.
 const MOST: u64 = 2048;
 
-// What there is without memory, and what room is filled by at a time: a quarter of a block, since it
-// stands on the stack.
+// What there is without memory, and what room is filled by at a time: a quarter of a block, since
+// it stands on the stack.
 const LEAST: usize = BLOCK / 4;
 
 /// A buffer through which files are read, with room for what is hashed side by side. If memory for

@@ -82,7 +82,7 @@ impl NextCuts {
     }
 }
 
-// The digests of so many cuts of this size at the front of the bytes, in the last lanes.
+// The digests of this many cuts of this size at the front of the bytes, in the last lanes.
 fn digests_of(bytes: &[u8], size: usize, count: usize) -> [[u8; 20]; LANES]
     requires some { 0 < count }
     requires few { count ≤ LANES }

@@ -193,7 +193,7 @@ impl<'a> Folder<'a> {
         }
     }
 
-    // What reads a file, so many bytes of all behind the first one.
+    // What reads a file, this many bytes of all behind the first one.
     fn source(&self, file: File, name: String, before: u64) -> Reading<'a>
         ensures { result.source.faults ≡ 0 }
     {

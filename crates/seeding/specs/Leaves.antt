@@ -31,7 +31,7 @@ pub record Pushes {N : Type 0} (old : Leaves N) (bytes : List ℕ) (new : Leaves
   pub same_length : new.tree.length ≡ old.tree.length
   pub fed : (file : List ℕ) → IsFedLeaves old file → IsFedLeaves new (file ++ bytes)
 
--- so many more bytes are within the length of the tree's files
+-- this many more bytes are within the length of the tree's files
 pub record HasRoomForBytes {N : Type 0} (l : Leaves N) (n : ℕ) : Type 0 where
   pub content : List ℕ
   pub fed : IsFedLeaves l content

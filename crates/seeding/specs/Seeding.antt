@@ -30,7 +30,7 @@ use Rattle.seeding.specs.declared.seed_fault.SeedFault.TheVariants as fault
 abbrev pub DoesNotFit : TreeEntry → Option (List ℕ) → Type 0
 DoesNotFit e content = (bytes : List ℕ) → content ≡ Some bytes → ¬ FitsTree e bytes
 
--- What was found at a path of which this is known, with so many faults: the leaves of a
+-- What was found at a path of which this is known, with this many faults: the leaves of a
 -- content that fits the tree; or a content that does not, or a fault.
 abbrev pub Finds : Option (Option (List ℕ)) → TreeEntry → Option (List Hash) → ℕ → Type 0
 Finds known e (Some leaves) faults = (faults ≡ 0) × (bytes : List ℕ) × Agrees known (Some bytes)

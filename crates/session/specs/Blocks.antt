@@ -43,7 +43,7 @@ most_blocks = 17
 abbrev pub cells_of : List (Option BlockRefusal) → List (Option BlockRefusal)
 cells_of rs = rs ++ replicate (most_blocks - length rs) None
 
--- an array holds so many refusals, and nothing behind them
+-- an array holds this many refusals, and nothing behind them
 pub record IsArrayOf (cells : List (Option BlockRefusal)) (count first : ℕ) : Type 0 where
   pub size : length cells ≡ most_blocks
   pub count_is : length (take count cells) ≡ count

@@ -54,7 +54,7 @@ abbrev pub HasBlock : Description → ℕ → ℕ → Type 0
 HasBlock d file b =
     (f : FileEntry) × (slice_get d.files file ≡ Some f) × (b < block_count f.length)
 
--- so many bytes are k blocks of the torrent's file, from this block on
+-- this many bytes are k blocks of the torrent's file, from this block on
 abbrev pub HasRun : Description → ℕ → ℕ → ℕ → ℕ → Type 0
 HasRun d file b size k =
     (f : FileEntry) × (slice_get d.files file ≡ Some f) × IsBlockRun f.length b size k

@@ -28,7 +28,7 @@ piece_span piece_length len = min (piece_layer piece_length) (tree_height len)
 
 -- ---- the leaves of a piece
 
--- so many leaves of tree n, from one on, are those of a piece of its files
+-- this many leaves of tree n, from one on, are those of a piece of its files
 abbrev pub HasPiece : SessionSeen → ℕ → ℕ → ℕ → Type 0
 HasPiece S n first count = (t : TreeRoot) → slice_get (roots S) n ≡ Some t
     → IsLeafRow t.length first (piece_span S.torrent.piece_length t.length) count

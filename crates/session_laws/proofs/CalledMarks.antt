@@ -51,7 +51,7 @@ insert-marks marked c b here =
       | inr before ↦ inr before
     ]
 
--- so many more are marked
+-- this many more are marked
 run-marks-of : (marked : Marked) (first count b : ℕ) → leaves.contains (mark_run marked first count) b ≡ true
     → ((j : ℕ) × (j < count) × (first + j ≡ b)) ⊎ (leaves.contains marked b ≡ true)
 run-marks-of marked first zero b here = inr here

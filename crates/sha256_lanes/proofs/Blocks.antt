@@ -30,7 +30,7 @@ block_after start m n h k held next =
     ∙ ap (λ i. compress (hash_after start m n) (take 64 (drop i m))) at
     ∙ sym (hash_after_next start m n)
 
--- a bit, so many zeros, and a length
+-- a bit, this many zeros, and a length
 abbrev ending : ℕ → ℕ → List ℕ
 ending z bits = 0x80 ∷ replicate z 0 ++ to_be_bytes w64 bits
 
@@ -47,7 +47,7 @@ length_of_end z bits =
 length-padding : (n : ℕ) → length (padding n) ≡ 1 + ((119 - n % 64) % 64 + 8)
 length-padding n = length_of_end ((119 - n % 64) % 64) (n * 8 % 2 ^ 64)
 
--- the message and its padding are so many blocks
+-- the message and its padding are this many blocks
 blocks_of : (m : List ℕ) → length (padded_message m) / 64 ≡ block_count (length m)
 blocks_of m =
     let sum : length (padded_message m) ≡ length m + length (padding (length m)) = length-append m (padding (length m)) in

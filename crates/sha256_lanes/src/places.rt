@@ -86,7 +86,7 @@ fn take_whole_blocks(
     compress(state, words);
 }
 
-// Takes a block of each message that has so many, padding included.
+// Takes a block of each message that has this many, padding included.
 #[inline(always)]
 fn take_blocks(
     state: &mut State,

@@ -75,7 +75,7 @@ count-zero p (suc n) h =
     let here : one_if (p n) ≡ 0 = ap (λ b. one_if b) (h n (omega arith)) in
     omega arith
 
--- only so many can pass
+-- only this many can pass
 pub count-at_most : (p : ℕ → Bool) (n : ℕ) → count_below p n ≤ n
 count-at_most p zero = omega arith
 count-at_most p (suc n) =

@@ -7,7 +7,7 @@ use crate::device::DeviceFault;
 /// Which of the calls to come is to fail, and how many have failed.
 #[derive(Drop)]
 pub struct Calls {
-    /// So many further calls succeed, and the one after them fails. With none all succeed.
+    /// This many further calls succeed, and the one after them fails. With none all succeed.
     pub before_fault: Option<u64>,
     /// How many calls were answered with a fault, modulo 2^64.
     pub faults: u64,
@@ -27,7 +27,7 @@ impl Calls {
         }
     }
 
-    /// So many further calls succeed, and the one after them fails. Later ones succeed.
+    /// This many further calls succeed, and the one after them fails. Later ones succeed.
     pub fn fail_after(&mut self, calls: u64)
         ensures fails { self.new.before_fault ≡ Some calls }
         ensures faults { self.new.faults ≡ self.old.faults }

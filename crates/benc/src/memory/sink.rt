@@ -24,7 +24,7 @@ pub struct MemSink {
 impl MemSink {
     ghost use Rattle.benc.specs.MemDevices.{most_taken, room_left, sink_calls};
 
-    /// A sink with room for so many bytes, whose calls take as many bytes as there is room for.
+    /// A sink with room for this many bytes, whose calls take as many bytes as there is room for.
     pub fn with_room(alloc: Global, room: usize) -> Result<MemSink, AllocError>
         ensures room { IfOk result (λ s. room_left s ≡ room) }
         ensures bound { IfOk result (λ s. most_taken s ≡ 2 ^ 64 - 1) }
@@ -42,7 +42,7 @@ impl MemSink {
         })
     }
 
-    /// From here on a call takes at most so many bytes. Condition: they are one at least.
+    /// From here on a call takes at most this many bytes. Condition: they are one at least.
     pub fn at_most(mut self, count: usize) -> MemSink
         requires { 0 < count }
         ensures bound { most_taken result ≡ count }
@@ -54,7 +54,7 @@ impl MemSink {
         self
     }
 
-    /// So many further calls succeed, flushes among them, and the one after them fails and takes
+    /// This many further calls succeed, flushes among them, and the one after them fails and takes
     /// nothing. Later ones succeed.
     pub fn fails_after(mut self, calls: u64) -> MemSink
         ensures fails { (sink_calls result).before_fault ≡ Some calls }

@@ -35,7 +35,7 @@ impl<'a> MemSource<'a> {
         }
     }
 
-    /// From here on a call gives at most so many bytes. Condition: they are one at least.
+    /// From here on a call gives at most this many bytes. Condition: they are one at least.
     pub fn at_most(mut self, count: usize) -> MemSource<'a>
         requires { 0 < count }
         ensures bound { most_given result ≡ count }
@@ -47,7 +47,7 @@ impl<'a> MemSource<'a> {
         self
     }
 
-    /// So many further calls succeed, and the one after them fails and gives nothing. Later ones
+    /// This many further calls succeed, and the one after them fails and gives nothing. Later ones
     /// succeed.
     pub fn fails_after(mut self, calls: u64) -> MemSource<'a>
         ensures fails { (source_calls result).before_fault ≡ Some calls }

@@ -26,7 +26,7 @@ impl NewClaims {
     ghost use Rattle.partial_tree.specs.Evidence.{IsEmpty, IsNoted, Grows, AreClaims};
     ghost use Rattle.node_maps.specs.Places.{PartialTree};
 
-    /// Nothing yet, with room for so many claims, or for none if memory is refused.
+    /// Nothing yet, with room for this many claims, or for none if memory is refused.
     pub(crate) fn new(alloc: Global, most: usize) -> NewClaims
         ensures claims { result.claims.items ≡ [] }
         ensures room { vec_capacity result.claims ≤ most }

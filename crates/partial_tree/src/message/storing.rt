@@ -19,7 +19,7 @@ use hashtree::NoMemory;
 use node_maps::NodeMap;
 use std::alloc::Global;
 
-// The longest base range has so many places.
+// The longest base range has this many places.
 const MOST_ASKED: usize = 8192;
 
 // The height of the highest tree.

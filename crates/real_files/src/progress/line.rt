@@ -11,7 +11,7 @@ use unicode_width::{UnicodeWidthChar, UnicodeWidthStr};
 /// A text in place. What does not fit is left out.
 pub(crate) type Text = ArrayString<2048>;
 
-// A name is looked at from so many bytes before its end.
+// A name is looked at from this many bytes before its end.
 const LOOKED_AT: usize = 512;
 
 /// How far a command has come.
@@ -102,7 +102,7 @@ pub(crate) fn line_of(figures: &Figures, name: &str, columns: usize) -> Text
     Text::new()
 }
 
-// Figures, and what follows of a name in so many columns.
+// Figures, and what follows of a name in this many columns.
 fn with_name(figures: &Text, name: &str, columns: usize) -> Text {
     let mut text = *figures;
     let _ = text.try_push_str(": ");
@@ -117,7 +117,7 @@ fn with_name(figures: &Text, name: &str, columns: usize) -> Text {
     text
 }
 
-// The longest end of a text that takes at most so many columns.
+// The longest end of a text that takes at most this many columns.
 fn end_of(text: &str, columns: usize) -> &str {
     let mut rest = text.chars();
     'starts: for _ in 0..text.len() {

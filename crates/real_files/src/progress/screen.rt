@@ -6,7 +6,7 @@ use std::io::Write;
 use std::time::{Duration, Instant};
 use unicode_width::UnicodeWidthStr;
 
-// The clock is read once in so many bytes.
+// The clock is read once in this many bytes.
 const BYTES_BETWEEN_LOOKS: u64 = 65_536;
 
 // The line is drawn at most ten times a second.
@@ -41,7 +41,7 @@ struct Screen {
 }
 
 impl Progress {
-    /// No line yet, for a command that reads so many bytes in all if that is known.
+    /// No line yet, for a command that reads this many bytes in all if that is known.
     pub fn new(rt: &HostRuntime, all: Option<u64>) -> Progress {
         Progress {
             rt: *rt,
@@ -50,8 +50,8 @@ impl Progress {
         }
     }
 
-    /// Takes note of so many bytes more of the file with this name, and of the place in all bytes.
-    /// It draws the line anew if it is time to.
+    /// Takes note of this many bytes more of the file with this name, and of the place in all
+    /// bytes. It draws the line anew if it is time to.
     pub fn note(&self, count: usize, place: u64, name: &str) {
         let count = count as u64;
         self.read.set(self.read.get().saturating_add(count));
@@ -68,7 +68,7 @@ impl Progress {
         }
     }
 
-    /// From now on so many bytes are to be read in all.
+    /// From now on this many bytes are to be read in all.
     pub fn expect(&self, all: u64) {
         if let Some(screen) = &self.screen {
             screen.all.set(Some(all));

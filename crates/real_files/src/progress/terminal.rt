@@ -3,7 +3,7 @@ use std::env::Env;
 use std::io::IsTerminal;
 use std::str;
 
-// So many if the environment does not say how many there are: few terminals are narrower.
+// This many if the environment does not say how many there are: few terminals are narrower.
 const USUAL_COLUMNS: usize = 45;
 
 // More are left empty.

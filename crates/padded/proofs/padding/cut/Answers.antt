@@ -4,7 +4,7 @@ use Rattle.opening.specs.Description.{Description}
 use Rattle.padded.specs.Padding.{HasLeft, IsCut, IsPadded, IsPaddedTo}
 use Rattle.padded.proofs.padding.cut.Goals as goal
 
--- at a place from which so many bytes are left, those that are the file's
+-- at a place from which this many bytes are left, those that are the file's
 cut_of : (t : Description) (index begin left : ℕ) (bytes cut : List ℕ) → HasLeft t index begin left
     → ((other : ℕ) → HasLeft t index begin other → Some left ≡ Some other)
     → (IsPaddedTo bytes left × (cut ≡ take left bytes)) ⊎ ((¬ IsPaddedTo bytes left) × (cut ≡ bytes)) → IsCut t index begin bytes cut
