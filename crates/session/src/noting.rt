@@ -75,7 +75,7 @@ impl<'t, N: NodeMap> Session<'t, N> {
     /// named. Only our own requests open an ask, and it stays open until its base range is known. A
     /// refusal leaves the session unchanged.
     pub fn step_noted(&mut self, direction: Direction, message: &Message<'_>) -> Verdict
-        ensures verified_is_the_block { IsSafeNotedStep self.old (direction, message.now) result
+        ensures is_safe { IsSafeNotedStep self.old (direction, message.now) result
             self.new }
     {
         self.closed_trees();
@@ -125,7 +125,7 @@ impl<'t, N: NodeMap> Session<'t, N> {
         &mut self,
         messages: &[(Direction, Message<'_>)],
     ) -> Result<Vec<Verdict>, NoMemory>
-        ensures verified_is_the_block { IfOk result
+        ensures is_safe { IfOk result
             (λ vs. Chain IsSafeNotedStep self.old messages.now vs.items self.new) }
         ensures gaps { IfOk result (λ _. HasNoMoreGaps self.old self.new) }
         ensures keeps_open { IfOk result (λ _. KeepsOpen self.old self.new) }

@@ -21,7 +21,7 @@ impl<'t, N: NodeMap> Session<'t, N> {
     /// true answer to what `want` gives now leaves exactly one gap fewer, unless memory is refused
     /// for it or a collision is named. A refusal leaves content and marks as they were.
     pub fn step(&mut self, message: &Message<'_>) -> Verdict
-        ensures verified_is_the_block { IsSafeStep self.old message.now result self.new }
+        ensures is_safe { IsSafeStep self.old message.now result self.new }
     {
         self.closed_trees();
         self.distinct_roots();
@@ -67,7 +67,7 @@ impl<'t, N: NodeMap> Session<'t, N> {
     /// that answer or two inputs with one digest are named. Room for the verdicts is made first; if
     /// memory is refused for it, the session is unchanged. No messages take no memory.
     pub fn run(&mut self, messages: &[Message<'_>]) -> Result<Vec<Verdict>, NoMemory>
-        ensures verified_is_the_block { IfOk result
+        ensures is_safe { IfOk result
             (λ vs. Chain IsSafeStep self.old messages.now vs.items self.new) }
         ensures gaps { IfOk result (λ _. HasNoMoreGaps self.old self.new) }
         ensures round { IfOk result

@@ -12,15 +12,15 @@ returns c =
     let before : S ≡ c.args.self.now =
     c.resume-session.ensures ∙ ap (resumed c.self.inside.torrent) c.replace-paused.ensures.value ∙ c.self.view_is in
     let torrent : S'.torrent ≡ c.self.inside.torrent =
-    step-torrent S c.args.message.now verdict S' c.step-verdict.ensures.verified_is_the_block.allowed
+    step-torrent S c.args.message.now verdict S' c.step-verdict.ensures.is_safe.allowed
     ∙ ap (λ (s : SessionSeen). s.torrent) c.resume-session.ensures in
     let later : S' ≡ resumed c.self.inside.torrent c.pause-kept.result =
     sym c.pause-kept.ensures.same ∙ ap (λ d. resumed d c.pause-kept.result) torrent in
-    subst₂ (λ s s'. IsSafeStep s c.args.message.now verdict s') before later c.step-verdict.ensures.verified_is_the_block
+    subst₂ (λ s s'. IsSafeStep s c.args.message.now verdict s') before later c.step-verdict.ensures.is_safe
 
 pub invariant_of-self : goal.invariant_of-self
 invariant_of-self c = subst (λ d. IsOf d c.pause-kept.result)
     (step-torrent c.resume-session.result c.args.message.now c.step-verdict.result c.step-verdict.new.self
-    c.step-verdict.ensures.verified_is_the_block.allowed
+    c.step-verdict.ensures.is_safe.allowed
     ∙ ap (λ (s : SessionSeen). s.torrent) c.resume-session.ensures)
     c.pause-kept.ensures.fits

@@ -16,14 +16,14 @@ messages-preserved g c = record {
       (sym c.push_reserved.ensures.items)
       (Chain-next IsSafeStep c.args.self.now c.messages.self c.step.new.self c.args.messages.now c.messages.message-index c.messages.verdicts.items _
       c.step.result
-      c.messages-test.true c.messages.invariant.run c.step.ensures.verified_is_the_block);
+      c.messages-test.true c.messages.invariant.run c.step.ensures.is_safe);
   hashes = All-take-more c.args.messages.now c.messages.message-index _ c.messages-test.true c.messages.invariant.hashes c.has_hashes.ensures;
   stated = omega (arith, c.push_reserved.ensures.len, c.messages.invariant.stated);
   room = omega (arith, c.push_reserved.ensures.capacity, c.messages.invariant.room);
 }
 
-pub returns-clause-verified_is_the_block : goal.returns-clause-verified_is_the_block
-returns-clause-verified_is_the_block g c =
+pub returns-clause-is_safe : goal.returns-clause-is_safe
+returns-clause-is_safe g c =
     let whole : take c.messages.message-index c.args.messages.now ≡ c.args.messages.now = take_all c.messages.message-index c.args.messages.now
     c.messages-test.false in
     subst (λ (ms : List Message). Chain IsSafeStep c.args.self.now ms c.messages.verdicts.items c.messages.self) whole c.messages.invariant.run
@@ -32,7 +32,7 @@ pub returns-clause-gaps : goal.returns-clause-gaps
 returns-clause-gaps g c =
     run-gaps c.args.self.now c.args.messages.now c.messages.verdicts.items c.messages.self
     (Chain-weaker IsSafeStep Step (λ S m v S' s. s.allowed) c.args.self.now c.args.messages.now c.messages.verdicts.items c.messages.self
-    (returns-clause-verified_is_the_block g c))
+    (returns-clause-is_safe g c))
 
 pub returns-clause-round : goal.returns-clause-round
 returns-clause-round g c =
@@ -41,4 +41,4 @@ returns-clause-round g c =
     round-fewer c.args.self.now c.distinct_roots.ensures c.args.messages.now c.messages.verdicts.items c.messages.self c.closed_trees.ensures
     (subst (All HasHashes) whole c.messages.invariant.hashes)
     (Chain-weaker IsSafeStep Step (λ S m v S' s. s.allowed) c.args.self.now c.args.messages.now c.messages.verdicts.items c.messages.self
-    (returns-clause-verified_is_the_block g c))
+    (returns-clause-is_safe g c))

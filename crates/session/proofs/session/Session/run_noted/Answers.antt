@@ -17,14 +17,14 @@ messages-preserved g c = record {
       c.step_noted.new.self) (sym c.push_reserved.ensures.items)
       (Chain-next IsSafeNotedStep c.args.self.now c.messages.self c.step_noted.new.self c.args.messages.now c.messages.direction-index c.messages.verdicts.items
       _ c.step_noted.result
-      c.messages-test.true c.messages.invariant.run c.step_noted.ensures.verified_is_the_block);
+      c.messages-test.true c.messages.invariant.run c.step_noted.ensures.is_safe);
   hashes = All-take-noted c.args.messages.now c.messages.direction-index _ c.messages-test.true c.messages.invariant.hashes c.has_hashes.ensures;
   stated = omega (arith, c.push_reserved.ensures.len, c.messages.invariant.stated);
   room = omega (arith, c.push_reserved.ensures.capacity, c.messages.invariant.room);
 }
 
-pub returns-clause-verified_is_the_block : goal.returns-clause-verified_is_the_block
-returns-clause-verified_is_the_block g c =
+pub returns-clause-is_safe : goal.returns-clause-is_safe
+returns-clause-is_safe g c =
     let whole : take c.messages.direction-index c.args.messages.now ≡ c.args.messages.now = take_all c.messages.direction-index c.args.messages.now
     c.messages-test.false in
     subst (λ (ms : List (Directed Message)). Chain IsSafeNotedStep c.args.self.now ms c.messages.verdicts.items c.messages.self) whole c.messages.invariant.run
@@ -33,13 +33,13 @@ pub returns-clause-gaps : goal.returns-clause-gaps
 returns-clause-gaps g c =
     run-noted-gaps c.args.self.now c.args.messages.now c.messages.verdicts.items c.messages.self
     (Chain-weaker IsSafeNotedStep NotedStep (λ S m v S' s. s.allowed) c.args.self.now c.args.messages.now c.messages.verdicts.items c.messages.self
-    (returns-clause-verified_is_the_block g c))
+    (returns-clause-is_safe g c))
 
 pub returns-clause-keeps_open : goal.returns-clause-keeps_open
 returns-clause-keeps_open g c =
     run-noted-open c.args.self.now c.args.messages.now c.messages.verdicts.items c.messages.self
     (Chain-weaker IsSafeNotedStep NotedStep (λ S m v S' s. s.allowed) c.args.self.now c.args.messages.now c.messages.verdicts.items c.messages.self
-    (returns-clause-verified_is_the_block g c))
+    (returns-clause-is_safe g c))
 
 pub returns-clause-round : goal.returns-clause-round
 returns-clause-round g c =
@@ -48,4 +48,4 @@ returns-clause-round g c =
     noted-round-fewer c.args.self.now c.distinct_roots.ensures c.args.messages.now c.messages.verdicts.items c.messages.self c.closed_trees.ensures
     (subst (All HasDirectedHashes) whole c.messages.invariant.hashes)
     (Chain-weaker IsSafeNotedStep NotedStep (λ S m v S' s. s.allowed) c.args.self.now c.args.messages.now c.messages.verdicts.items c.messages.self
-    (returns-clause-verified_is_the_block g c))
+    (returns-clause-is_safe g c))

@@ -3,6 +3,6 @@ use Rattle.session.proofs.session.Session.step.Goals as goal
 
 pub returns : goal.returns
 returns g c = record {
-  verified_is_the_block = safe_step c.args.self.now c.closed_trees.ensures c.distinct_roots.ensures c.args.message.now c.take.result c.take.new.self
+  is_safe = safe_step c.args.self.now c.closed_trees.ensures c.distinct_roots.ensures c.args.message.now c.take.result c.take.new.self
       c.take.ensures;
 }

@@ -7,7 +7,7 @@ use Rattle.session.proofs.session.Session.step_noted.Goals as goal
 
 pub returns-in-In : goal.returns-in-In
 returns-in-In g c = record {
-  verified_is_the_block = subst (λ (d : Direction). IsSafeNotedStep c.args.self.now (d, c.args.message.now) c.take_in.result c.take_in.new.self)
+  is_safe = subst (λ (d : Direction). IsSafeNotedStep c.args.self.now (d, c.args.message.now) c.take_in.result c.take_in.new.self)
       (sym c.in-In.is)
       (safe_noted_step c.args.self.now c.closed_trees.ensures c.distinct_roots.ensures (In, c.args.message.now) c.take_in.result c.take_in.new.self
       c.take_in.ensures);
@@ -15,6 +15,6 @@ returns-in-In g c = record {
 
 pub returns-in-Out : goal.returns-in-Out
 returns-in-Out g c = record {
-  verified_is_the_block = subst (λ (d : Direction). IsSafeNotedStep c.args.self.now (d, c.args.message.now) c.send.result c.send.new.self) (sym c.in-Out.is)
+  is_safe = subst (λ (d : Direction). IsSafeNotedStep c.args.self.now (d, c.args.message.now) c.send.result c.send.new.self) (sym c.in-Out.is)
       (safe_noted_step c.args.self.now c.closed_trees.ensures c.distinct_roots.ensures (Out, c.args.message.now) c.send.result c.send.new.self c.send.ensures);
 }
