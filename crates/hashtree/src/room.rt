@@ -14,7 +14,7 @@ use crate::NoMemory;
 pub fn reserve_thrifty<T: Drop>(list: &mut Vec<T>) -> Result<(), NoMemory>
     ensures items { list.new.items ≡ list.old.items }
     ensures count { vec_len list.new ≡ vec_len list.old }
-    ensures ok { OnOk result (vec_len list.new < vec_capacity list.new) }
+    ensures for_one { OnOk result (vec_len list.new < vec_capacity list.new) }
     ensures memory { OnErr result (vec_capacity list.old ≤ vec_len list.old) }
     ensures refused { OnErr result (vec_capacity list.new ≡ vec_capacity list.old) }
     ensures capacity { vec_capacity list.old ≤ vec_capacity list.new }

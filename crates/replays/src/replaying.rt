@@ -45,12 +45,12 @@ pub fn replay<N: NodeMap, R: Source, W: Sink, A: Sink>(
     report: &mut W,
     answers: Option<&mut A>,
 ) -> Result<Outcome, WriteFault>
-    ensures ok { IfOk result (IsReport plain
+    ensures report { IfOk result (IsReport plain
         (replay_seen false (R.seen source.old) session.old tt (W.seen report.old)
         (sink_before A.seen answers.entry))
         (replay_seen false (R.seen source.new) session.new tt (W.seen report.new)
         (sink_after A.seen answers.exit))) }
-    ensures err { OnErr result (IsCutReport plain
+    ensures cut_report { OnErr result (IsCutReport plain
         (replay_seen false (R.seen source.old) session.old tt (W.seen report.old)
         (sink_before A.seen answers.entry))
         (replay_seen false (R.seen source.new) session.new tt (W.seen report.new)
@@ -82,12 +82,12 @@ pub fn replay_as<N: NodeMap, R: Source, W: Sink, A: Sink>(
     answers: Option<&mut A>,
     cuts: bool,
 ) -> Result<Outcome, WriteFault>
-    ensures ok { IfOk result (IsReport plain
+    ensures report { IfOk result (IsReport plain
         (replay_seen cuts (R.seen source.old) session.old tt (W.seen report.old)
         (sink_before A.seen answers.entry))
         (replay_seen cuts (R.seen source.new) session.new tt (W.seen report.new)
         (sink_after A.seen answers.exit))) }
-    ensures err { OnErr result (IsCutReport plain
+    ensures cut_report { OnErr result (IsCutReport plain
         (replay_seen cuts (R.seen source.old) session.old tt (W.seen report.old)
         (sink_before A.seen answers.entry))
         (replay_seen cuts (R.seen source.new) session.new tt (W.seen report.new)
@@ -117,12 +117,12 @@ pub fn replay_onto<N: NodeMap, R: Source, L: LineSink, A: Sink>(
     answers: Option<&mut A>,
     cuts: bool,
 ) -> Result<Outcome, WriteFault>
-    ensures ok { IfOk result (IsReport (plain_as L.spelled)
+    ensures report { IfOk result (IsReport (plain_as L.spelled)
         (replay_seen cuts (R.seen source.old) session.old tt (L.seen report.old)
         (sink_before A.seen answers.entry))
         (replay_seen cuts (R.seen source.new) session.new tt (L.seen report.new)
         (sink_after A.seen answers.exit))) }
-    ensures err { OnErr result (IsCutReport (plain_as L.spelled)
+    ensures cut_report { OnErr result (IsCutReport (plain_as L.spelled)
         (replay_seen cuts (R.seen source.old) session.old tt (L.seen report.old)
         (sink_before A.seen answers.entry))
         (replay_seen cuts (R.seen source.new) session.new tt (L.seen report.new)
@@ -154,12 +154,12 @@ pub(crate) fn replay_reader<N: NodeMap, K: Telling, R: Source, L: LineSink, B: A
     requires open { IsOpen (frame_reader reader.old) }
     requires fresh { form_of reader.old ≡ None }
     ensures source { KeepsSource (frame_reader reader.old) (frame_reader reader.new) }
-    ensures ok { IfOk result (IsReport (K.teller L.spelled)
+    ensures report { IfOk result (IsReport (K.teller L.spelled)
         (replay_seen cuts (R.seen (source_of reader.old)) session.old (K.kept keeper.old)
         (L.seen report.old) (B.seen answers.old))
         (replay_seen cuts (R.seen (source_of reader.new)) session.new (K.kept keeper.new)
         (L.seen report.new) (B.seen answers.new))) }
-    ensures err { OnErr result (IsCutReport (K.teller L.spelled)
+    ensures cut_report { OnErr result (IsCutReport (K.teller L.spelled)
         (replay_seen cuts (R.seen (source_of reader.old)) session.old (K.kept keeper.old)
         (L.seen report.old) (B.seen answers.old))
         (replay_seen cuts (R.seen (source_of reader.new)) session.new (K.kept keeper.new)
@@ -184,12 +184,12 @@ fn replay_frames<N: NodeMap, K: Telling, R: Source, L: LineSink, B: Answering>(
     requires fresh { form_of reader.old ≡ None }
     requires room { HasRoom (frame_reader reader.old) }
     ensures source { KeepsSource (frame_reader reader.old) (frame_reader reader.new) }
-    ensures ok { IfOk result (IsReport (K.teller L.spelled)
+    ensures report { IfOk result (IsReport (K.teller L.spelled)
         (replay_seen cuts (R.seen (source_of reader.old)) session.old (K.kept keeper.old)
         (L.seen report.old) (B.seen answers.old))
         (replay_seen cuts (R.seen (source_of reader.new)) session.new (K.kept keeper.new)
         (L.seen report.new) (B.seen answers.new))) }
-    ensures err { OnErr result (IsCutReport (K.teller L.spelled)
+    ensures cut_report { OnErr result (IsCutReport (K.teller L.spelled)
         (replay_seen cuts (R.seen (source_of reader.old)) session.old (K.kept keeper.old)
         (L.seen report.old) (B.seen answers.old))
         (replay_seen cuts (R.seen (source_of reader.new)) session.new (K.kept keeper.new)

@@ -35,12 +35,12 @@ pub fn replay_pieces<N: NodeMap, R: Source, W: Sink, A: Sink>(
     answers: Option<&mut A>,
     cuts: bool,
 ) -> Result<Outcome, WriteFault>
-    ensures ok { IfOk result (IsReport by_pieces
+    ensures report { IfOk result (IsReport by_pieces
         (replay_seen cuts (R.seen source.old) session.old holdings.old (W.seen report.old)
         (sink_before A.seen answers.entry))
         (replay_seen cuts (R.seen source.new) session.new holdings.new (W.seen report.new)
         (sink_after A.seen answers.exit))) }
-    ensures err { OnErr result (IsCutReport by_pieces
+    ensures cut_report { OnErr result (IsCutReport by_pieces
         (replay_seen cuts (R.seen source.old) session.old holdings.old (W.seen report.old)
         (sink_before A.seen answers.entry))
         (replay_seen cuts (R.seen source.new) session.new holdings.new (W.seen report.new)
@@ -64,12 +64,12 @@ pub fn replay_pieces_onto<N: NodeMap, R: Source, L: LineSink, A: Sink>(
     answers: Option<&mut A>,
     cuts: bool,
 ) -> Result<Outcome, WriteFault>
-    ensures ok { IfOk result (IsReport (by_pieces_as L.spelled)
+    ensures report { IfOk result (IsReport (by_pieces_as L.spelled)
         (replay_seen cuts (R.seen source.old) session.old holdings.old (L.seen report.old)
         (sink_before A.seen answers.entry))
         (replay_seen cuts (R.seen source.new) session.new holdings.new (L.seen report.new)
         (sink_after A.seen answers.exit))) }
-    ensures err { OnErr result (IsCutReport (by_pieces_as L.spelled)
+    ensures cut_report { OnErr result (IsCutReport (by_pieces_as L.spelled)
         (replay_seen cuts (R.seen source.old) session.old holdings.old (L.seen report.old)
         (sink_before A.seen answers.entry))
         (replay_seen cuts (R.seen source.new) session.new holdings.new (L.seen report.new)

@@ -52,22 +52,22 @@ frames-preserved g c = record {
       next.5.fault);
 }
 
-pub returns-in-Err-Write-clause-err : goal.returns-in-Err-Write-clause-err
-returns-in-Err-Write-clause-err g c =
+pub returns-in-Err-Write-clause-cut_report : goal.returns-in-Err-Write-clause-cut_report
+returns-in-Err-Write-clause-cut_report g c =
     let next = rw c.in-Err-Write.field-0-is at c.in-Err-Write.ensures.next in
     let new = replay_seen c.args.cuts (g.R.Source.seen c.next_reply.new.reader.source.now) c.next_reply.new.session
     (g.K.Telling.kept c.next_reply.new.keeper) (g.L.LineSink.seen c.next_reply.new.report) (g.B.Answering.seen c.frames.answers) in
     cut_in_line new c.frames.invariant.so_far next.2 next.3 refl
 
-pub returns-in-Err-Write-answer-clause-err : goal.returns-in-Err-Write-answer-clause-err
-returns-in-Err-Write-answer-clause-err g c =
+pub returns-in-Err-Write-answer-clause-cut_report : goal.returns-in-Err-Write-answer-clause-cut_report
+returns-in-Err-Write-answer-clause-cut_report g c =
     let next = c.in-Ok.ensures.next in
     let new = replay_seen c.args.cuts (g.R.Source.seen c.next_reply.new.reader.source.now) c.next_reply.new.session
     (g.K.Telling.kept c.next_reply.new.keeper) (g.L.LineSink.seen c.next_reply.new.report) (g.B.Answering.seen c.answer.new.self) in
     cut_in_answer new c.frames.invariant.so_far next.3 next.4 (rw c.in-Err-Write-answer.field-0-is at c.in-Err-Write-answer.ensures)
 
-pub returns-in-Err-NoMemory-clause-ok : goal.returns-in-Err-NoMemory-clause-ok
-returns-in-Err-NoMemory-clause-ok g c =
+pub returns-in-Err-NoMemory-clause-report : goal.returns-in-Err-NoMemory-clause-report
+returns-in-Err-NoMemory-clause-report g c =
     let next = c.in-Ok.ensures.next in
     let after = replay_seen c.args.cuts (g.R.Source.seen c.next_reply.new.reader.source.now) c.next_reply.new.session
     (g.K.Telling.kept c.next_reply.new.keeper) (g.L.LineSink.seen c.next_reply.new.report) (g.B.Answering.seen c.answer.new.self) in
@@ -79,8 +79,8 @@ returns-in-Err-NoMemory-clause-ok g c =
     (rw c.in-Err-NoMemory.field-0-is at c.in-Err-NoMemory.ensures) next.5.refused next.5.no_memory)
     c.end_replay-in-Err-NoMemory.ensures.wrote c.end_replay-in-Err-NoMemory.ensures.outcome
 
-pub returns-in-Err-NoMemory-clause-err : goal.returns-in-Err-NoMemory-clause-err
-returns-in-Err-NoMemory-clause-err g c =
+pub returns-in-Err-NoMemory-clause-cut_report : goal.returns-in-Err-NoMemory-clause-cut_report
+returns-in-Err-NoMemory-clause-cut_report g c =
     let next = c.in-Ok.ensures.next in
     let after = replay_seen c.args.cuts (g.R.Source.seen c.next_reply.new.reader.source.now) c.next_reply.new.session
     (g.K.Telling.kept c.next_reply.new.keeper) (g.L.LineSink.seen c.next_reply.new.report) (g.B.Answering.seen c.answer.new.self) in
@@ -92,8 +92,8 @@ returns-in-Err-NoMemory-clause-err g c =
     (rw c.in-Err-NoMemory.field-0-is at c.in-Err-NoMemory.ensures) next.5.refused next.5.no_memory)
     c.end_replay-in-Err-NoMemory.ensures.wrote
 
-pub returns-in-Err-Ended-clause-ok : goal.returns-in-Err-Ended-clause-ok
-returns-in-Err-Ended-clause-ok g c =
+pub returns-in-Err-Ended-clause-report : goal.returns-in-Err-Ended-clause-report
+returns-in-Err-Ended-clause-report g c =
     let next = rw c.in-Err-Ended.field-0-is at c.in-Err-Ended.ensures.next in
     let here = replay_seen c.args.cuts (g.R.Source.seen c.next_reply.new.reader.source.now) c.next_reply.new.session
     (g.K.Telling.kept c.next_reply.new.keeper) (g.L.LineSink.seen c.next_reply.new.report) (g.B.Answering.seen c.frames.answers) in
@@ -103,8 +103,8 @@ returns-in-Err-Ended-clause-ok g c =
     (in_end_here here c.next_reply.new.outcome (in_end_of_record c.frames.invariant.so_far next.0 next.1) next.2 refl next.3)
     c.end_replay.ensures.wrote c.end_replay.ensures.outcome
 
-pub returns-in-Err-Ended-clause-err : goal.returns-in-Err-Ended-clause-err
-returns-in-Err-Ended-clause-err g c =
+pub returns-in-Err-Ended-clause-cut_report : goal.returns-in-Err-Ended-clause-cut_report
+returns-in-Err-Ended-clause-cut_report g c =
     let next = rw c.in-Err-Ended.field-0-is at c.in-Err-Ended.ensures.next in
     let here = replay_seen c.args.cuts (g.R.Source.seen c.next_reply.new.reader.source.now) c.next_reply.new.session
     (g.K.Telling.kept c.next_reply.new.keeper) (g.L.LineSink.seen c.next_reply.new.report) (g.B.Answering.seen c.frames.answers) in

@@ -3,8 +3,8 @@ use Rattle.replays.specs.Replay.{replay_seen}
 use Rattle.replays.proofs.ReplayEnds.{in_end_at_once, report_cut, report_ended}
 use Rattle.replays.proofs.replaying.replay_reader.Goals as goal
 
-pub returns-in-Err-clause-ok : goal.returns-in-Err-clause-ok
-returns-in-Err-clause-ok g c =
+pub returns-in-Err-clause-report : goal.returns-in-Err-clause-report
+returns-in-Err-clause-report g c =
     let old = replay_seen c.args.cuts (g.R.Source.seen c.args.reader.now.source.now) c.args.session.now (g.K.Telling.kept c.args.keeper.now)
     (g.L.LineSink.seen c.args.report.now)
     (g.B.Answering.seen c.args.answers.now) in
@@ -17,8 +17,8 @@ returns-in-Err-clause-ok g c =
     c.default.ensures.1.0)
     c.end_replay.ensures.wrote c.end_replay.ensures.outcome
 
-pub returns-in-Err-clause-err : goal.returns-in-Err-clause-err
-returns-in-Err-clause-err g c =
+pub returns-in-Err-clause-cut_report : goal.returns-in-Err-clause-cut_report
+returns-in-Err-clause-cut_report g c =
     let old = replay_seen c.args.cuts (g.R.Source.seen c.args.reader.now.source.now) c.args.session.now (g.K.Telling.kept c.args.keeper.now)
     (g.L.LineSink.seen c.args.report.now)
     (g.B.Answering.seen c.args.answers.now) in

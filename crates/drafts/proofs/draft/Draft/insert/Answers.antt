@@ -44,7 +44,7 @@ returns-in_err-keep_root-clause-unchanged c =
 
 pub invariant_of-self-in_err-insert : goal.invariant_of-self-in_err-insert
 invariant_of-self-in_err-insert c =
-    absurd (false≢true (c.in_err-insert.ensures.succeeds (omega (arith, c.in_ok-reserve_thrifty.ensures.ok, c.in_ok-reserve_thrifty.ensures.count))))
+    absurd (false≢true (c.in_err-insert.ensures.succeeds (omega (arith, c.in_ok-reserve_thrifty.ensures.for_one, c.in_ok-reserve_thrifty.ensures.count))))
 
 pub invariant_of-self-2 : goal.invariant_of-self-2
 invariant_of-self-2 c =
@@ -58,7 +58,7 @@ invariant_of-self-2 c =
     c.requires.place)
     (c.in_ok-insert.ensures.items ∙ ap (λ fs. insert fs c.args.place c.args.file) c.in_ok-reserve_thrifty.ensures.items)
     (ap (λ n. i.pieces + n) c.pieces.ensures) c.in_ok-keep_root.ensures.kept c.bytes-piece_length.ensures.value).1,
-    omega (arith, (c.in_ok-insert.ensures.in_place c.in_ok-reserve_thrifty.ensures.ok).1.0, c.in_ok-insert.ensures.len,
+    omega (arith, (c.in_ok-insert.ensures.in_place c.in_ok-reserve_thrifty.ensures.for_one).1.0, c.in_ok-insert.ensures.len,
     c.reserve_thrifty.ensures.room c.self.invariant.1))
 
 pub returns-clause-added : goal.returns-clause-added
