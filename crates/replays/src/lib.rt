@@ -3,7 +3,9 @@
 
 mod answering;
 mod by_pieces;
+mod ending;
 mod entries;
+mod handing;
 mod lines_of_frame;
 mod naming;
 mod replaying;

@@ -1,28 +1,22 @@
 //! The replay of a record: its frames go to a session, and a line reports each.
-ghost use Rattle.std.specs.Prelude.{◌≡◌, ◌<◌, ◌+◌, ◌^◌, ◌++◌, ◌||◌, [], false, None, Some, IfOk, OnOk, OnErr};
-ghost use Rattle.benc.specs.Device.{WroteAndFlushed};
-ghost use Rattle.replays.specs.Answering.{Finishes, reply_to, sink_after, sink_before};
-ghost use Rattle.replays.specs.Outcome.{is_fault};
-ghost use Rattle.lines.specs.Table.{row_of};
-ghost use Rattle.replays.specs.ReplayRows.{ending_row};
-ghost use Rattle.replays.specs.Replay.{IsCutReport, IsHandledAs, IsReport, Meets, StepsBy, replay_seen};
+ghost use Rattle.std.specs.Prelude.{◌≡◌, ◌<◌, ◌+◌, ◌^◌, false, None, Some, IfOk, OnOk, OnErr};
+ghost use Rattle.replays.specs.Answering.{sink_after, sink_before};
+ghost use Rattle.replays.specs.Replay.{IsCutReport, IsReport, replay_seen};
 ghost use Rattle.replays.specs.Telling.{plain, plain_as};
 ghost use Rattle.replays.specs.TellingOf.{NextReply};
 ghost use Rattle.wire.specs.Reader.{HasRoom, IsOpen, KeepsSource};
 ghost use Rattle.wire.specs.RecordReader.{form_of, frame_reader, source_of};
-ghost use Rattle.wire.specs.Records.{form_number};
-ghost use Rattle.wire.specs.declared.form.Form.{Form as FormOf};
 
 use crate::answering::{AnswerFault, Answering, Unwanted};
-use crate::report::{Ending, FrameReport, Outcome, Reply, Response, Stop};
+use crate::ending::end_replay;
+use crate::handing::{frame_as, respond};
+use crate::report::{Ending, Outcome, Reply, Stop};
 use crate::telling::{Plain, Telling};
 use benc::{Sink, Source, WriteFault};
-use lines::{Line, LineSink, say_last};
-use opening::Torrent;
-use padded::without_padding;
-use session::{NodeMap, Session, Verdict};
+use lines::LineSink;
+use session::{NodeMap, Session};
 use std::alloc::Global;
-use wire::{Direction, Frame, FrameFault, Message, RecordReader};
+use wire::{FrameFault, RecordReader};
 
 const OUT_OF_MEMORY: Ending = Ending::Fault(FrameFault::NoMemory);
 
@@ -258,122 +252,5 @@ fn next_reply<N: NodeMap, K: Telling, R: Source, L: LineSink>(
         }
         Ok(false) => Err(Stop::Ended(Ending::End)),
         Err(fault) => Err(Stop::Ended(Ending::Fault(fault))),
-    }
-}
-
-// The frame, without the zeros behind the end of a file if these are cut away.
-fn frame_as<'a>(
-    torrent: &Torrent<'_>,
-    frame: (Direction, Frame<'a>),
-    cuts: bool,
-) -> (Direction, Frame<'a>)
-    ensures { IsHandledAs torrent.now frame.entry cuts result }
-{
-    let (direction, kept) = frame;
-    match kept {
-        Frame::Message(message) if cuts => {
-            (
-                direction,
-                Frame::Message(without_padding(torrent, &message)),
-            )
-        }
-        kept => (direction, kept),
-    }
-}
-
-// Gives the frame's message to the session: what is made of the frame.
-fn respond<N: NodeMap>(
-    session: &mut Session<'_, N>,
-    form: Option<u8>,
-    frame: (Direction, Frame<'_>),
-) -> Response
-    ensures report { (known : FormOf) → form ≡ Some (form_number known)
-        → Meets false known session.old frame.entry result.report [] session.new }
-    ensures reply { result.reply ≡ reply_to frame.entry result.report }
-{
-    let (direction, frame) = frame;
-    match frame {
-        Frame::Message(message) => {
-            let verdict = take_message(session, form, direction, &message);
-            Response {
-                report: FrameReport::Verdict(verdict),
-                reply: Reply::of(direction, &message, &verdict),
-            }
-        }
-        Frame::BadSize { id, len } => Response {
-            report: FrameReport::BadFrame { id, len },
-            reply: Reply::Nothing,
-        },
-    }
-}
-
-// The session's verdict on a message: in form 2 what we ask for is noted.
-fn take_message<N: NodeMap>(
-    session: &mut Session<'_, N>,
-    form: Option<u8>,
-    direction: Direction,
-    message: &Message<'_>,
-) -> Verdict
-    ensures { (known : FormOf) → form ≡ Some (form_number known)
-        → StepsBy known session.old (direction, message.now) result session.new }
-{
-    if form == Some(2) {
-        session.step_noted(direction, message)
-    } else {
-        session.step(message)
-    }
-}
-
-// Writes the last lines and flushes, and then flushes the answers: what the report amounts to then.
-fn end_replay<L: LineSink, K: Telling, B: Answering>(
-    report: &mut L,
-    keeper: &K,
-    answers: &mut B,
-    outcome: Outcome,
-    ending: Ending,
-) -> Result<Outcome, WriteFault>
-    ensures wrote { Finishes (L.seen report.old) (L.seen report.new)
-        (B.seen answers.old) (B.seen answers.new)
-        ((K.teller L.spelled).rest (K.kept keeper.now)
-        ++ (K.teller L.spelled).ending ending) result }
-    ensures outcome { IfOk result (λ o. o ≡ record outcome {
-      refused = outcome.refused || (K.teller L.spelled).has_rest (K.kept keeper.now);
-      fault = is_fault ending;
-    }) }
-{
-    let outcome = end_report(report, keeper, outcome, ending)?;
-    answers.finish()?;
-    Ok(outcome)
-}
-
-// Writes the last lines, and flushes: what the report amounts to then.
-fn end_report<L: LineSink, K: Telling>(
-    report: &mut L,
-    keeper: &K,
-    mut outcome: Outcome,
-    ending: Ending,
-) -> Result<Outcome, WriteFault>
-    ensures wrote { WroteAndFlushed (L.seen report.old) (L.seen report.new) result
-        ((K.teller L.spelled).rest (K.kept keeper.now) ++ (K.teller L.spelled).ending ending) }
-    ensures outcome { IfOk result (λ o. o ≡ record outcome {
-      refused = outcome.refused || (K.teller L.spelled).has_rest (K.kept keeper.now);
-      fault = is_fault ending;
-    }) }
-{
-    outcome.refused |= keeper.tell_rest(report)?;
-    say_last(&line_of_ending(ending), report)?;
-    outcome.fault = ending.is_fault();
-    Ok(outcome)
-}
-
-fn line_of_ending(ending: Ending) -> Line<'static>
-    ensures { row_of result ≡ ending_row ending }
-{
-    match ending {
-        Ending::End => Line::End,
-        Ending::Fault(FrameFault::Truncated) => Line::Fault("Truncated"),
-        Ending::Fault(FrameFault::Read) => Line::Fault("Read"),
-        Ending::Fault(FrameFault::NoMemory) => Line::Fault("NoMemory"),
-        Ending::Fault(FrameFault::BadDirection) => Line::Fault("BadDirection"),
     }
 }

@@ -1,5 +1,5 @@
 use Rattle.std.proofs.Common.{rules}
-use Rattle.replays.proofs.replaying.take_message.Goals as goal
+use Rattle.replays.proofs.handing.take_message.Goals as goal
 
 pub returns-then-eq : goal.returns-then-eq
 returns-then-eq g c = search rules

@@ -3,7 +3,7 @@ use Rattle.std.proofs.lemmas.Result.{err_from_is_err_and}
 use Rattle.benc.specs.Device.{BrokeOrUnflushed, SentAndFlushed, WroteAndFlushed}
 use Rattle.replays.proofs.Endings.{broke_early, broke_late}
 use Rattle.replays.proofs.MoreFrames.{sent_then_flushed}
-use Rattle.replays.proofs.replaying.end_report.Goals as goal
+use Rattle.replays.proofs.ending.end_report.Goals as goal
 
 pub returns-in_err-outcome-clause-wrote : goal.returns-in_err-outcome-clause-wrote
 returns-in_err-outcome-clause-wrote g c =
