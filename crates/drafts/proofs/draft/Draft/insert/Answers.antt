@@ -19,9 +19,11 @@ insert-requires c =
 
 pub invariant_of-self : goal.invariant_of-self
 invariant_of-self c =
-    let i = c.self.inside in
-    (subst (λ fs. IsKept (string_bytes i.name) i.piece_length i.hybrid fs i.roots.entries i.pieces) (sym c.in_err-reserve_thrifty.ensures.items)
-    c.self.invariant.0, c.reserve_thrifty.ensures.room c.self.invariant.1)
+    let i = c.self.inside in (
+      subst (λ fs. IsKept (string_bytes i.name) i.piece_length i.hybrid fs i.roots.entries i.pieces) (sym c.in_err-reserve_thrifty.ensures.items)
+          c.self.invariant.0,
+      c.reserve_thrifty.ensures.room c.self.invariant.1,
+    )
 
 pub returns-in_err-reserve_thrifty-clause-unchanged : goal.returns-in_err-reserve_thrifty-clause-unchanged
 returns-in_err-reserve_thrifty-clause-unchanged c =
@@ -31,9 +33,11 @@ returns-in_err-reserve_thrifty-clause-unchanged c =
 
 pub invariant_of-self-in_err-keep_root : goal.invariant_of-self-in_err-keep_root
 invariant_of-self-in_err-keep_root c =
-    let i = c.self.inside in
-    (subst₂ (λ fs es. IsKept (string_bytes i.name) i.piece_length i.hybrid fs es i.pieces) (sym c.in_ok-reserve_thrifty.ensures.items)
-    (sym c.in_err-keep_root.ensures.unchanged) c.self.invariant.0, c.reserve_thrifty.ensures.room c.self.invariant.1)
+    let i = c.self.inside in (
+      subst₂ (λ fs es. IsKept (string_bytes i.name) i.piece_length i.hybrid fs es i.pieces) (sym c.in_ok-reserve_thrifty.ensures.items)
+          (sym c.in_err-keep_root.ensures.unchanged) c.self.invariant.0,
+      c.reserve_thrifty.ensures.room c.self.invariant.1,
+    )
 
 pub returns-in_err-keep_root-clause-unchanged : goal.returns-in_err-keep_root-clause-unchanged
 returns-in_err-keep_root-clause-unchanged c =
@@ -48,18 +52,23 @@ invariant_of-self-in_err-insert c =
 
 pub invariant_of-self-2 : goal.invariant_of-self-2
 invariant_of-self-2 c =
-    let i = c.self.inside in
-    ((put_file (string_bytes i.name) i.piece_length i.hybrid i.files.items c.insert.new.self.items i.roots.entries c.keep_root.new.roots.entries i.pieces _
-    c.args.place c.args.file c.args.layer.now
-    c.bytes-piece_length.result c.self.invariant.0
-    (subst (λ d. NoneHolds (add_rows d (outline_file c.args.file))) (sym c.self.view_is) c.requires.tests) c.requires.path
-    (subst (λ d. IsGiven d (outline_file c.args.file) c.args.layer.now) (sym c.self.view_is) c.requires.fits)
-    (subst (λ (d : Outline). IsPlaceOf (outline_file c.args.file).path (map (λ (f : OutlineFile). f.path) d.files) c.args.place) (sym c.self.view_is)
-    c.requires.place)
-    (c.in_ok-insert.ensures.items ∙ ap (λ fs. insert fs c.args.place c.args.file) c.in_ok-reserve_thrifty.ensures.items)
-    (ap (λ n. i.pieces + n) c.pieces.ensures) c.in_ok-keep_root.ensures.kept c.bytes-piece_length.ensures.value).1,
-    omega (arith, (c.in_ok-insert.ensures.in_place c.in_ok-reserve_thrifty.ensures.for_one).1.0, c.in_ok-insert.ensures.len,
-    c.reserve_thrifty.ensures.room c.self.invariant.1))
+    let i = c.self.inside in (
+      (put_file (string_bytes i.name) i.piece_length i.hybrid i.files.items c.insert.new.self.items i.roots.entries c.keep_root.new.roots.entries i.pieces _
+          c.args.place c.args.file c.args.layer.now
+          c.bytes-piece_length.result c.self.invariant.0
+          (subst (λ d. NoneHolds (add_rows d (outline_file c.args.file))) (sym c.self.view_is) c.requires.tests) c.requires.path
+          (subst (λ d. IsGiven d (outline_file c.args.file) c.args.layer.now) (sym c.self.view_is) c.requires.fits)
+          (subst (λ (d : Outline). IsPlaceOf (outline_file c.args.file).path (map (λ (f : OutlineFile). f.path) d.files) c.args.place) (sym c.self.view_is)
+          c.requires.place)
+          (c.in_ok-insert.ensures.items ∙ ap (λ fs. insert fs c.args.place c.args.file) c.in_ok-reserve_thrifty.ensures.items)
+          (ap (λ n. i.pieces + n) c.pieces.ensures) c.in_ok-keep_root.ensures.kept c.bytes-piece_length.ensures.value).1,
+      omega (
+        arith,
+        (c.in_ok-insert.ensures.in_place c.in_ok-reserve_thrifty.ensures.for_one).1.0,
+        c.in_ok-insert.ensures.len,
+        c.reserve_thrifty.ensures.room c.self.invariant.1,
+      ),
+    )
 
 pub returns-clause-added : goal.returns-clause-added
 returns-clause-added c =

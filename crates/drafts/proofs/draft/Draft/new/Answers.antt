@@ -7,6 +7,8 @@ use Rattle.drafts.proofs.draft.Draft.new.Goals as goal
 pub invariant_of-result : goal.invariant_of-result
 invariant_of-result c =
     let legal : IsPieceLength c.args.piece_length = search rules in
-    let same : c.in-Some.piece_length ≡ c.args.piece_length = search rules in
-    (empty_is_kept _ c.in-Some.piece_length c.args.hybrid _ _ (IsUtf8-string_bytes c.in_ok-name.name) (subst IsPieceLength (sym same) legal)
-    c.new-2.ensures.items c.new-3.ensures.empty, search rules)
+    let same : c.in-Some.piece_length ≡ c.args.piece_length = search rules in (
+      empty_is_kept _ c.in-Some.piece_length c.args.hybrid _ _ (IsUtf8-string_bytes c.in_ok-name.name) (subst IsPieceLength (sym same) legal)
+          c.new-2.ensures.items c.new-3.ensures.empty,
+      search rules,
+    )
