@@ -25,7 +25,7 @@ use Rattle.parts.proofs.HeldPieces.{piece_touches}
 use Rattle.parts.proofs.Streams.{place_of_piece}
 use Rattle.parts.proofs.Worst.{good_v1}
 use Rattle.part_laws.specs.Apart.{AreMadeOf, AreTrueApart, HasOwnPiece, YesOfPartsApart}
-use Rattle.part_laws.proofs.SplicedBytes.{IsLong, all_pieces}
+use Rattle.part_laws.proofs.SplicedBytes.{IsLong, all_pieces, long_file}
 use Rattle.part_laws.proofs.SplicedPieces.{good_too, version1_too}
 
 good_verdict : (w : FileVerdict) → is_good w ≡ true → w ≡ file.Good
@@ -128,10 +128,11 @@ module _ (t : Description) (parts : List PartReport) (own : ℕ → Contents) (f
             len = joined.1;
             good = λ k lt.
                 let o = joined.0.each k lt in
-                good_too t n f sound there k lt joined.0.bytes o.0 joined.1 o.1.long o.2 o.1.good;
+                good_too t n f sound there k lt joined.0.bytes o.0 (long_file t.piece_length f.length k joined.0.bytes joined.1) o.1.long o.2 o.1.good;
             good_v1 = λ v hybrid k lt.
                 let o = joined.0.each k lt in
-                version1_too t n f sound there k lt joined.0.bytes o.0 joined.1 o.1.long o.2 v (o.1.good_v1 v hybrid);
+                version1_too t n f sound there k lt joined.0.bytes o.0 (long_file t.piece_length f.length k joined.0.bytes joined.1) o.1.long o.2 v
+                (o.1.good_v1 v hybrid);
             made = λ k lt.
                 let o = joined.0.each k lt in
                 record {

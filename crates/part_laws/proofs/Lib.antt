@@ -7,3 +7,4 @@ pub mod MarkedReadings
 pub mod MarkedPieces
 pub mod MarkedReports
 pub mod MarkedTexts
+pub mod TrueMarked

@@ -12,14 +12,14 @@ use Rattle.opening.specs.Sound.{IsSound, piece_layer}
 use Rattle.pieces.specs.Cuts.{cut}
 use Rattle.folders.specs.Verdicts.{IsListedNode}
 use Rattle.folders.proofs.Places.{pieces_are_positive}
-use Rattle.parts.specs.Parts.{Holds, IsGoodIn, IsPieceGood, piece_count}
+use Rattle.parts.specs.Parts.{EndsRight, Holds, IsGoodIn, IsPieceGood, piece_count}
 use Rattle.parts.specs.RowBits.{HasGoodPiece}
 use Rattle.parts.specs.declared.places.Places.{Places}
 use Rattle.parts.proofs.Files.{tree_of_file}
 use Rattle.parts.proofs.Joined.{good_node, good_root}
 use Rattle.parts.proofs.SharedPlaces.{sum_next}
 use Rattle.parts.proofs.Streams.{in_pieces}
-use Rattle.part_laws.proofs.SplicedBytes.{IsLong, cut_more}
+use Rattle.part_laws.proofs.SplicedBytes.{IsLong, cut_more, long_file}
 use Rattle.part_laws.proofs.SplicedPieces.{good_too}
 
 -- ---- a piece is good or not
@@ -61,37 +61,54 @@ module _ (t : Description) (n : ℕ) (f : FileEntry) (sound : IsSound t) (there 
     ]
   ]
 
-  -- ---- what a part calls good
+  -- ---- a piece of bytes that may go on behind the file's length
+
+  -- it is that of the bytes up to there
+  stated_cut : (bytes : List ℕ) → IsLong t.piece_length f.length k bytes → f.length < length bytes
+      → cut t.piece_length (take f.length bytes) k ≡ cut t.piece_length bytes k
+  stated_cut bytes long more =
+      let stated : List ℕ = take f.length bytes in
+      let len : length stated ≡ f.length = omega (arith, more, length-take f.length bytes) in
+      let next : k + 1 < piece_count t f = elim (cases_lt (k + 1) (piece_count t f)) [
+        | inl inside ↦ inside
+        | inr past ↦ absurd (omega (arith, more, long.last (omega (arith, past, lt))))
+      ] in
+      let inside : t.piece_length * (k + 1) < f.length = in_pieces t.piece_length (k + 1) f.length (pieces_are_positive t sound) next in
+      sym (cut_more t.piece_length stated (drop f.length bytes) k (omega (arith, inside, len)))
+      ∙ ap (λ b. cut t.piece_length b k) (take-append-drop f.length bytes)
+
+  stated_long : (bytes : List ℕ) → f.length < length bytes → IsLong t.piece_length f.length k (take f.length bytes)
+  stated_long bytes more = long_file t.piece_length f.length k (take f.length bytes) (omega (arith, more, length-take f.length bytes))
+
+  -- so both are good
+  stated_good : (bytes : List ℕ) → IsLong t.piece_length f.length k bytes → IsPieceGood t f bytes k → IsPieceGood t f (take f.length bytes) k
+  stated_good bytes long good = elim (cases_lt f.length (length bytes)) [
+    | inr short ↦ subst (λ b. IsPieceGood t f b k) (sym (take_all f.length bytes short)) good
+    | inl more ↦ good_too t n f sound there k lt (take f.length bytes) bytes (stated_long bytes more) long (stated_cut bytes long more) good
+  ]
+
+  pub own_good : (bytes : List ℕ) → IsLong t.piece_length f.length k bytes → IsPieceGood t f (take f.length bytes) k → IsPieceGood t f bytes k
+  own_good bytes long good = elim (cases_lt f.length (length bytes)) [
+    | inr short ↦ subst (λ b. IsPieceGood t f b k) (take_all f.length bytes short) good
+    | inl more ↦ good_too t n f sound there k lt bytes (take f.length bytes) long (stated_long bytes more) (sym (stated_cut bytes long more)) good
+  ]
+
+  -- ---- what a part says
+
+  -- bytes that end rightly have a piece that is among the places whole
+  pub long_in : (r : Places) (bytes : List ℕ) → EndsRight t r f bytes → min (t.piece_length * (k + 1)) f.length ≤ length bytes
+      → Holds r (f.first_piece + k) → IsLong t.piece_length f.length k bytes
+  long_in r bytes ends whole held = record {
+    whole = whole;
+    last = λ end. ends (let last : f.first_piece + k ≡ f.first_piece + (piece_count t f - 1) = omega (arith, end) in subst (Holds r) last held);
+  }
+
+  pub good_piece : (bytes : List ℕ) → IsLong t.piece_length f.length k bytes → IsPieceGood t f bytes k → HasGoodPiece t f bytes k
+  good_piece bytes long good = record { whole = long.whole; good = stated_good bytes long good }
 
   -- a piece among the places of a part that calls the file good
   pub good_in : (r : Places) (bytes : List ℕ) → IsGoodIn t r f bytes → Holds r (f.first_piece + k) → HasGoodPiece t f bytes k
-  good_in r bytes is held = record {
-    whole = is.whole k lt held;
-    good = elim (cases_lt f.length (length bytes)) [
-      | inr short ↦ subst (λ b. IsPieceGood t f b k) (sym (take_all f.length bytes short)) (is.pieces k lt held)
-      | inl more ↦ of_longer more
-    ];
-  }
-    where
-      ends : k + 1 ≡ piece_count t f → length bytes ≡ f.length
-      ends end = is.end (let last : f.first_piece + k ≡ f.first_piece + (piece_count t f - 1) = omega (arith, end) in subst (Holds r) last held)
-
-      long : IsLong t.piece_length f.length k bytes
-      long = record { whole = is.whole k lt held; last = ends }
-
-      of_longer : f.length < length bytes → IsPieceGood t f (take f.length bytes) k
-      of_longer more =
-          let stated : List ℕ = take f.length bytes in
-          let len : length stated ≡ f.length = omega (arith, more, length-take f.length bytes) in
-          let next : k + 1 < piece_count t f = elim (cases_lt (k + 1) (piece_count t f)) [
-            | inl inside ↦ inside
-            | inr past ↦ absurd (omega (arith, more, ends (omega (arith, past, lt))))
-          ] in
-          let inside : t.piece_length * (k + 1) < f.length = in_pieces t.piece_length (k + 1) f.length (pieces_are_positive t sound) next in
-          let same : cut t.piece_length stated k ≡ cut t.piece_length bytes k =
-          sym (cut_more t.piece_length stated (drop f.length bytes) k (omega (arith, inside, len)))
-          ∙ ap (λ b. cut t.piece_length b k) (take-append-drop f.length bytes) in
-          good_too t n f sound there k lt stated bytes len long same (is.pieces k lt held)
+  good_in r bytes is held = good_piece bytes (long_in r bytes is.end (is.whole k lt held) held) (is.pieces k lt held)
 
 -- ---- the file of a piece
 

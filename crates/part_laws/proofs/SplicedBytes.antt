@@ -31,6 +31,10 @@ pub record IsLong (pl len k : ℕ) (bytes : List ℕ) : Type 0 where
   pub whole : min (pl * (k + 1)) len ≤ length bytes
   pub last : k + 1 ≡ pieces_of pl len → length bytes ≡ len
 
+-- the file itself does
+pub long_file : (pl len k : ℕ) (bytes : List ℕ) → length bytes ≡ len → IsLong pl len k bytes
+long_file pl len k bytes is = record { whole = omega (arith, is); last = λ end. is }
+
 -- how many bytes of the file the first pieces are with this one
 with_piece : (pl len k : ℕ) (own : List ℕ) → 0 < pl → k < pieces_of pl len → IsLong pl len k own
     → pl * k + length (cut pl own k) ≡ min (pl * (k + 1)) len

@@ -50,7 +50,7 @@ same_node pl k xs ys is long_x begins_x long_y begins_y same =
 -- ---- a file's pieces
 
 module _ (t : Description) (n : ℕ) (f : FileEntry) (sound : IsSound t) (there : slice_get t.files n ≡ Some f) (k : ℕ) (lt : k < piece_count t f)
-    (bytes own : List ℕ) (len : length bytes ≡ f.length) (long : IsLong t.piece_length f.length k own)
+    (bytes own : List ℕ) (whole : IsLong t.piece_length f.length k bytes) (long : IsLong t.piece_length f.length k own)
     (same : cut t.piece_length bytes k ≡ cut t.piece_length own k)
   where
     some : 0 < t.piece_length
@@ -64,11 +64,11 @@ module _ (t : Description) (n : ℕ) (f : FileEntry) (sound : IsSound t) (there 
     same_file filled short =
         let one : piece_count t f ≤ 1 = one_piece t.piece_length f.length some short in
         let first : k ≡ 0 = omega (arith, lt, one) in
-        let own_len : length own ≡ f.length = long.last (omega (arith, lt, one)) in
-        let whole : (xs : List ℕ) → length xs ≡ f.length → cut t.piece_length xs k ≡ xs = λ xs is.
+        let last : k + 1 ≡ piece_count t f = omega (arith, lt, one) in
+        let all : (xs : List ℕ) → length xs ≡ f.length → cut t.piece_length xs k ≡ xs = λ xs is.
         ap (λ j. take t.piece_length (drop j xs)) (ap (λ j. t.piece_length * j) first ∙ (let a : t.piece_length * 0 ≡ 0 = omega arith in a))
         ∙ take_all t.piece_length xs (omega (arith, is, short)) in
-        sym (whole bytes len) ∙ same ∙ whole own own_len
+        sym (all bytes (whole.last last)) ∙ same ∙ all own (long.last last)
 
     pub good_too : IsPieceGood t f own k → IsPieceGood t f bytes k
     good_too good =
@@ -82,7 +82,7 @@ module _ (t : Description) (n : ℕ) (f : FileEntry) (sound : IsSound t) (there 
               let next : pl * (k + 1) ≡ pl * k + pl = omega arith in
               let at : node own (piece_layer pl) k ≡ node bytes (piece_layer pl) k =
               same_node pl k own bytes (blocks_of t sound) (omega (arith, long.whole, next, more, tree.0)) (omega (arith, long.whole, next, some, begins))
-              (omega (arith, len, more, tree.0)) (omega (arith, len, begins)) (sym same) in
+              (omega (arith, whole.whole, next, more, tree.0)) (omega (arith, whole.whole, next, some, begins)) (sym same) in
               good.listed more ∙ ap Some at;
         }
 

@@ -1,23 +1,26 @@
 -- What the texts of marked reports make together: what a check prints that tells of bad pieces.
-use Rattle.std.specs.Prelude.{◌≡◌, ◌⊎◌, ℕ, ◌<◌, ◌^◌, List, [], ◌∷◌, ◌++◌, Option, Some, slice_get}
+use Rattle.std.specs.Prelude.{◌≡◌, ◌⊎◌, ℕ, ◌<◌, ◌^◌, false, List, [], ◌∷◌, ◌++◌, Option, Some, slice_get}
 use Rattle.opening.specs.Description.{Description, FileEntry}
 use Rattle.opening.specs.Sound.{IsSound}
 use Rattle.folders.specs.Folder.{Contents}
 use Rattle.folders.specs.Printed.{end_text}
 use Rattle.folders.specs.declared.lines.Lines.TheVariants as lines
 use Rattle.folders.specs.declared.report.FileVerdict.{FileVerdict}
+use Rattle.folders.specs.declared.report.FileVerdict.TheVariants as file
 use Rattle.folders.specs.declared.report.V1Verdict.{V1Verdict}
 use Rattle.parts.specs.Checking.{AreTold, verdicts_in}
 use Rattle.parts.specs.Collisions.{FileCollides}
 use Rattle.parts.specs.Laws.{IsReportOf}
 use Rattle.parts.specs.MarkedChecks.{AreAllMarked}
 use Rattle.parts.specs.MarkedLines.{marked_text, verdicts_of}
+use Rattle.parts.specs.PartLines.{has_place}
 use Rattle.parts.specs.Parts.{IsTruePart}
 use Rattle.parts.specs.Runs.{AreRunsOf, Run}
 use Rattle.parts.specs.Shares.{share}
 use Rattle.parts.specs.Telling.{AreToldRuns, has_runs}
 use Rattle.parts.specs.declared.telling.Telling.TheVariants as telling
 use Rattle.part_reports.specs.MarkedJoins.{AreJoinedAs}
+use Rattle.part_reports.specs.Reasons.{IsMarkedReport}
 use Rattle.part_reports.specs.Texts.{reported}
 use Rattle.part_reports.specs.WholeLines.{ShowsAll, whole_text}
 use Rattle.part_reports.specs.declared.kind.Kind.TheVariants.{Marked}
@@ -62,6 +65,19 @@ pub record IsCheckText (t : Description) (contents : Contents) (verdicts : List 
   pub is : text ≡ all_told told ++ end_text lines.All verdicts v1
 
 -- ---- the laws
+
+-- The marked text of a part is such a report as is joined: if its verdicts and its runs are true of
+-- the same contents, and it calls each file good of which it has no place, it can report them, and
+-- the runs of a bad file begin with the piece that its verdict names. No collision excuses it.
+abbrev pub TrueMarkedPartsReport : Type 0
+TrueMarkedPartsReport = (t : Description) (contents : Contents) (part count : ℕ)
+    (marked : List (FileVerdict × List Run)) (v1 : Option V1Verdict) → IsSound t → part < count
+    → count < 2 ^ 64 → IsTruePart t contents (reported t part count (verdicts_of marked) v1)
+    → AreAllMarked t (share t part count) contents marked
+    → ((n : ℕ) (f : FileEntry) (v : FileVerdict) → slice_get t.files n ≡ Some f
+    → slice_get (verdicts_of marked) n ≡ Some v → has_place t (share t part count) f ≡ false
+    → v ≡ file.Good)
+    → IsMarkedReport t part count (marked_text t part count marked v1)
 
 -- The runs of a join are those of the check: if each of the texts is the marked report of a part,
 -- and true of the same contents, the runs that are printed of a file whose joined verdict has runs

@@ -2,7 +2,7 @@
 //! as the contract of a function that does nothing.
 ghost use Rattle.part_laws.specs.Apart.{YesOfPartsApart};
 ghost use Rattle.part_laws.specs.ApartTexts.{YesOfTextsApart};
-ghost use Rattle.part_laws.specs.MarkedTexts.{JoinPrintsTheCheck, JoinedRunsAreTheChecks};
+ghost use Rattle.part_laws.specs.MarkedTexts.{JoinPrintsTheCheck, JoinedRunsAreTheChecks, TrueMarkedPartsReport};
 
 use parts::laws::{parts_make_the_report, yes_of_parts};
 
@@ -21,6 +21,12 @@ pub fn yes_of_texts_apart()
 {
     yes_of_parts_apart();
 }
+
+/// What a part prints of verdicts and of runs of bad pieces that are true of the same contents is a
+/// marked report, as they are joined.
+pub fn true_marked_parts_report()
+    ensures { TrueMarkedPartsReport }
+{}
 
 /// If each of the texts that are joined is the marked report of a part, and true of the same
 /// contents, then what is printed of their join is what a check of these contents prints that tells

@@ -4,4 +4,6 @@
 
 mod laws;
 
-pub use laws::{join_prints_the_check, yes_of_parts_apart, yes_of_texts_apart};
+pub use laws::{
+    join_prints_the_check, true_marked_parts_report, yes_of_parts_apart, yes_of_texts_apart,
+};

@@ -53,21 +53,28 @@ can_say_v1 t v r contents version1.Good is = tt
 can_say_v1 t v r contents version1.NotChecked is = tt
 can_say_v1 t v r contents (version1.Bad q) is = (is.0, is.1)
 
+-- true verdicts can be reported
+pub can_report : (t : Description) (contents : Contents) (r : Places) (files : List FileVerdict) (v1 : Option V1Verdict)
+    → IsTruePart t contents (record { places = r; files = files; v1 = v1 })
+    → ((n : ℕ) (f : FileEntry) (v : FileVerdict) → slice_get t.files n ≡ Some f → slice_get files n ≡ Some v → has_place t r f ≡ false → v ≡ file.Good)
+    → CanReport t r files v1
+can_report t contents r files v1 are off = record {
+  count = are.count;
+  hybrid = are.hybrid;
+  says = λ n f v f_at v_at. can_say t r f (contents n) v (off n f v f_at v_at) (are.each n f v f_at v_at);
+  says_v1 = λ v is.
+      let hybrid = some_of t.v1 (sym are.hybrid ∙ ap is_some is) in
+      can_say_v1 t hybrid.0 r contents v (are.version1 hybrid.0 v hybrid.1 is);
+  checked = are.checked;
+}
+
 pub true_parts_report : TruePartsReport
 true_parts_report t contents part count files v1 there small are off = record {
   there = there;
   small = small;
   files = files;
   v1 = v1;
-  can = record {
-    count = are.count;
-    hybrid = are.hybrid;
-    says = λ n f v f_at v_at. can_say t (share t part count) f (contents n) v (off n f v f_at v_at) (are.each n f v f_at v_at);
-    says_v1 = λ v is.
-        let hybrid = some_of t.v1 (sym are.hybrid ∙ ap is_some is) in
-        can_say_v1 t hybrid.0 (share t part count) contents v (are.version1 hybrid.0 v hybrid.1 is);
-    checked = are.checked;
-  };
+  can = can_report t contents (share t part count) files v1 are off;
   is = refl;
 }
 

@@ -1,5 +1,5 @@
 -- What a part found of one file, by how its opening and its reading were answered.
-use Rattle.std.proofs.Common.{◌≡◌, ℕ, ◌+◌, ◌*◌, ◌≤◌, min, ◌++◌, IsTrue, List, length, drop, replicate, slice_get, Option, Some, None}
+use Rattle.std.proofs.Common.{◌≡◌, ℕ, ◌+◌, ◌*◌, ◌<◌, ◌≤◌, min, ◌++◌, IsTrue, List, length, drop, replicate, slice_get, Option, Some, None}
 use Rattle.std.proofs.Common.{Result, Ok, Err, IfOk, IfSome, refl, ap, sym, ◌∙◌, subst, drop_at, arith}
 use Rattle.std.specs.Option.{unwrap_or}
 use Rattle.std.proofs.Math.Nat.{mul-le-mul_left}
@@ -17,7 +17,7 @@ use Rattle.folders.specs.declared.report.V1Verdict.{V1Verdict}
 use Rattle.folders.specs.declared.report.V1Verdict.TheVariants as version1
 use Rattle.parts.specs.FilePieces.{AreBelow, FindsPieces, IsBelow, IsFirstBad}
 use Rattle.parts.specs.Finding.{FindsFile, IsFileV1}
-use Rattle.parts.specs.Parts.{IsPartVerdict, IsPieceGood, IsVersion1Good, Touches}
+use Rattle.parts.specs.Parts.{Holds, IsPartVerdict, IsPieceGood, IsVersion1Good, Touches, piece_count}
 use Rattle.parts.specs.Saying.{HasSmallPieces, IsSmallFrom, SaysFound, file_says, v1_says}
 use Rattle.parts.specs.RowBits.{AreBitsOf}
 use Rattle.parts.specs.Spans.{IsSpan, IsSpanOf, end_in, first_in}
@@ -60,6 +60,15 @@ goes_on_so (Some (Some there)) offset left rest found gave = record {
 
 -- ---- the verdicts
 
+-- the pieces among the places are there whole
+whole_in : (t : Description) (r : Places) (f : FileEntry) (s : Span) (bytes : List ℕ) → IsSpanOf t r f s
+    → min (t.piece_length * s.to) f.length ≤ length bytes → (k : ℕ) → k < piece_count t f → Holds r (f.first_piece + k)
+    → min (t.piece_length * (k + 1)) f.length ≤ length bytes
+whole_in t r f s bytes span whole k lt held =
+    let b = held_between t r f s k span lt held in
+    let low : t.piece_length * (k + 1) ≤ t.piece_length * s.to = mul-le-mul_left t.piece_length (let le : k + 1 ≤ s.to = omega (arith, b.1) in le) in
+    omega (arith, low, whole)
+
 -- the file is as its verdict says
 good_or_bad : (t : Description) (r : Places) (f : FileEntry) (s : Span) (bytes : List ℕ) (bad : Option ℕ) → IsSpanOf t r f s
     → (IsTrue s.ends → length bytes ≡ f.length) → min (t.piece_length * s.to) f.length ≤ length bytes → IsFirstBad s.from s.to (IsPieceGood t f bytes) bad
@@ -69,10 +78,7 @@ good_or_bad t r f s bytes None span ends whole all = λ touched. (
   refl,
   record {
     end = λ held. ends (span.ends.1 held);
-    whole = λ k lt held.
-        let b = held_between t r f s k span lt held in
-        let low : t.piece_length * (k + 1) ≤ t.piece_length * s.to = mul-le-mul_left t.piece_length (let le : k + 1 ≤ s.to = omega (arith, b.1) in le) in
-        omega (arith, low, whole);
+    whole = whole_in t r f s bytes span whole;
     pieces = λ k lt held. (let b = held_between t r f s k span lt held in all k b.0 b.1);
   },
 )
@@ -82,6 +88,7 @@ good_or_bad t r f s bytes (Some p) span ends whole first =
       refl,
       record {
         end = λ held. ends (span.ends.1 held);
+        whole = whole_in t r f s bytes span whole;
         place = p;
         place_is = refl;
         inside = in_span.0;

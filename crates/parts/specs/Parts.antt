@@ -61,10 +61,13 @@ pub record IsGoodIn (t : Description) (r : Places) (f : FileEntry) (bytes : List
   pub pieces : (k : ℕ) → k < piece_count t f → Holds r (f.first_piece + k)
       → IsPieceGood t f bytes k
 
--- of the pieces among these places this one of the torrent is the first that is not good
+-- of these bytes the pieces among these places are there whole, and this one of the torrent is the
+-- first that is not good
 pub record IsBadIn (t : Description) (r : Places) (f : FileEntry) (bytes : List ℕ) (p : ℕ) : Type 0
   where
     pub end : EndsRight t r f bytes
+    pub whole : (k : ℕ) → k < piece_count t f → Holds r (f.first_piece + k)
+        → min (t.piece_length * (k + 1)) f.length ≤ length bytes
     pub place : ℕ
     pub place_is : p ≡ f.first_piece + place
     pub inside : place < piece_count t f
