@@ -11,6 +11,7 @@ pub mod Verdicts
 pub mod Printed
 pub mod Stopping
 pub mod Visits
+pub mod SeekVisits
 pub mod TakeAll
 pub mod Feeding
 pub mod ConsumerLaws

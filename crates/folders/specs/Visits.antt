@@ -38,6 +38,12 @@ FollowsAnswer (Ok (Some file)) v = ⊤
 FollowsAnswer (Ok None) v = v ≡ Missing
 FollowsAnswer (Err fault) v = v ≡ Unreadable
 
+-- a reader stays as it was unless it answered
+abbrev pub StaysUnasked : {R A : Type 0} → R → R → Result (Option A) DeviceFault → Type 0
+StaysUnasked old new (Ok (Some answer)) = ⊤
+StaysUnasked old new (Ok None) = new ≡ old
+StaysUnasked old new (Err fault) = new ≡ old
+
 module _ {S F : Type 0} (shelf : Ghosts S F) (seen : F → SourceSeen) where
   -- ---- any visit
 
@@ -77,6 +83,23 @@ module _ {S F : Type 0} (shelf : Ghosts S F) (seen : F → SourceSeen) where
       × (shelf.faults s' ≡ shelf.faults s)
   VisitsFor IsReadAs s path (Err fault) s' =
       shelf.opens s path (Err fault) s' × (shelf.faults s' ≡ one_more (shelf.faults s))
+
+  -- what was opened is this file, which was read for this answer and handed back
+  pub record ReadsOpened {A : Type 0} (IsReadAs : A → SourceSeen → SourceSeen → Type 0) (s : S)
+      (opened : Result (Option F) DeviceFault) (answer : A) (s' : S) : Type 0 where
+    pub file : F
+    pub is : opened ≡ Ok (Some file)
+    pub read : F
+    pub reading : IsReadAs answer (seen file) (seen read)
+    pub closed : shelf.closes s read s'
+    pub counted : shelf.faults s' ≡ more (shelf.faults s) (seen read).faults
+
+  -- so it was, or nothing was opened, and the shelf stays as it is
+  abbrev pub HandsOver : {A : Type 0} → (A → SourceSeen → SourceSeen → Type 0) → S
+      → Result (Option F) DeviceFault → Result (Option A) DeviceFault → S → Type 0
+  HandsOver IsReadAs s opened (Ok (Some answer)) s' = ReadsOpened IsReadAs s opened answer s'
+  HandsOver IsReadAs s opened (Ok None) s' = (opened ≡ Ok None) × (s' ≡ s)
+  HandsOver IsReadAs s opened (Err fault) s' = (opened ≡ Err fault) × (s' ≡ s)
 
   -- the path was opened once, and no more bytes than these were read
   pub record OpensOnce (s : S) (path : List (List ℕ)) (bound : ℕ) (s' : S) : Type 0 where

@@ -17,7 +17,7 @@ mod taking;
 
 pub use cuts::Cuts;
 pub use exactly::take_exactly;
-pub use file_reader::{FileReader, visit};
+pub use file_reader::{FileReader, visit, visit_at};
 pub use lines::{Lines, print_report, stream_line, write_end, write_verdict, write_wanted};
 pub use report::{FileVerdict, Report, V1Verdict};
 pub use root::{RootFault, root_line, root_line_through};

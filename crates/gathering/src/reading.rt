@@ -25,9 +25,9 @@ impl<F: Source> FileReader<F, Hashed> for Hasher<'_> {
 
     ghost may_read = { λ _. ⊤ };
 
-    ghost reads = { λ h. ReadsCounted h.kind.now.piece_length h.kind.now.hybrid };
+    ghost reads = { λ h _. ReadsCounted h.kind.now.piece_length h.kind.now.hybrid };
 
-    fn read(&self, file: &mut F, buffer: &mut [u8]) -> Hashed {
+    fn read(&mut self, file: &mut F, buffer: &mut [u8]) -> Hashed {
         read_file(self.alloc, file, self.kind, buffer)
     }
 }

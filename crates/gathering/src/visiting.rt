@@ -25,7 +25,7 @@ pub(crate) fn hash_file<S: Shelf>(
     ensures stays { S.contents shelf.new ≡ S.contents shelf.old }
     ensures buffer { length buffer.new ≡ length buffer.old }
 {
-    match visit(shelf, path, &Hasher { alloc, kind }, buffer) {
+    match visit(shelf, path, &mut Hasher { alloc, kind }, buffer) {
         Ok(Some(read)) => hashes_or_fault(read),
         Ok(None) => Err(FileFault::Changed),
         Err(_) => Err(FileFault::Device),

@@ -26,6 +26,7 @@ pub mod SoFar
 pub mod StreamVerdict
 pub mod Streams
 pub mod Together
+pub mod Visited
 pub mod Tellings
 pub mod ToldFirst
 pub mod WholeFiles

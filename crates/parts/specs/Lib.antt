@@ -10,6 +10,7 @@ pub mod MarkedLines
 pub mod PartLines
 pub mod Parts
 pub mod PartVisits
+pub mod PieceReads
 pub mod Rooms
 pub mod RowBits
 pub mod RowChecks

@@ -6,6 +6,7 @@ use Rattle.std.specs.Prelude.{◌≡◌, ◌≢◌, ℕ, ◌+◌, ◌*◌, true,
 use Rattle.benc.specs.Device.{SourceSeen}
 use Rattle.benc.specs.declared.device.DeviceFault.{DeviceFault}
 use Rattle.opening.specs.Description.{Description, FileEntry}
+use Rattle.folders.specs.SeekVisits.{HandsBackAt}
 use Rattle.folders.specs.Shelf.{more}
 use Rattle.folders.specs.TakeAll.{IsReadWithin}
 use Rattle.folders.specs.Verdicts.{fault_count, is_unreadable, is_whole}
@@ -33,20 +34,12 @@ pub record IsReadIn (t : Description) (r : Places) (f : FileEntry) (v : FileVerd
 module _ {S F : Type 0}
     (opens_at : S → List (List ℕ) → ℕ → Result (Option F) DeviceFault → S → Type 0)
     (closes : S → F → S → Type 0) (seen : F → SourceSeen) where
-  -- the file that stands at this path was opened at this byte, read so, and handed back
-  pub record HandsBackAt (IsRead : SourceSeen → SourceSeen → Type 0) (s : S)
-      (path : List (List ℕ)) (offset : ℕ) (file : F) (s' : S) : Type 0 where
-    pub between : S
-    pub opened : opens_at s path offset (Ok (Some file)) between
-    pub read : F
-    pub reading : IsRead (seen file) (seen read)
-    pub closed : closes between read s'
-
   -- the path was opened at this byte, which was answered so; a file that was found was read so, and
   -- handed back
   abbrev pub OpenedAt : (SourceSeen → SourceSeen → Type 0) → S → List (List ℕ) → ℕ
       → Result (Option F) DeviceFault → S → Type 0
-  OpenedAt IsRead s path offset (Ok (Some file)) s' = HandsBackAt IsRead s path offset file s'
+  OpenedAt IsRead s path offset (Ok (Some file)) s' =
+      HandsBackAt opens_at closes seen IsRead s path offset file s'
   OpenedAt IsRead s path offset (Ok None) s' = opens_at s path offset (Ok None) s'
   OpenedAt IsRead s path offset (Err fault) s' = opens_at s path offset (Err fault) s'
 

@@ -11,8 +11,8 @@ ghost use Rattle.parts.specs.Parts.{piece_count as pieces_in};
 ghost use Rattle.parts.specs.Telling.{TellsWhole};
 ghost use Rattle.parts.specs.declared.all_files.CheckFault.TheVariants as fault;
 
-use crate::bits::clear_bits;
-use crate::file_pieces::read_pieces;
+use crate::bits::{clear_bits, taken};
+use crate::file_pieces::PieceReader;
 use crate::places::piece_count;
 use crate::room::Room;
 use crate::span::Span;
@@ -20,7 +20,7 @@ use crate::telling::Telling;
 use crate::verdicts::Verdicts;
 use crate::visiting::{Visitor, visit_files};
 use benc::{DeviceFault, Sink, WriteFault};
-use folders::{FileVerdict, Report, Shelf};
+use folders::{FileVerdict, Report, Shelf, visit};
 use opening::{File, Torrent};
 use std::alloc::{AllocError, Global};
 use thiserror::Error;
@@ -90,17 +90,20 @@ fn visit_file<S: Shelf>(
     torrent.sound();
     let count = piece_count(torrent, file.length);
     clear_bits(bits, count);
-    let span = Span {
-        from: 0,
-        to: count,
-        ends: true,
+    let mut reader = PieceReader {
+        torrent,
+        file,
+        span: Span {
+            from: 0,
+            to: count,
+            ends: true,
+        },
+        bits: taken(bits),
     };
-    match shelf.open(&file.path.parts()) {
-        Ok(Some(mut source)) => {
-            let found = read_pieces(&mut source, torrent, file, span, bits, buffer);
-            shelf.close(source);
-            Verdicts::of_whole(file, found)
-        }
+    let visited = visit(shelf, &file.path.parts(), &mut reader, buffer);
+    *bits = reader.bits;
+    match visited {
+        Ok(Some(found)) => Verdicts::of_whole(file, found),
         Ok(None) => Verdicts::not_whole(FileVerdict::Missing),
         Err(_) => Verdicts::not_whole(FileVerdict::Unreadable),
     }

@@ -3,6 +3,8 @@ ghost use Rattle.std.specs.Prelude.{◌≡◌, ◌*◌, ◌≤◌, length};
 ghost use Rattle.std.specs.Vec.{vec_capacity};
 ghost use Rattle.hashtree.specs.Bits.{AreClear};
 
+use std::mem::replace;
+
 /// Makes a bitmap one of so many pieces in which no bit is set, as far as its room goes. It takes
 /// no memory.
 pub(crate) fn clear_bits(bits: &mut Vec<u8>, pieces: u64)
@@ -15,4 +17,12 @@ pub(crate) fn clear_bits(bits: &mut Vec<u8>, pieces: u64)
     'bytes: for _byte in 0..wanted {
         bits.push_reserved(0);
     }
+}
+
+/// Hands a bitmap out, and leaves an empty one.
+pub(crate) fn taken(bits: &mut Vec<u8>) -> Vec<u8>
+    ensures { result ≡ bits.old }
+{
+    let none = Vec::new(*bits.allocator());
+    replace(bits, none)
 }

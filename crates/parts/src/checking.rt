@@ -10,8 +10,8 @@ ghost use Rattle.parts.specs.Finding.{FindsFile, IsTrueOfPlaces};
 ghost use Rattle.parts.specs.PartVisits.{OpensPart, VisitsPart};
 ghost use Rattle.parts.specs.Spans.{IsSpanOf};
 
-use crate::bits::clear_bits;
-use crate::file_pieces::read_pieces;
+use crate::bits::{clear_bits, taken};
+use crate::file_pieces::PieceReader;
 use crate::nowhere::Nowhere;
 use crate::places::{Places, piece_count};
 use crate::room::Room;
@@ -19,7 +19,7 @@ use crate::span::{Span, span_of};
 use crate::telling::Telling;
 use crate::verdicts::Verdicts;
 use crate::visiting::{Visitor, visit_files};
-use folders::{FileVerdict, NoMemory, Report, SeekShelf};
+use folders::{FileVerdict, NoMemory, Report, SeekShelf, visit_at};
 use opening::{File, Torrent};
 use std::alloc::Global;
 
@@ -145,12 +145,16 @@ fn visit_span<S: SeekShelf>(
 {
     torrent.sound();
     let offset = first_byte(torrent, span);
-    match shelf.open_at(&file.path.parts(), offset) {
-        Ok(Some(mut source)) => {
-            let found = read_pieces(&mut source, torrent, file, span, bits, buffer);
-            shelf.close(source);
-            Verdicts::of_found(file, found)
-        }
+    let mut reader = PieceReader {
+        torrent,
+        file,
+        span,
+        bits: taken(bits),
+    };
+    let visited = visit_at(shelf, &file.path.parts(), offset, &mut reader, buffer);
+    *bits = reader.bits;
+    match visited {
+        Ok(Some(found)) => Verdicts::of_found(file, found),
         Ok(None) => Verdicts::not_whole(FileVerdict::Missing),
         Err(_) => Verdicts::not_whole(FileVerdict::Unreadable),
     }

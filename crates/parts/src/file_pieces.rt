@@ -13,20 +13,56 @@ ghost use Rattle.parts.specs.Spans.{IsSpan, span_bytes};
 use crate::row::{Found, read_row};
 use crate::span::Span;
 use benc::{DeviceFault, Source};
+use folders::FileReader;
 use opening::{File, Torrent};
 
-/// Reads and judges some pieces of a file, and if the file ends there, its end too; and sets the
-/// bits of the pieces that are whole and good, by their places in the row. `None`: the content is
-/// not as long as it is to be. Nothing is read after the end was seen. Conditions: the torrent has
-/// the file, no bit is set, and the buffer is not empty.
-pub(crate) fn read_pieces<F: Source>(
+/// What was found of the pieces of an opened file. `None`: the content is not as long as it is to
+/// be.
+pub(crate) type Read = Result<Option<Found>, DeviceFault>;
+
+/// Reads some pieces of a file, and sets the bits of those that are whole and good.
+#[derive(Drop)]
+pub(crate) struct PieceReader<'a, 't> {
+    /// The torrent.
+    pub(crate) torrent: &'a Torrent<'t>,
+    /// The file.
+    pub(crate) file: &'a File<'t>,
+    /// The pieces.
+    pub(crate) span: Span,
+    /// Their bits, by their places in the row.
+    pub(crate) bits: Vec<u8>,
+}
+
+impl<F: Source> FileReader<F, Read> for PieceReader<'_, '_> {
+    ghost use Rattle.parts.specs.PieceReads.{MayReadPieces, ReadsPieces};
+
+    ghost may_read = { λ r. MayReadPieces r.torrent.now (file_entry r.file.now) r.span r.bits };
+
+    ghost reads = { λ r s. ReadsPieces r.torrent.now (file_entry r.file.now) r.span r.bits s.bits };
+
+    fn read(&mut self, file: &mut F, buffer: &mut [u8]) -> Read {
+        read_pieces(
+            file,
+            self.torrent,
+            self.file,
+            self.span,
+            &mut self.bits,
+            buffer,
+        )
+    }
+}
+
+// Reads and judges some pieces of a file, and if the file ends there, its end too; and sets the
+// bits of the pieces that are whole and good. Nothing is read after the end was seen. Conditions:
+// the torrent has the file, no bit is set, and the buffer is not empty.
+fn read_pieces<F: Source>(
     source: &mut F,
     torrent: &Torrent<'_>,
     file: &File<'_>,
     span: Span,
     bits: &mut Vec<u8>,
     buffer: &mut [u8],
-) -> Result<Option<Found>, DeviceFault>
+) -> Read
     requires some { 0 < length buffer.old }
     requires file { IsFileOf torrent.now (file_entry file.now) }
     requires span { IsSpan torrent.now (file_entry file.now) span }
@@ -70,7 +106,7 @@ fn judge<F: Source>(
     span: Span,
     bits: &mut Vec<u8>,
     buffer: &mut [u8],
-) -> Result<Option<Found>, DeviceFault>
+) -> Read
     requires some { 0 < length buffer.old }
     requires file { IsFileOf torrent.now (file_entry file.now) }
     requires span { IsSpan torrent.now (file_entry file.now) span }

@@ -14,13 +14,13 @@ ghost use Rattle.parts.specs.FilePieces.{AreBelow};
 ghost use Rattle.parts.specs.RowChecks.{IsRowCuts, IsRowHashes, IsRowLayer, JudgesRow, stream_part};
 ghost use Rattle.parts.specs.Spans.{IsSpan, span_bytes};
 
+use crate::bits::taken;
 use crate::span::Span;
 use benc::{DeviceFault, Source};
 use folders::{Cuts, RowFeed};
 use hashtree::{Hash, PieceCheck, Shape};
 use opening::{File, Torrent, TreeInfo};
 use pieces::V1;
-use std::mem::replace;
 use std::slice;
 
 /// What was found of a row of pieces of one file. The numbers are those within the file.
@@ -89,14 +89,6 @@ pub(crate) fn read_row<F: Source>(
         bad: numbered(span.from, found.other),
         bad_cut: numbered(span.from, found.bad_cut),
     }))
-}
-
-// Hands a bitmap out, and leaves an empty one.
-fn taken(bits: &mut Vec<u8>) -> Vec<u8>
-    ensures { result ≡ bits.old }
-{
-    let none = Vec::new(*bits.allocator());
-    replace(bits, none)
 }
 
 // The layer in which a file's pieces are compared: that of its root if it has one piece.

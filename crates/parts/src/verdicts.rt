@@ -2,8 +2,7 @@
 ghost use Rattle.std.specs.Prelude.{◌≡◌};
 ghost use Rattle.parts.specs.Saying.{IsSmallFrom, file_says, v1_says, whole_says};
 
-use crate::row::Found;
-use benc::DeviceFault;
+use crate::file_pieces::Read;
 use folders::{FileVerdict, V1Verdict};
 use opening::File;
 
@@ -42,7 +41,7 @@ impl Verdicts {
     }
 
     /// Of a file of which the pieces of a part were read.
-    pub(crate) fn of_found(file: &File<'_>, found: Result<Option<Found>, DeviceFault>) -> Verdicts
+    pub(crate) fn of_found(file: &File<'_>, found: Read) -> Verdicts
         requires { HasSmallPieces file.now.first_piece found }
         ensures { SaysFound file.now.first_piece found result }
     {
@@ -58,7 +57,7 @@ impl Verdicts {
 
     /// Of a file that was read from its first piece to its end: it is good if its root is the
     /// tree's.
-    pub(crate) fn of_whole(file: &File<'_>, found: Result<Option<Found>, DeviceFault>) -> Verdicts
+    pub(crate) fn of_whole(file: &File<'_>, found: Read) -> Verdicts
         requires { HasSmallPieces file.now.first_piece found }
         ensures { SaysWhole file.now.first_piece found result }
     {

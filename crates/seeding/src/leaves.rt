@@ -116,9 +116,9 @@ impl<N: NodeMap, F: Source> FileReader<F, Grown<N>> for TreeReader<'_, '_> {
 
     ghost may_read = { λ r. (0 < r.tree.now.length) × (r.tree.now.length ≤ 2 ^ 46) };
 
-    ghost reads = { λ r. ReadsTree (tree_entry r.tree.now) };
+    ghost reads = { λ r _. ReadsTree (tree_entry r.tree.now) };
 
-    fn read(&self, file: &mut F, buffer: &mut [u8]) -> Grown<N> {
+    fn read(&mut self, file: &mut F, buffer: &mut [u8]) -> Grown<N> {
         read_tree(self.alloc, file, self.tree, buffer)
     }
 }

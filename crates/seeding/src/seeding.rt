@@ -172,8 +172,8 @@ fn find_tree<N: NodeMap, S: Shelf>(
         × HasFitting ((S.contents shelf.old).under file.now.path) (tree_entry tree.now)) }
     ensures stays { S.contents shelf.new ≡ S.contents shelf.old }
 {
-    let reader = TreeReader { alloc, tree };
-    match visit(shelf, &file.path.parts(), &reader, buffer) {
+    let mut reader = TreeReader { alloc, tree };
+    match visit(shelf, &file.path.parts(), &mut reader, buffer) {
         Ok(Some(read)) => tree_or_none(read),
         Ok(None) => Ok(None),
         Err(_) => Ok(None),

@@ -1,18 +1,15 @@
-use Rattle.std.proofs.Common.{◌∙◌, ap}
-use Rattle.folders.specs.Shelf.{more}
+use Rattle.std.proofs.Common.{map}
+use Rattle.folders.proofs.Visiting.{visited}
 use Rattle.folders.proofs.file_reader.visit.Goals as goal
 
-pub returns-in-Ok-Some-clause-visits : goal.returns-in-Ok-Some-clause-visits
-returns-in-Ok-Some-clause-visits g c = record {
-  file = c.in-Ok-Some.file;
-  found = rw c.in-Ok-Some.field-0-is at c.in-Ok-Some.ensures.found;
-  fresh = rw c.in-Ok-Some.field-0-is at c.in-Ok-Some.ensures.fresh;
-  handed = record {
-    between = c.open.new.self;
-    opened = rw c.in-Ok-Some.field-0-is at c.in-Ok-Some.ensures.opens;
-    read = c.read-answer.new.file;
-    reading = c.read-answer.ensures;
-    closed = c.close.ensures.closes;
-  };
-  counted = c.close.ensures.counts ∙ ap (λ n. more n (g.S.File.Source.seen c.read-answer.new.file).faults) c.in-Ok-Some.ensures.counts;
-}
+pub returns-clause-visits : goal.returns-clause-visits
+returns-clause-visits g c =
+    visited g.S.Shelf g.S.File.Source.seen (g.R.FileReader.reads c.args.reader.now c.read_opened.new.reader) c.args.shelf.now c.open-opened.new.self
+    c.read_opened.new.shelf (map (λ s. s.now) c.args.path.now) c.open-opened.result c.read_opened.result
+    (record {
+      found = c.open-opened.ensures.found;
+      fresh = c.open-opened.ensures.fresh;
+      counts = c.open-opened.ensures.counts;
+      opens = c.open-opened.ensures.opens;
+    })
+    c.read_opened.ensures.hands
