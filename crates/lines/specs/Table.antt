@@ -1,10 +1,19 @@
 -- The table of the lines: of each kind its name, and its items in order.
-use Rattle.std.specs.Prelude.{ℕ, List, [], ◌∷◌, codes, map}
+use Rattle.std.specs.Prelude.{ℕ, List, [], ◌∷◌, ◌++◌, Option, Some, None, codes, map, option_map, string_bytes}
 use Rattle.std.specs.List.{join_with_byte}
+use Rattle.benc.specs.Messages.{kind_name}
 use Rattle.filetree.specs.FileTree.{slash}
-use Rattle.lines.specs.Rows.{Item, Row, row, word, number, name, code, path}
+use Rattle.filetree.specs.Names.{key_text, refusal_name, refusal_number}
+use Rattle.filetree.specs.declared.refusal.Refusal.{Refusal}
+use Rattle.filetree.specs.declared.refusal.Refusal.TheVariants as refusals
+use Rattle.hex.specs.Hex.{encode_lower}
+use Rattle.lines.specs.Rows.{Item, Row, row, word, number, start, name, code, text}
 use Rattle.lines.specs.declared.line.Line.{Line}
 use Rattle.lines.specs.declared.line.Line.TheVariants as line
+use Rattle.lines.specs.declared.checked.Checked.{Checked}
+use Rattle.lines.specs.declared.checked.Checked.TheVariants as checked
+use Rattle.lines.specs.declared.shown.Shown.{Shown}
+use Rattle.lines.specs.declared.shown.Shown.TheVariants as shown
 
 -- ---- lines of frame n: its number, the kind, and then these items
 
@@ -62,7 +71,7 @@ still_held_row count = plain_row (codes "held") (number (codes "count") count �
 
 -- a path by its components
 abbrev pub path_item : List (List ℕ) → Item
-path_item parts = path (codes "path") (join_with_byte slash parts)
+path_item parts = text (codes "path") (join_with_byte slash parts)
 
 abbrev pub seeded_row : List (List ℕ) → Row
 seeded_row parts = plain_row (codes "seeded") (path_item parts ∷ [])
@@ -72,6 +81,130 @@ not_seeded_row parts = plain_row (codes "not seeded") (path_item parts ∷ [])
 
 abbrev pub fault_row : List ℕ → Row
 fault_row called = plain_row (codes "fault") (name (codes "name") called ∷ [])
+
+-- ---- lines of a file and of a torrent
+
+-- a root in hexadecimal, or a dash of an empty file
+abbrev pub root_item : Option (List ℕ) → Item
+root_item None = word (codes "-")
+root_item (Some root) = name (codes "root") (encode_lower root)
+
+abbrev pub root_row : ℕ → Option (List ℕ) → Row
+root_row len root = row (codes "root") (number (codes "length") len ∷ root_item root ∷ [])
+
+-- a kind, its title, and then these items
+abbrev pub titled_row : List ℕ → List ℕ → List Item → Row
+titled_row kind title items = row kind (word title ∷ items)
+
+abbrev pub name_row : List ℕ → Row
+name_row called = titled_row (codes "name") (codes "name:") (text (codes "name") called ∷ [])
+
+abbrev pub piece_length_row : ℕ → Row
+piece_length_row bytes =
+    titled_row (codes "piece length") (codes "piece length:") (number (codes "bytes") bytes ∷ [])
+
+-- an info-hash
+abbrev pub hash_row : List ℕ → List ℕ → List ℕ → Row
+hash_row kind title hash =
+    titled_row kind title (name (codes "hash") (encode_lower hash) ∷ [])
+
+abbrev pub hash_v2_row : List ℕ → Row
+hash_v2_row hash = hash_row (codes "info hash v2") (codes "info hash v2:") hash
+
+abbrev pub hash_v1_row : List ℕ → Row
+hash_v1_row hash = hash_row (codes "info hash v1") (codes "info hash v1:") hash
+
+abbrev pub files_row : ℕ → Row
+files_row count = titled_row (codes "files") (codes "files:") (number (codes "count") count ∷ [])
+
+abbrev pub file_row : ℕ → Option (List ℕ) → List (List ℕ) → Row
+file_row len root parts =
+    row (codes "file") (number (codes "length") len ∷ root_item root ∷ path_item parts ∷ [])
+
+abbrev pub total_row : ℕ → List ℕ → Row
+total_row bytes size =
+    titled_row (codes "total") (codes "total:")
+    (number (codes "bytes") bytes ∷ text (codes "size") size ∷ [])
+
+abbrev pub pieces_row : ℕ → List ℕ → Row
+pieces_row count size =
+    titled_row (codes "pieces") (codes "pieces:")
+    (number (codes "count") count ∷ word (codes "of") ∷ text (codes "size") size ∷ [])
+
+abbrev pub layers_row : ℕ → Row
+layers_row count =
+    titled_row (codes "layers") (codes "layers:") (number (codes "count") count ∷ [])
+
+abbrev pub shown_row : Shown → Row
+shown_row (shown.Name called) = name_row called.now
+shown_row (shown.PieceLength bytes) = piece_length_row bytes
+shown_row (shown.InfoHashV2 hash) = hash_v2_row hash.now
+shown_row (shown.InfoHashV1 hash) = hash_v1_row hash.now
+shown_row (shown.Files count) = files_row count
+shown_row (shown.File len root p) =
+    file_row len (option_map (λ r. r.now) root) (map (λ s. s.now) p.now)
+shown_row (shown.Total bytes size) = total_row bytes size.now
+shown_row (shown.Pieces count size) = pieces_row count size.now
+shown_row (shown.Layers count) = layers_row count
+
+-- ---- lines of a check
+
+-- a file of which this is said
+abbrev pub path_row : List ℕ → List (List ℕ) → Row
+path_row kind parts = plain_row kind (path_item parts ∷ [])
+
+abbrev pub extra_row : List (List ℕ) → Row
+extra_row parts = path_row (codes "extra") parts
+
+abbrev pub bad_row : ℕ → List (List ℕ) → Row
+bad_row piece parts =
+    plain_row (codes "bad") (number (codes "piece") piece ∷ path_item parts ∷ [])
+
+-- a run of bad pieces, and its first and last byte
+abbrev pub bad_pieces_row : ℕ → ℕ → ℕ → ℕ → Row
+bad_pieces_row first last from to =
+    plain_row (codes "bad pieces")
+    (number (codes "first") first ∷ number (codes "last") last ∷ word (codes "bytes")
+    ∷ start (codes "from") from ∷ number (codes "to") to ∷ [])
+
+abbrev pub v1_bad_row : ℕ → Row
+v1_bad_row piece = plain_row (codes "v1 bad") (number (codes "piece") piece ∷ [])
+
+abbrev pub checked_row : Checked → Row
+checked_row (checked.Extra p) = extra_row (map string_bytes p.now)
+checked_row (checked.Good p) = path_row (codes "good") (map (λ s. s.now) p.now)
+checked_row (checked.Missing p) = path_row (codes "missing") (map (λ s. s.now) p.now)
+checked_row (checked.Unreadable p) = path_row (codes "unreadable") (map (λ s. s.now) p.now)
+checked_row (checked.WrongLength p) = path_row (codes "wrong length") (map (λ s. s.now) p.now)
+checked_row (checked.Bad piece p) = bad_row piece (map (λ s. s.now) p.now)
+checked_row (checked.BadPieces first last from to) = bad_pieces_row first last from to
+checked_row checked.V1Good = plain_row (codes "v1 good") []
+checked_row (checked.V1Bad piece) = v1_bad_row piece
+checked_row checked.V1NotChecked = plain_row (codes "v1 not checked") []
+checked_row checked.Yes = plain_row (codes "yes") []
+checked_row checked.No = plain_row (codes "no") []
+
+-- ---- the line of a torrent that is refused
+
+-- what is said beside the name: of bytes that spell no value the first fault and its offset, of a
+-- key the key
+abbrev pub detail_items : Refusal → List Item
+detail_items (refusals.NotBencode fault) =
+    name (codes "fault") (kind_name fault.kind) ∷ number (codes "offset") fault.offset ∷ []
+detail_items (refusals.Missing key) = name (codes "key") (key_text key) ∷ []
+detail_items (refusals.WrongType key) = name (codes "key") (key_text key) ∷ []
+detail_items refusal = []
+
+-- the path, if there is one
+abbrev pub path_items : List (List ℕ) → List Item
+path_items [] = []
+path_items (part ∷ parts) = path_item (part ∷ parts) ∷ []
+
+abbrev pub refusal_row : Refusal → List (List ℕ) → Row
+refusal_row r parts =
+    plain_row (codes "refused")
+    (number (codes "number") (refusal_number r) ∷ name (codes "name") (refusal_name r)
+    ∷ (detail_items r ++ path_items parts))
 
 -- ---- the table
 
@@ -98,3 +231,7 @@ row_of (line.Seeded p) = seeded_row (map (λ s. s.now) p.now)
 row_of (line.NotSeeded p) = not_seeded_row (map (λ s. s.now) p.now)
 row_of line.End = plain_row (codes "end") []
 row_of (line.Fault called) = fault_row called.now
+row_of (line.Root len root) = root_row len (option_map (λ r. r.now) root)
+row_of (line.Shown s) = shown_row s
+row_of (line.Checked found) = checked_row found
+row_of (line.Refusal r p) = refusal_row r.now (map string_bytes p.now)

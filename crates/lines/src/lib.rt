@@ -2,14 +2,21 @@
 //! object are made of its row.
 #![tactic(auto)]
 
+mod checked;
+mod frames;
 mod gathered;
 mod line;
 mod line_sink;
 mod object;
 mod part;
+mod plain;
+mod refusal;
+mod shown;
 mod string;
 mod text;
 
-pub use line::{Line, say, say_last};
+pub use checked::Checked;
+pub use line::{Line, finish_after, say, say_last};
 pub use line_sink::{LineSink, Objects};
 pub use part::Part;
+pub use shown::Shown;

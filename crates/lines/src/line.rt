@@ -3,9 +3,16 @@ ghost use Rattle.std.specs.Prelude.{◌≡◌, ℕ, List};
 ghost use Rattle.benc.specs.Device.{SinkSeen, Wrote, WroteAndFlushed};
 ghost use Rattle.lines.specs.Table.{row_of};
 
+use crate::checked::{Checked, say_checked};
+use crate::frames::{
+    say_bad_frame, say_block, say_frame, say_of, say_refused, say_refused_at, say_run,
+};
 use crate::line_sink::LineSink;
-use crate::part::Part::{Code, Name, Number, Path, Word};
+use crate::plain::{say_name, say_number, say_path, say_word};
+use crate::refusal::say_refusal;
+use crate::shown::{Shown, say_root, say_shown};
 use benc::{DeviceFault, WriteFault};
+use filetree::Refusal;
 
 /// A line of a report. It borrows what it says. Frames are counted from 1, files of a torrent and
 /// blocks of a file from 0.
@@ -98,6 +105,21 @@ pub enum Line<'a> {
     End,
     /// The record could not be read further, for the reason of this name.
     Fault(&'static str),
+    /// The length of a file in bytes, and its pieces root if it is not empty.
+    Root {
+        length: u64,
+        root: Option<&'a [u8; 32]>,
+    },
+    /// What a torrent holds.
+    Shown(Shown<'a>),
+    /// What a check found.
+    Checked(Checked<'a>),
+    /// Why bytes are no torrent or a draft is none, and the path of the file that it is about, if
+    /// there is one.
+    Refusal {
+        refusal: &'a Refusal,
+        path: &'a [String],
+    },
 }
 
 /// Says a line: its row of the table goes out. After a fault a prefix of it went out.
@@ -105,37 +127,14 @@ pub fn say<L: LineSink>(line: &Line<'_>, out: &mut L) -> Result<(), DeviceFault>
     ensures { Wrote (L.seen out.old) (L.seen out.new) result (L.spelled (row_of line.now)) }
 {
     match *line {
-        Line::Stored { frame, count } => out.row(
-            "stored",
-            &[
-                Number("frame", frame),
-                Word("stored"),
-                Number("count", count),
-            ],
-        ),
-        Line::Verified { frame, file, block } => out.row(
-            "verified",
-            &[
-                Number("frame", frame),
-                Word("verified"),
-                Number("file", file),
-                Number("block", block),
-            ],
-        ),
+        Line::Stored { frame, count } => say_of("stored", frame, "count", count, out),
+        Line::Verified { frame, file, block } => say_block("verified", frame, file, block, out),
         Line::Refused {
             frame,
             letter,
             number,
             name,
-        } => out.row(
-            "refused",
-            &[
-                Number("frame", frame),
-                Word("refused"),
-                Code("code", letter, number),
-                Name("name", name),
-            ],
-        ),
+        } => say_refused(frame, letter, number, name, out),
         Line::RefusedAt {
             frame,
             letter,
@@ -143,109 +142,43 @@ pub fn say<L: LineSink>(line: &Line<'_>, out: &mut L) -> Result<(), DeviceFault>
             name,
             file,
             block,
-        } => out.row(
-            "refused",
-            &[
-                Number("frame", frame),
-                Word("refused"),
-                Code("code", letter, number),
-                Name("name", name),
-                Number("file", file),
-                Number("block", block),
-            ],
-        ),
-        Line::Held { frame, file, block } => out.row(
-            "held",
-            &[
-                Number("frame", frame),
-                Word("held"),
-                Number("file", file),
-                Number("block", block),
-            ],
-        ),
+        } => say_refused_at(frame, letter, number, name, file, block, out),
+        Line::Held { frame, file, block } => say_block("held", frame, file, block, out),
         Line::Proved {
             frame,
             file,
             first,
             last,
-        } => out.row(
-            "proved",
-            &[
-                Number("frame", frame),
-                Word("proved"),
-                Number("file", file),
-                Number("first", first),
-                Number("last", last),
-            ],
-        ),
+        } => say_run("proved", frame, file, first, last, out),
         Line::False {
             frame,
             file,
             first,
             last,
-        } => out.row(
-            "false",
-            &[
-                Number("frame", frame),
-                Word("false"),
-                Number("file", file),
-                Number("first", first),
-                Number("last", last),
-            ],
-        ),
+        } => say_run("false", frame, file, first, last, out),
         Line::Dropped {
             frame,
             file,
             first,
             last,
-        } => out.row(
-            "dropped",
-            &[
-                Number("frame", frame),
-                Word("dropped"),
-                Number("file", file),
-                Number("first", first),
-                Number("last", last),
-            ],
-        ),
-        Line::StillHeld(count) => out.row("held", &[Word("held"), Number("count", count)]),
-        Line::Answered(frame) => {
-            out.row("answered", &[Number("frame", frame), Word("answered")])
-        }
-        Line::Rejected(frame) => {
-            out.row("rejected", &[Number("frame", frame), Word("rejected")])
-        }
-        Line::RejectNoted(frame) => out.row(
-            "reject noted",
-            &[Number("frame", frame), Word("reject noted")],
-        ),
-        Line::KeepAlive(frame) => {
-            out.row("keep-alive", &[Number("frame", frame), Word("keep-alive")])
-        }
-        Line::Skipped { frame, id } => out.row(
-            "skipped",
-            &[Number("frame", frame), Word("skipped"), Number("id", id)],
-        ),
-        Line::BadFrame { frame, id, length } => out.row(
-            "bad frame",
-            &[
-                Number("frame", frame),
-                Word("bad frame"),
-                Number("id", id),
-                Number("length", length),
-            ],
-        ),
-        Line::SentRequest(frame) => out.row(
-            "sent request",
-            &[Number("frame", frame), Word("sent request")],
-        ),
-        Line::Sent(frame) => out.row("sent", &[Number("frame", frame), Word("sent")]),
-        Line::Seeded(path) => out.row("seeded", &[Word("seeded"), Path("path", path)]),
-        Line::NotSeeded(path) => {
-            out.row("not seeded", &[Word("not seeded"), Path("path", path)])
-        }
-        Line::End => out.row("end", &[Word("end")]),
-        Line::Fault(name) => out.row("fault", &[Word("fault"), Name("name", name)]),
+        } => say_run("dropped", frame, file, first, last, out),
+        Line::StillHeld(count) => say_number("held", "count", count, out),
+        Line::Answered(frame) => say_frame("answered", frame, out),
+        Line::Rejected(frame) => say_frame("rejected", frame, out),
+        Line::RejectNoted(frame) => say_frame("reject noted", frame, out),
+        Line::KeepAlive(frame) => say_frame("keep-alive", frame, out),
+        Line::Skipped { frame, id } => say_of("skipped", frame, "id", id, out),
+        Line::BadFrame { frame, id, length } => say_bad_frame(frame, id, length, out),
+        Line::SentRequest(frame) => say_frame("sent request", frame, out),
+        Line::Sent(frame) => say_frame("sent", frame, out),
+        Line::Seeded(path) => say_path("seeded", path, out),
+        Line::NotSeeded(path) => say_path("not seeded", path, out),
+        Line::End => say_word("end", out),
+        Line::Fault(name) => say_name("fault", name, out),
+        Line::Root { length, root } => say_root(length, &root, out),
+        Line::Shown(shown) => say_shown(&shown, out),
+        Line::Checked(found) => say_checked(&found, out),
+        Line::Refusal { refusal, path } => say_refusal(refusal, path, out),
     }
 }
 
@@ -259,8 +192,11 @@ pub fn say_last<L: LineSink>(line: &Line<'_>, out: &mut L) -> Result<(), WriteFa
     finish_after(out, said)
 }
 
-// Flushes once if all was said, and not after a fault.
-fn finish_after<L: LineSink>(out: &mut L, said: Result<(), DeviceFault>) -> Result<(), WriteFault>
+/// Flushes once if all was said, and not after a fault.
+pub fn finish_after<L: LineSink>(
+    out: &mut L,
+    said: Result<(), DeviceFault>,
+) -> Result<(), WriteFault>
     ensures { (start : SinkSeen) (text : List ℕ) → Wrote start (L.seen out.old) said text
         → WroteAndFlushed start (L.seen out.new) result text }
 {

@@ -11,12 +11,22 @@ pub enum Part<'a> {
     Word(&'static str),
     /// A number, under this key.
     Number(&'static str, u64),
+    /// A number, under this key. A dash stands behind it in place of the space.
+    Start(&'static str, u64),
     /// A name, under this key.
     Name(&'static str, &'static str),
     /// A letter with a number behind it, under this key.
     Code(&'static str, &'static str, u64),
+    /// A SHA-256 digest, under this key. It is written in lower case hexadecimal.
+    Sha256(&'static str, &'a [u8; 32]),
+    /// A SHA-1 digest, under this key. It is written in lower case hexadecimal.
+    Sha1(&'static str, &'a [u8; 20]),
+    /// A text, under this key. It is printed with its escapes.
+    Text(&'static str, &'a str),
     /// A path by its components, under this key. It is printed with its escapes.
     Path(&'static str, &'a [&'a str]),
+    /// The same of components that own their texts.
+    OwnPath(&'static str, &'a [String]),
 }
 
 impl<'a> Default for Part<'a> {

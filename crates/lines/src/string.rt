@@ -7,12 +7,25 @@ ghost use Rattle.filetree.specs.FileTree.{slash};
 ghost use Rattle.lines.specs.Strings.{quoted, short_escape, string_byte, string_bytes};
 
 use benc::{DeviceFault, Sink, write_all};
+use std::convert::AsStr;
+
+/// Writes a text as a JSON string. After a fault a prefix of it went out.
+pub(crate) fn write_string<W: Sink>(text: &[u8], out: &mut W) -> Result<(), DeviceFault>
+    ensures { Wrote (W.seen out.old) (W.seen out.new) result (quoted text.now) }
+{
+    write_all(out, b"\"")?;
+    write_inside(text, out)?;
+    write_all(out, b"\"")
+}
 
 /// Writes a path as a JSON string: its components with `/` between them. After a fault a prefix of
 /// it went out.
-pub(crate) fn write_path_string<W: Sink>(path: &[&str], out: &mut W) -> Result<(), DeviceFault>
+pub(crate) fn write_path_string<W: Sink, S: AsStr>(
+    path: &[S],
+    out: &mut W,
+) -> Result<(), DeviceFault>
     ensures { Wrote (W.seen out.old) (W.seen out.new) result
-        (quoted (join_with_byte slash (map (λ s. s.now) path.now))) }
+        (quoted (join_with_byte slash (map S.text path.now))) }
 {
     write_all(out, b"\"")?;
     write_joined(path, out)?;
@@ -20,17 +33,17 @@ pub(crate) fn write_path_string<W: Sink>(path: &[&str], out: &mut W) -> Result<(
 }
 
 // Writes the components of a path, with `/` between them.
-fn write_joined<W: Sink>(path: &[&str], out: &mut W) -> Result<(), DeviceFault>
+fn write_joined<W: Sink, S: AsStr>(path: &[S], out: &mut W) -> Result<(), DeviceFault>
     ensures { Wrote (W.seen out.old) (W.seen out.new) result
-        (string_bytes (join_with_byte slash (map (λ s. s.now) path.now))) }
+        (string_bytes (join_with_byte slash (map S.text path.now))) }
 {
     let Some((first, others)) = path.split_first() else {
         return Ok(());
     };
-    write_inside(first.as_bytes(), out)?;
+    write_inside(first.as_str().as_bytes(), out)?;
     'parts: for part in others {
         write_all(out, b"/")?;
-        write_inside(part.as_bytes(), out)?;
+        write_inside(part.as_str().as_bytes(), out)?;
     }
     Ok(())
 }

@@ -10,4 +10,4 @@ use Rattle.lines.proofs.string.write_joined.Given as goal
 abbrev pub invariant-parts : goal.invariant-parts
 invariant-parts g l =
     SentBut (g.W.Sink.seen l.fn.out) (g.W.Sink.seen l.out)
-    (string_bytes (join_with_byte slash (map (λ s. s.now) l.fn.path))) (joined_rest (map (λ s. s.now) (drop l.part-index l.others)))
+    (string_bytes (join_with_byte slash (map g.S.AsStr.text l.fn.path))) (joined_rest (map g.S.AsStr.text (drop l.part-index l.others)))

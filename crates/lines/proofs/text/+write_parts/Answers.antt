@@ -7,7 +7,7 @@ use Rattle.lines.specs.Texts.{after_part, item_text, items_text}
 use Rattle.lines.proofs.text.+write_parts.Goals as goal
 
 -- the first part, what stands behind it, and the others
-next : (parts others : List Part) (part : Part) (behind : List ℕ) → parts ≡ part ∷ others → behind ≡ after_part (map item_of others)
+next : (parts others : List Part) (part : Part) (behind : List ℕ) → parts ≡ part ∷ others → behind ≡ after_part (item_of part) (map item_of others)
     → items_text (map item_of parts) ≡ item_text (item_of part) ++ (behind ++ items_text (map item_of others))
 unfolding items_text
 next parts others part behind is e =

@@ -1,0 +1,112 @@
+//! The lines of a check.
+ghost use Rattle.std.specs.Prelude.{map, string_bytes};
+ghost use Rattle.benc.specs.Device.{Wrote};
+ghost use Rattle.lines.specs.Table.{bad_pieces_row, bad_row, checked_row, extra_row};
+
+use crate::line_sink::LineSink;
+use crate::part::Part::{Number, OwnPath, Path, Start, Word};
+use crate::plain::{say_number, say_path, say_word};
+use benc::DeviceFault;
+
+/// A line of a check. Pieces are counted from 0.
+#[derive(Clone, Copy, Debug, Drop)]
+pub enum Checked<'a> {
+    /// The torrent does not name the file with this path.
+    Extra(&'a [String]),
+    /// The file with this path is good.
+    Good(&'a [&'a str]),
+    /// It is not there.
+    Missing(&'a [&'a str]),
+    /// It cannot be read.
+    Unreadable(&'a [&'a str]),
+    /// It has another length.
+    WrongLength(&'a [&'a str]),
+    /// This piece of it is the first that is bad.
+    Bad {
+        piece: u64,
+        path: &'a [&'a str],
+    },
+    /// These pieces of the file before are bad, which are its bytes from the one offset to the
+    /// other, both included.
+    BadPieces {
+        first: u64,
+        last: u64,
+        from: u64,
+        to: u64,
+    },
+    /// All version 1 pieces are good.
+    V1Good,
+    /// This version 1 piece is the first that is bad.
+    V1Bad(u64),
+    /// The version 1 pieces were not checked.
+    V1NotChecked,
+    /// All is good.
+    Yes,
+    /// Not all is good.
+    No,
+}
+
+/// Says a line of a check.
+pub(crate) fn say_checked<L: LineSink>(found: &Checked<'_>, out: &mut L) -> Result<(), DeviceFault>
+    ensures { Wrote (L.seen out.old) (L.seen out.new) result (L.spelled (checked_row found.now)) }
+{
+    match *found {
+        Checked::Extra(path) => say_extra(path, out),
+        Checked::Good(path) => say_path("good", path, out),
+        Checked::Missing(path) => say_path("missing", path, out),
+        Checked::Unreadable(path) => say_path("unreadable", path, out),
+        Checked::WrongLength(path) => say_path("wrong length", path, out),
+        Checked::Bad { piece, path } => say_bad(piece, path, out),
+        Checked::BadPieces {
+            first,
+            last,
+            from,
+            to,
+        } => say_bad_pieces(first, last, from, to, out),
+        Checked::V1Good => say_word("v1 good", out),
+        Checked::V1Bad(piece) => say_number("v1 bad", "piece", piece, out),
+        Checked::V1NotChecked => say_word("v1 not checked", out),
+        Checked::Yes => say_word("yes", out),
+        Checked::No => say_word("no", out),
+    }
+}
+
+fn say_extra<L: LineSink>(path: &[String], out: &mut L) -> Result<(), DeviceFault>
+    ensures { Wrote (L.seen out.old) (L.seen out.new) result
+        (L.spelled (extra_row (map string_bytes path.now))) }
+{
+    out.row("extra", &[Word("extra"), OwnPath("path", path)])
+}
+
+fn say_bad<L: LineSink>(piece: u64, path: &[&str], out: &mut L) -> Result<(), DeviceFault>
+    ensures { Wrote (L.seen out.old) (L.seen out.new) result
+        (L.spelled (bad_row piece (map (λ s. s.now) path.now))) }
+{
+    out.row(
+        "bad",
+        &[Word("bad"), Number("piece", piece), Path("path", path)],
+    )
+}
+
+fn say_bad_pieces<L: LineSink>(
+    first: u64,
+    last: u64,
+    from: u64,
+    to: u64,
+    out: &mut L,
+) -> Result<(), DeviceFault>
+    ensures { Wrote (L.seen out.old) (L.seen out.new) result
+        (L.spelled (bad_pieces_row first last from to)) }
+{
+    out.row(
+        "bad pieces",
+        &[
+            Word("bad pieces"),
+            Number("first", first),
+            Number("last", last),
+            Word("bytes"),
+            Start("from", from),
+            Number("to", to),
+        ],
+    )
+}

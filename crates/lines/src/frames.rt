@@ -1,0 +1,153 @@
+//! Lines of a frame: its number, the kind, and what it says.
+ghost use Rattle.std.specs.Prelude.{◌∷◌, [], codes};
+ghost use Rattle.benc.specs.Device.{Wrote};
+ghost use Rattle.lines.specs.Rows.{number as number_item};
+ghost use Rattle.lines.specs.Table.{bad_frame_row, block_items, frame_row, refused_row, run_items};
+
+use crate::line_sink::LineSink;
+use crate::part::Part::{Code, Name, Number, Word};
+use benc::DeviceFault;
+
+/// Says a line that has the frame and the kind alone.
+pub(crate) fn say_frame<L: LineSink>(
+    kind: &'static str,
+    frame: u64,
+    out: &mut L,
+) -> Result<(), DeviceFault>
+    ensures { Wrote (L.seen out.old) (L.seen out.new) result
+        (L.spelled (frame_row kind.now frame [])) }
+{
+    out.row(kind, &[Number("frame", frame), Word(kind)])
+}
+
+/// Says a line of a frame that has a number under this key.
+pub(crate) fn say_of<L: LineSink>(
+    kind: &'static str,
+    frame: u64,
+    key: &'static str,
+    number: u64,
+    out: &mut L,
+) -> Result<(), DeviceFault>
+    ensures { Wrote (L.seen out.old) (L.seen out.new) result
+        (L.spelled (frame_row kind.now frame (number_item key.now number ∷ []))) }
+{
+    out.row(
+        kind,
+        &[Number("frame", frame), Word(kind), Number(key, number)],
+    )
+}
+
+/// Says a line of a frame about a block.
+pub(crate) fn say_block<L: LineSink>(
+    kind: &'static str,
+    frame: u64,
+    file: u64,
+    block: u64,
+    out: &mut L,
+) -> Result<(), DeviceFault>
+    ensures { Wrote (L.seen out.old) (L.seen out.new) result
+        (L.spelled (frame_row kind.now frame (block_items file block))) }
+{
+    out.row(
+        kind,
+        &[
+            Number("frame", frame),
+            Word(kind),
+            Number("file", file),
+            Number("block", block),
+        ],
+    )
+}
+
+/// Says a line of a frame about a run of blocks.
+pub(crate) fn say_run<L: LineSink>(
+    kind: &'static str,
+    frame: u64,
+    file: u64,
+    first: u64,
+    last: u64,
+    out: &mut L,
+) -> Result<(), DeviceFault>
+    ensures { Wrote (L.seen out.old) (L.seen out.new) result
+        (L.spelled (frame_row kind.now frame (run_items file first last))) }
+{
+    out.row(
+        kind,
+        &[
+            Number("frame", frame),
+            Word(kind),
+            Number("file", file),
+            Number("first", first),
+            Number("last", last),
+        ],
+    )
+}
+
+/// Says a line that refuses a message.
+pub(crate) fn say_refused<L: LineSink>(
+    frame: u64,
+    letter: &'static str,
+    number: u64,
+    name: &'static str,
+    out: &mut L,
+) -> Result<(), DeviceFault>
+    ensures { Wrote (L.seen out.old) (L.seen out.new) result
+        (L.spelled (refused_row frame letter.now number name.now [])) }
+{
+    out.row(
+        "refused",
+        &[
+            Number("frame", frame),
+            Word("refused"),
+            Code("code", letter, number),
+            Name("name", name),
+        ],
+    )
+}
+
+/// Says a line that refuses a block.
+pub(crate) fn say_refused_at<L: LineSink>(
+    frame: u64,
+    letter: &'static str,
+    number: u64,
+    name: &'static str,
+    file: u64,
+    block: u64,
+    out: &mut L,
+) -> Result<(), DeviceFault>
+    ensures { Wrote (L.seen out.old) (L.seen out.new) result
+        (L.spelled (refused_row frame letter.now number name.now (block_items file block))) }
+{
+    out.row(
+        "refused",
+        &[
+            Number("frame", frame),
+            Word("refused"),
+            Code("code", letter, number),
+            Name("name", name),
+            Number("file", file),
+            Number("block", block),
+        ],
+    )
+}
+
+/// Says a line about a frame of a wrong size.
+pub(crate) fn say_bad_frame<L: LineSink>(
+    frame: u64,
+    id: u64,
+    length: u64,
+    out: &mut L,
+) -> Result<(), DeviceFault>
+    ensures { Wrote (L.seen out.old) (L.seen out.new) result
+        (L.spelled (bad_frame_row frame id length)) }
+{
+    out.row(
+        "bad frame",
+        &[
+            Number("frame", frame),
+            Word("bad frame"),
+            Number("id", id),
+            Number("length", length),
+        ],
+    )
+}

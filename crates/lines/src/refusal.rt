@@ -1,0 +1,63 @@
+//! The line of a torrent that is refused.
+ghost use Rattle.std.specs.Prelude.{◌≡◌, ◌+◌, ◌++◌, ◌≤◌, length, map, string_bytes};
+ghost use Rattle.benc.specs.Device.{Wrote};
+ghost use Rattle.lines.specs.Rows.{item_of};
+ghost use Rattle.lines.specs.Table.{detail_items, path_items, refusal_row};
+
+use crate::line_sink::LineSink;
+use crate::part::{Part, ROOM};
+use arrayvec::ArrayVec;
+use benc::DeviceFault;
+use filetree::Refusal;
+
+/// The parts of a line.
+type Parts<'a> = ArrayVec<Part<'a>, ROOM>;
+
+/// Says the line of a refusal, with the path of the file that it is about, if there is one.
+pub(crate) fn say_refusal<L: LineSink>(
+    refusal: &Refusal,
+    path: &[String],
+    out: &mut L,
+) -> Result<(), DeviceFault>
+    ensures { Wrote (L.seen out.old) (L.seen out.new) result
+        (L.spelled (refusal_row refusal.now (map string_bytes path.now))) }
+{
+    let mut parts = Parts::new();
+    parts.push(Part::Word("refused"));
+    parts.push(Part::Number("number", u64::from(refusal.number())));
+    parts.push(Part::Name("name", refusal.name()));
+    put_detail(refusal, &mut parts);
+    put_path(path, &mut parts);
+    out.row("refused", &parts)
+}
+
+// Puts what is said beside the name at the end.
+fn put_detail<'a>(refusal: &Refusal, parts: &mut Parts<'a>)
+    requires { length parts.old.items ≤ 5 }
+    ensures items { map item_of parts.new.items
+        ≡ map item_of parts.old.items ++ detail_items refusal.now }
+    ensures bound { length parts.new.items ≤ length parts.old.items + 2 }
+{
+    match refusal {
+        Refusal::NotBencode(fault) => {
+            parts.push(Part::Name("fault", fault.kind.name()));
+            parts.push(Part::Number("offset", fault.offset as u64));
+        }
+        Refusal::Missing(key) | Refusal::WrongType(key) => {
+            parts.push(Part::Name("key", key.text()));
+        }
+        _ => (),
+    }
+}
+
+// Puts the path at the end, if there is one.
+fn put_path<'a>(path: &'a [String], parts: &mut Parts<'a>)
+    requires { length parts.old.items ≤ 6 }
+    ensures items { map item_of parts.new.items
+        ≡ map item_of parts.old.items ++ path_items (map string_bytes path.now) }
+    ensures bound { length parts.new.items ≤ length parts.old.items + 1 }
+{
+    if !path.is_empty() {
+        parts.push(Part::OwnPath("path", path));
+    }
+}
