@@ -18,7 +18,7 @@ CALLS = {
     ("write_all", "the sink"), ("write_escaped", "the sink"), ("write_path", "the sink"), ("write_line", "the sink"),
     ("flush_after", "the sink"), ("encode", "the sink"), ("write", "the sink"), ("root_line", "the sink"),
     ("show", "the sink"), ("refusal_line", "the sink"), ("fault_line", "the sink"), ("print_report", "the sink"),
-    ("print_part", "the sink"), ("check_part", "the shelf"), ("check_part", "a file"),
+    ("say_check_with_bad_pieces", "the sink"), ("print_part", "the sink"), ("check_part", "the shelf"), ("check_part", "a file"),
     ("check_part_with_bad_pieces", "the sink"), ("check_part_with_bad_pieces", "the shelf"),
     ("check_part_with_bad_pieces", "a file"), ("print_marked_report", "the sink"),
     ("seed", "the sink"), ("replay", "the sink"), ("replay with answers", "the sink"), ("finish", "the sink"),

@@ -244,7 +244,8 @@ def test_folders():
         path = write(f"{place}/torrent", torrent_of([("five", FIVE)], 32768))
         whole, bad = write(f"{place}/content", FIVE), write(f"{place}/bad", FIVE[:-1])
         for call, named in [("gather", {"gather"}), ("check", {"check"}), ("check_onto", {"check_onto"}),
-                            ("check_with_bad_pieces", {"check_with_bad_pieces"}), ("parts", {"check_part", "join_reports"}),
+                            ("check_with_bad_pieces", {"check_with_bad_pieces"}), ("say_check", {"say_check"}),
+                            ("parts", {"check_part", "join_reports"}),
                             ("marked parts", {"check_part_with_bad_pieces", "join_marked_reports"}),
                             ("seed", {"new", "seed"}), ("seed_onto", {"new", "seed_onto"})]:
             for map_name in ("flat", "paged") if "seed" in call else ("paged",):

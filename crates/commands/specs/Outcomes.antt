@@ -14,7 +14,7 @@ use Rattle.seeding.specs.declared.seed_fault.SeedFault.{SeedFault}
 use Rattle.seeding.specs.declared.seed_fault.SeedFault.TheVariants as seeding
 use Rattle.folders.specs.declared.shelf_fault.ShelfFault.{ShelfFault}
 use Rattle.folders.specs.declared.shelf_fault.ShelfFault.TheVariants as listing
-use Rattle.folders.specs.declared.lines.Lines.{Lines}
+use Rattle.folders.specs.declared.report_lines.Lines.{Lines}
 use Rattle.folders.specs.declared.report.FileVerdict.{FileVerdict}
 use Rattle.folders.specs.declared.report.V1Verdict.{V1Verdict}
 use Rattle.printing.specs.declared.fault.Fault.{Fault}
@@ -28,13 +28,13 @@ use Rattle.filetree.specs.declared.refusal.Refusal.TheVariants as refusals
 use Rattle.filetree.specs.Tests.{First, NoneHolds, TestRow}
 use Rattle.drafts.specs.Written.{value_of}
 use Rattle.replays.specs.Outcome.{status_of}
-use Rattle.folders.specs.Printed.{report_text}
+use Rattle.folders.specs.Printed.{Wording, report_as, report_text}
 use Rattle.printing.specs.Refused.{refusal_text}
 use Rattle.replays.specs.Replay.{IsReport, ReplaySeen}
 use Rattle.replays.specs.Telling.{plain_as}
 use Rattle.folders.specs.Shelf.{path_bytes}
 use Rattle.folders.specs.Verdicts.{HasVerdicts, IsTrueOfFolder, is_yes}
-use Rattle.folders.specs.declared.lines.Lines.TheVariants as lines
+use Rattle.folders.specs.declared.report_lines.Lines.TheVariants as lines
 use Rattle.lines.specs.Rows.{Spelling}
 use Rattle.part_reports.specs.Joined.{AreJoined}
 use Rattle.part_reports.specs.MarkedJoins.{AreJoinedAs}
@@ -113,16 +113,16 @@ EndsRoot source source' out out' (Err fault) = ⊥
 -- What a check did, by its answer: it went to the shelf so, the wanted lines of a report on what
 -- stands under the torrent's paths went out, and the status is that of the last one; or the lines
 -- broke off so; or memory was refused before the first.
-abbrev pub Checks : Description → (List (List ℕ) → Option (Option (List ℕ)))
+abbrev pub Checks : Wording → Description → (List (List ℕ) → Option (Option (List ℕ)))
     → (List FileVerdict → Type 0) → Type 0 → Lines → SinkSeen → SinkSeen → Result ℕ Fault → Type 0
-Checks t under Went Broken lines out out' (Ok status) = (files : List FileVerdict)
+Checks words t under Went Broken lines out out' (Ok status) = (files : List FileVerdict)
     × (v1 : Option V1Verdict) × HasVerdicts t files v1 × IsTrueOfFolder t under files v1
-    × Went files × SentAndFlushed out out' (report_text lines t.files files v1)
+    × Went files × SentAndFlushed out out' (report_as words lines t.files files v1)
     × (status ≡ answer_status (is_yes files v1))
-Checks t under Went Broken lines out out' (Err (faults.Write path)) =
+Checks words t under Went Broken lines out out' (Err (faults.Write path)) =
     (path.now ≡ codes "-") × Broken
-Checks t under Went Broken lines out out' (Err faults.NoMemory) = out' ≡ out
-Checks t under Went Broken lines out out' (Err fault) = ⊥
+Checks words t under Went Broken lines out out' (Err faults.NoMemory) = out' ≡ out
+Checks words t under Went Broken lines out out' (Err fault) = ⊥
 
 -- ---- parts
 

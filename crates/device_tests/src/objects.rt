@@ -3,9 +3,11 @@ use crate::trial::sink;
 use crate::world::World;
 use benc::memory::{MemSink, MemSource};
 use benc::{DeviceFault, Sink, WriteFault};
+use folders::Lines;
 use folders::memory::MemShelf;
 use holdings::Holdings;
 use lines::Objects;
+use parts::say_check_with_bad_pieces;
 use replays::{Outcome, replay_onto, replay_pieces_onto};
 use seeding::{SeedFault, seed_onto};
 use session::{Flat, Session};
@@ -69,6 +71,15 @@ pub(crate) fn unseeded(
         Ok(()) => Ok(1),
         Err(_) => Ok(2),
     }
+}
+
+/// Checks the two files, and writes the lines to the sink: whether it answered a report.
+pub(crate) fn checks(rt: &HostRuntime, world: &World<'_, '_>, out: &mut MemSink) -> bool {
+    let files = world.files();
+    let mut shelf = MemShelf::new(rt.alloc(), &files);
+    let mut lines = Objects::new(Lent { sink: out });
+    let alloc = rt.alloc();
+    say_check_with_bad_pieces(alloc, world.torrent, &mut shelf, Lines::All, &mut lines).is_ok()
 }
 
 /// Replays the record to a new session, and writes its lines to the sink. By pieces the session

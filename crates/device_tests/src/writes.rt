@@ -36,6 +36,7 @@ enum Call {
     RefusalLine,
     FaultLine,
     PrintReport,
+    SayCheck,
     PrintPart,
     CheckMarked,
     PrintMarked,
@@ -50,7 +51,7 @@ enum Call {
     Convert,
 }
 
-const CALLS: [Call; 24] = [
+const CALLS: [Call; 25] = [
     Call::WriteAll,
     Call::WriteEscaped,
     Call::WritePath,
@@ -63,6 +64,7 @@ const CALLS: [Call; 24] = [
     Call::RefusalLine,
     Call::FaultLine,
     Call::PrintReport,
+    Call::SayCheck,
     Call::PrintPart,
     Call::CheckMarked,
     Call::PrintMarked,
@@ -91,6 +93,7 @@ fn name(call: Call) -> &'static str {
         Call::RefusalLine => "refusal_line",
         Call::FaultLine => "fault_line",
         Call::PrintReport => "print_report",
+        Call::SayCheck => "say_check_with_bad_pieces",
         Call::PrintPart => "print_part",
         Call::CheckMarked => "check_part_with_bad_pieces",
         Call::PrintMarked => "print_marked_report",
@@ -164,6 +167,7 @@ fn make(
     match call {
         Call::Encode => Ok(make_encode(rt, world, out)),
         Call::PrintReport => make_report(rt, world, out),
+        Call::SayCheck => Ok(objects::checks(rt, world, out)),
         Call::PrintPart => make_part(rt, world, out),
         Call::CheckMarked => Ok(marked::checks_part(rt, world, out)),
         Call::PrintMarked => marked::prints_joined(rt, world, out),

@@ -9,6 +9,7 @@ pub mod MemShelfSeeking
 pub mod Folder
 pub mod Verdicts
 pub mod Printed
+pub mod Said
 pub mod Stopping
 pub mod Visits
 pub mod SeekVisits

@@ -4,11 +4,11 @@ use Rattle.benc.specs.Device.{Broke, BrokeOrUnflushed, SinkSeen, SourceSeen}
 use Rattle.chains.specs.Chain.{Chain}
 use Rattle.opening.specs.Description.{Description, FileEntry}
 use Rattle.folders.specs.Folder.{Contents}
-use Rattle.folders.specs.Printed.{report_text, verdicts_text}
+use Rattle.folders.specs.Printed.{Wording, in_text, report_as, verdicts_as}
 use Rattle.folders.specs.Shelf.{more}
 use Rattle.folders.specs.Verdicts.{Agrees, AreVerdicts, HasVerdicts, IsTrueOfFolder, unreadable_count}
 use Rattle.folders.specs.Visits.{Visits}
-use Rattle.folders.specs.declared.lines.Lines.{Lines}
+use Rattle.folders.specs.declared.report_lines.Lines.{Lines}
 use Rattle.folders.specs.declared.report.FileVerdict.{FileVerdict}
 use Rattle.folders.specs.declared.report.V1Verdict.{V1Verdict}
 use Rattle.folders.specs.declared.shelf.Shelf.{Ghosts}
@@ -23,11 +23,11 @@ pub record AreTrueOfFirst (t : Description) (under : List (List ℕ) → Option 
   pub each : AreVerdicts t contents files
 
 -- the report on all files broke off at its end, or was not flushed
-abbrev pub BreaksAtEnd : Description → (List (List ℕ) → Option (Option (List ℕ))) → Lines
+abbrev pub BreaksAtEnd : Wording → Description → (List (List ℕ) → Option (Option (List ℕ))) → Lines
     → List FileVerdict → SinkSeen → SinkSeen → Type 0
-BreaksAtEnd t under lines files out out' = (v1 : Option V1Verdict) × HasVerdicts t files v1
+BreaksAtEnd words t under lines files out out' = (v1 : Option V1Verdict) × HasVerdicts t files v1
     × IsTrueOfFolder t under files v1
-    × BrokeOrUnflushed out out' (report_text lines t.files files v1)
+    × BrokeOrUnflushed out out' (report_as words lines t.files files v1)
 
 module _ {S F : Type 0} (shelf : Ghosts S F) (seen : F → SourceSeen) where
   -- the first files of a torrent were visited, each once and in order, for these verdicts, which
@@ -38,11 +38,16 @@ module _ {S F : Type 0} (shelf : Ghosts S F) (seen : F → SourceSeen) where
       pub counted : shelf.faults s' ≡ more (shelf.faults s) (unreadable_count files)
       pub are_true : AreTrueOfFirst t (shelf.contents s).under files
 
-  -- some first files were visited, and the lines of their verdicts broke off, no later file was
-  -- visited; or all were, and the report broke off at its end
-  pub record BreaksOff (t : Description) (s : S) (lines : Lines) (out out' : SinkSeen) (s' : S)
-      : Type 0 where
+  -- some first files were visited, and the lines of their verdicts, worded so, broke off, no later
+  -- file was visited; or all were, and the report broke off at its end
+  pub record BreaksOffAs (words : Wording) (t : Description) (s : S) (lines : Lines)
+      (out out' : SinkSeen) (s' : S) : Type 0 where
     pub files : List FileVerdict
     pub visits : VisitsFirst t s files s'
-    pub broke : Broke out out' (verdicts_text lines files t.files)
-        ⊎ BreaksAtEnd t (shelf.contents s).under lines files out out'
+    pub broke : Broke out out' (verdicts_as words lines files t.files)
+        ⊎ BreaksAtEnd words t (shelf.contents s).under lines files out out'
+
+  -- some first files were visited, and the lines of their verdicts broke off, no later file was
+  -- visited; or all were, and the report broke off at its end
+  abbrev pub BreaksOff : Description → S → Lines → SinkSeen → SinkSeen → S → Type 0
+  BreaksOff t s lines out out' s' = BreaksOffAs in_text t s lines out out' s'

@@ -46,7 +46,9 @@ fn make_call<N: NodeMap>(
         "hybrid draft" => draft_again(rt, torrent, true),
         "gather" => gather_again(rt, record),
         "check" => check_again(rt, torrent, record),
-        "check_onto" | "check_with_bad_pieces" => report_again(rt, torrent, record, call),
+        "check_onto" | "check_with_bad_pieces" | "say_check" => {
+            report_again(rt, torrent, record, call)
+        }
         "parts" => join_again(rt, torrent, record),
         "marked parts" => join_marked_again(rt, torrent, record),
         "seed" | "seed_onto" => seed_again::<N>(rt, torrent, record, call),

@@ -9,7 +9,7 @@ use folders::{Lines, Report, ShelfFault};
 use gathering::{GatherFault, gather};
 use lines::Objects;
 use opening::Torrent;
-use parts::{CheckFault, check, check_onto, check_with_bad_pieces};
+use parts::{CheckFault, check, check_onto, check_with_bad_pieces, say_check};
 use seeding::{SeedFault, seed, seed_onto};
 use session::{NodeMap, Session};
 use std::io;
@@ -66,6 +66,21 @@ fn check_shelf(
     print_verdicts(rt, &check(rt.alloc(), torrent, shelf)?)
 }
 
+// The lines go out as objects, and are not printed.
+fn checks_as_objects(
+    rt: &HostRuntime,
+    torrent: &Torrent<'_>,
+    shelf: &mut MemShelf<'_>,
+) -> io::Result<bool> {
+    let mut lines = Objects::new(MemSink::with_room(rt.alloc(), 256)?);
+    match say_check(rt.alloc(), torrent, shelf, Lines::All, &mut lines) {
+        Ok(report) => print_verdicts(rt, &report)?,
+        Err(CheckFault::NoMemory) => return Ok(false),
+        Err(fault) => println!(rt; "{fault}")?,
+    }
+    Ok(true)
+}
+
 /// Names a call that failed, and prints `changed` if it opened a file.
 pub(crate) fn name_unopened(rt: &HostRuntime, call: &str, shelf: &MemShelf<'_>) -> io::Result<()> {
     name_refused(rt, call)?;
@@ -119,6 +134,7 @@ fn checks(
 ) -> io::Result<bool> {
     match call {
         "check_with_bad_pieces" => checks_with_bad_pieces(rt, torrent, shelf, out),
+        "say_check" => checks_as_objects(rt, torrent, shelf),
         _ => checks_onto(rt, torrent, shelf, out),
     }
 }

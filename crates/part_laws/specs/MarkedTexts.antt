@@ -4,7 +4,7 @@ use Rattle.opening.specs.Description.{Description, FileEntry}
 use Rattle.opening.specs.Sound.{IsSound}
 use Rattle.folders.specs.Folder.{Contents}
 use Rattle.folders.specs.Printed.{end_text}
-use Rattle.folders.specs.declared.lines.Lines.TheVariants as lines
+use Rattle.folders.specs.declared.report_lines.Lines.TheVariants as lines
 use Rattle.folders.specs.declared.report.FileVerdict.{FileVerdict}
 use Rattle.folders.specs.declared.report.FileVerdict.TheVariants as file
 use Rattle.folders.specs.declared.report.V1Verdict.{V1Verdict}

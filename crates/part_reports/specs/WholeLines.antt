@@ -3,7 +3,7 @@ use Rattle.std.specs.Prelude.{◌≡◌, ◌⊎◌, ℕ, ◌+◌, ◌≤◌, Boo
 use Rattle.benc.specs.Device.{Broke, BrokeOrUnflushed, Sent, SentAndFlushed, SinkSeen}
 use Rattle.opening.specs.Description.{Description, FileEntry}
 use Rattle.folders.specs.Printed.{end_text, file_verdict_text}
-use Rattle.folders.specs.declared.lines.Lines.TheVariants as lines
+use Rattle.folders.specs.declared.report_lines.Lines.TheVariants as lines
 use Rattle.folders.specs.declared.report.FileVerdict.{FileVerdict}
 use Rattle.parts.specs.MarkedLines.{verdicts_of}
 use Rattle.parts.specs.Parts.{piece_count}

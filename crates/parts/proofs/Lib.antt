@@ -1,3 +1,4 @@
+pub mod AsTexts
 pub mod Files
 pub mod PartVisited
 pub mod Contents

@@ -24,6 +24,7 @@ use Rattle.parts.specs.Runs.{Run}
 use Rattle.parts.specs.Shares.{share}
 use Rattle.parts.specs.Telling.{AreFirstMarkedRuns, AreMarkedRuns, Tells}
 use Rattle.parts.specs.Visiting.{StopsAtFile, VisitsAll, VisitsOne, part_visiting}
+use Rattle.parts.specs.Words.{words_in_text}
 use Rattle.parts.specs.declared.places.Places.{Places}
 use Rattle.parts.specs.declared.telling.Telling.TheVariants as telling
 use Rattle.parts.proofs.PartVisited.{true_of_contents}
@@ -66,7 +67,7 @@ module _ {S F : Type 0} (shelf : Ghosts S F) (opens_at : S → List (List ℕ) �
   mark_files : (contents : Contents) (old : S × SinkSeen) (fs : List FileEntry) (told : List (FileVerdict × List ℕ)) (new : S × SinkSeen)
       → Chain (VisitsOne (part_visiting shelf opens_at seen r t)) old (take (length told) fs) told new
       → ((n : ℕ) (f : FileEntry) (x : FileVerdict × List ℕ) → slice_get fs n ≡ Some f → slice_get told n ≡ Some x
-      → Tells t (telling.RunsIn r) f (contents n) x.0 x.1)
+      → Tells words_in_text t (telling.RunsIn r) f (contents n) x.0 x.1)
       → MarkedFirst contents fs told old new
   mark_files contents old fs [] new e each = record {
     marked = [];
@@ -90,7 +91,8 @@ module _ {S F : Type 0} (shelf : Ghosts S F) (opens_at : S → List (List ℕ) �
 
   -- all files were visited and told of
   pub marks_all : (verdicts : List FileVerdict) (v1 : Option V1Verdict) (old new : S × SinkSeen)
-      → VisitsAll (part_visiting shelf opens_at seen r t) t (telling.RunsIn r) verdicts v1 old new → MarksAll shelf opens_at seen t r verdicts v1 old new
+      → VisitsAll (part_visiting shelf opens_at seen r t) words_in_text t (telling.RunsIn r) verdicts v1 old new
+      → MarksAll shelf opens_at seen t r verdicts v1 old new
   marks_all verdicts v1 old new all =
       let V = part_visiting shelf opens_at seen r t in
       let count : length all.told ≡ length t.files = sym (length-told all.told) ∙ ap length all.verdicts_are ∙ all.has.count in
@@ -113,7 +115,7 @@ module _ {S F : Type 0} (shelf : Ghosts S F) (opens_at : S → List (List ℕ) �
       }
 
   -- or the lines of one broke off
-  pub stops_at_marks : (old new : S × SinkSeen) → StopsAtFile (part_visiting shelf opens_at seen r t) t (telling.RunsIn r) old new
+  pub stops_at_marks : (old new : S × SinkSeen) → StopsAtFile (part_visiting shelf opens_at seen r t) words_in_text t (telling.RunsIn r) old new
       → StopsAtMarks shelf opens_at seen t r old new
   stops_at_marks old new stops =
       let contents : Contents = stops.contents in

@@ -12,6 +12,7 @@ use Rattle.parts.specs.Finding.{FindsFile, IsTrueOfPlaces}
 use Rattle.parts.specs.Parts.{IsPartVerdict, IsTruePart}
 use Rattle.parts.specs.PartVisits.{VisitsPart}
 use Rattle.parts.specs.Visiting.{Finds, VisitsAll, VisitsOne, part_visiting}
+use Rattle.parts.specs.Words.{Words}
 use Rattle.parts.specs.declared.places.Places.{Places}
 use Rattle.parts.specs.declared.telling.Telling.{Telling}
 use Rattle.parts.specs.declared.verdicts.Verdicts.{Verdicts}
@@ -40,16 +41,16 @@ module _ {S F : Type 0} (shelf : Ghosts S F) (opens_at : S → List (List ℕ) �
   part_chain old (f ∷ fs) (x ∷ xs) new (mid, step, rest) = (mid.0, step.visits, part_chain mid fs xs new rest)
 
   -- each file was visited
-  pub part_once : (telling : Telling) (files : List FileVerdict) (v1 : Option V1Verdict) (old new : S × SinkSeen)
-      → VisitsAll (part_visiting shelf opens_at seen r t) t telling files v1 old new
+  pub part_once : {words : Words} (telling : Telling) (files : List FileVerdict) (v1 : Option V1Verdict) (old new : S × SinkSeen)
+      → VisitsAll (part_visiting shelf opens_at seen r t) words t telling files v1 old new
       → Chain (VisitsPart opens_at shelf.closes seen t r) old.0 t.files files new.0
   part_once telling files v1 old new all =
       subst (λ vs. Chain (VisitsPart opens_at shelf.closes seen t r) old.0 t.files vs new.0) all.verdicts_are
       (part_chain old t.files all.told new all.visited)
 
   -- for verdicts that are true of the contents that were found
-  pub true_of_contents : (telling : Telling) (files : List FileVerdict) (v1 : Option V1Verdict) (old new : S × SinkSeen)
-      → (all : VisitsAll (part_visiting shelf opens_at seen r t) t telling files v1 old new)
+  pub true_of_contents : {words : Words} (telling : Telling) (files : List FileVerdict) (v1 : Option V1Verdict) (old new : S × SinkSeen)
+      → (all : VisitsAll (part_visiting shelf opens_at seen r t) words t telling files v1 old new)
       → IsTruePart t all.contents (record { places = r; files = files; v1 = v1 })
   true_of_contents telling files v1 old new all = record {
     count = all.has.count;
@@ -62,8 +63,8 @@ module _ {S F : Type 0} (shelf : Ghosts S F) (opens_at : S → List (List ℕ) �
   }
 
   -- which are the shelf's
-  pub part_true : (telling : Telling) (files : List FileVerdict) (v1 : Option V1Verdict) (old new : S × SinkSeen)
-      → VisitsAll (part_visiting shelf opens_at seen r t) t telling files v1 old new
+  pub part_true : {words : Words} (telling : Telling) (files : List FileVerdict) (v1 : Option V1Verdict) (old new : S × SinkSeen)
+      → VisitsAll (part_visiting shelf opens_at seen r t) words t telling files v1 old new
       → IsTrueOfPlaces t r (shelf.contents old.0).under files v1
   part_true telling files v1 old new all = record {
     contents = all.contents;

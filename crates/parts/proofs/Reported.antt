@@ -11,26 +11,27 @@ use Rattle.benc.proofs.Out.{Broke-append, Sent-append}
 use Rattle.chains.specs.Chain.{Chain}
 use Rattle.chains.proofs.Chains.{Chain-next}
 use Rattle.opening.specs.Description.{Description, FileEntry}
-use Rattle.folders.specs.Printed.{end_text, report_text, verdicts_text, wanted_text}
-use Rattle.folders.specs.Stopping.{BreaksOff}
+use Rattle.folders.specs.Printed.{end_as, report_as, verdicts_as, wanted_as}
+use Rattle.folders.specs.Stopping.{BreaksOffAs}
 use Rattle.folders.specs.Visits.{Visits}
-use Rattle.folders.specs.declared.lines.Lines.{Lines}
+use Rattle.folders.specs.declared.report_lines.Lines.{Lines}
 use Rattle.folders.specs.declared.report.FileVerdict.{FileVerdict}
 use Rattle.folders.specs.declared.report.Report.{Report}
 use Rattle.folders.specs.declared.report.V1Verdict.{V1Verdict}
 use Rattle.folders.specs.declared.shelf.Shelf.{Ghosts}
 use Rattle.folders.proofs.SentLines.{verdicts_push}
 use Rattle.parts.proofs.ToldFirst.{length-told}
-use Rattle.parts.specs.Checking.{ChecksAll, ChecksAndPrints, ChecksFile, ChecksWhole, EndsFiles, StopsTelling, verdicts_in}
+use Rattle.parts.specs.Checking.{ChecksAll, ChecksAndSays, ChecksFile, ChecksWhole, EndsFiles, StopsTelling, verdicts_in}
+use Rattle.parts.specs.Words.{Words}
 use Rattle.parts.specs.declared.all_files.CheckFault.{CheckFault}
 use Rattle.parts.specs.declared.all_files.CheckFault.TheVariants as stopped
 use Rattle.parts.specs.declared.telling.Telling.{Telling}
 use Rattle.parts.specs.declared.telling.Telling.TheVariants as telling
 
 -- each text is the line of its file
-abbrev AreLines : Lines → List FileEntry → List (FileVerdict × List ℕ) → Type 0
-AreLines lines fs told = (n : ℕ) (f : FileEntry) (x : FileVerdict × List ℕ) → slice_get fs n ≡ Some f → slice_get told n ≡ Some x
-    → x.1 ≡ wanted_text lines x.0 f
+abbrev AreLines : Words → Lines → List FileEntry → List (FileVerdict × List ℕ) → Type 0
+AreLines words lines fs told = (n : ℕ) (f : FileEntry) (x : FileVerdict × List ℕ) → slice_get fs n ≡ Some f → slice_get told n ≡ Some x
+    → x.1 ≡ wanted_as words.report lines x.0 f
 
 pub flushed_after : (a b c : SinkSeen) (x y : List ℕ) → Sent a b x → SentAndFlushed b c y → SentAndFlushed a c (x ++ y)
 flushed_after a b c x y p q = record {
@@ -64,48 +65,49 @@ module _ {S F : Type 0} (shelf : Ghosts S F) (seen : F → SourceSeen) (t : Desc
   visits_of old (f ∷ fs) (x ∷ xs) new (mid, step, rest) = (mid.0, step.visits, visits_of mid fs xs new rest)
 
   -- and their lines
-  sent_of : (lines : Lines) (old : S × SinkSeen) (fs : List FileEntry) (told : List (FileVerdict × List ℕ)) (new : S × SinkSeen)
-      → Chain (ChecksFile shelf seen t) old (take (length told) fs) told new → AreLines lines fs told
-      → Sent old.1 new.1 (verdicts_text lines (verdicts_in told) fs)
-  sent_of lines old fs [] new e each =
+  sent_of : (words : Words) (lines : Lines) (old : S × SinkSeen) (fs : List FileEntry) (told : List (FileVerdict × List ℕ)) (new : S × SinkSeen)
+      → Chain (ChecksFile shelf seen t) old (take (length told) fs) told new → AreLines words lines fs told
+      → Sent old.1 new.1 (verdicts_as words.report lines (verdicts_in told) fs)
+  sent_of words lines old fs [] new e each =
       subst (λ (x : S × SinkSeen). Sent old.1 x.1 []) (sym e) (record { bytes = Appends_nothing old.1.written; faults = refl; flushes = refl })
-  sent_of lines old [] (x ∷ xs) new e each = absurd e
-  sent_of lines old (f ∷ fs) (x ∷ xs) new (mid, step, rest) each =
-      Sent-append old.1 mid.1 new.1 (wanted_text lines x.0 f) (verdicts_text lines (verdicts_in xs) fs)
+  sent_of words lines old [] (x ∷ xs) new e each = absurd e
+  sent_of words lines old (f ∷ fs) (x ∷ xs) new (mid, step, rest) each =
+      Sent-append old.1 mid.1 new.1 (wanted_as words.report lines x.0 f) (verdicts_as words.report lines (verdicts_in xs) fs)
       (subst (Sent old.1 mid.1) (each 0 f x refl refl) step.told)
-      (sent_of lines mid fs xs new rest (λ n g y there is. each (n + 1) g y (at_next fs f n ∙ there) (at_next xs x n ∙ is)))
+      (sent_of words lines mid fs xs new rest (λ n g y there is. each (n + 1) g y (at_next fs f n ∙ there) (at_next xs x n ∙ is)))
     where
       at_next : {A : Type 0} (xs : List A) (x : A) (n : ℕ) → slice_get (x ∷ xs) (n + 1) ≡ slice_get xs n
       at_next xs x n = let e : n + 1 ≡ suc n = omega arith in ap (slice_get (x ∷ xs)) e
 
   -- each file was visited once
-  pub whole_once : (telling : Telling) (verdicts : List FileVerdict) (v1 : Option V1Verdict) (old new : S × SinkSeen)
-      → ChecksAll shelf seen t telling verdicts v1 old new → Chain (Visits shelf seen t) old.0 t.files verdicts new.0
-  whole_once telling verdicts v1 old new all =
+  pub whole_once : {words : Words} (telling : Telling) (verdicts : List FileVerdict) (v1 : Option V1Verdict) (old new : S × SinkSeen)
+      → ChecksAll shelf seen words t telling verdicts v1 old new → Chain (Visits shelf seen t) old.0 t.files verdicts new.0
+  whole_once {words} telling verdicts v1 old new all =
       subst (λ vs. Chain (Visits shelf seen t) old.0 t.files vs new.0) all.verdicts_are (visits_of old t.files all.told new all.files)
 
   -- the lines of all files
-  lines_all : (lines : Lines) (verdicts : List FileVerdict) (v1 : Option V1Verdict) (old new : S × SinkSeen)
-      → ChecksAll shelf seen t (telling.Line lines) verdicts v1 old new → Sent old.1 new.1 (verdicts_text lines verdicts t.files)
-  lines_all lines verdicts v1 old new all =
+  lines_all : (words : Words) (lines : Lines) (verdicts : List FileVerdict) (v1 : Option V1Verdict) (old new : S × SinkSeen)
+      → ChecksAll shelf seen words t (telling.Line lines) verdicts v1 old new → Sent old.1 new.1 (verdicts_as words.report lines verdicts t.files)
+  lines_all words lines verdicts v1 old new all =
       let count : length all.told ≡ length t.files =
       sym (length-told all.told) ∙ ap length all.verdicts_are ∙ all.has.count in
-      subst (λ vs. Sent old.1 new.1 (verdicts_text lines vs t.files)) all.verdicts_are
-      (sent_of lines old t.files all.told new
+      subst (λ vs. Sent old.1 new.1 (verdicts_as words.report lines vs t.files)) all.verdicts_are
+      (sent_of words lines old t.files all.told new
       (subst (λ fs. Chain (ChecksFile shelf seen t) old fs all.told new) (sym (take_all (length all.told) t.files (omega (arith, count)))) all.files)
       all.tells)
 
   -- the whole report went out
-  pub onto_report : (lines : Lines) (verdicts : List FileVerdict) (v1 : Option V1Verdict) (old new : S × SinkSeen)
-      → ChecksWhole shelf seen t (telling.Line lines) lines verdicts v1 old new → SentAndFlushed old.1 new.1 (report_text lines t.files verdicts v1)
-  onto_report lines verdicts v1 old new whole =
-      flushed_after old.1 whole.mid new.1 (verdicts_text lines verdicts t.files) (end_text lines verdicts v1)
-      (lines_all lines verdicts v1 old (new.0, whole.mid) whole.all) whole.end
+  pub onto_report : (words : Words) (lines : Lines) (verdicts : List FileVerdict) (v1 : Option V1Verdict) (old new : S × SinkSeen)
+      → ChecksWhole shelf seen words t (telling.Line lines) lines verdicts v1 old new
+      → SentAndFlushed old.1 new.1 (report_as words.report lines t.files verdicts v1)
+  onto_report words lines verdicts v1 old new whole =
+      flushed_after old.1 whole.mid new.1 (verdicts_as words.report lines verdicts t.files) (end_as words.report lines verdicts v1)
+      (lines_all words lines verdicts v1 old (new.0, whole.mid) whole.all) whole.end
 
   -- or it broke off
-  pub onto_cut : (lines : Lines) (old new : S × SinkSeen) → StopsTelling shelf seen t (telling.Line lines) lines old new
-      → BreaksOff shelf seen t old.0 lines old.1 new.1 new.0
-  onto_cut lines old new (inl one) =
+  pub onto_cut : (words : Words) (lines : Lines) (old new : S × SinkSeen) → StopsTelling shelf seen words t (telling.Line lines) lines old new
+      → BreaksOffAs shelf seen words.report t old.0 lines old.1 new.1 new.0
+  onto_cut words lines old new (inl one) =
       let vs : List FileVerdict = verdicts_in one.told in
       let count : length vs ≡ length one.told = length-told one.told in
       let there : slice_get t.files (length vs) ≡ Some one.file = ap (slice_get t.files) count ∙ one.file_is in
@@ -123,11 +125,11 @@ module _ {S F : Type 0} (shelf : Ghosts S F) (seen : F → SourceSeen) (t : Desc
           counted = one.counts.counted;
           are_true = one.are_true;
         };
-        broke = inl (subst (Broke old.1 new.1) (sym (verdicts_push lines vs t.files one.verdict one.file there))
-            (Broke-append old.1 one.between.1 new.1 (verdicts_text lines vs t.files) (wanted_text lines one.verdict one.file)
-            (sent_of lines old t.files one.told one.between one.before one.tells) (subst (Broke one.between.1 new.1) one.last one.broke)));
+        broke = inl (subst (Broke old.1 new.1) (sym (verdicts_push words.report lines vs t.files one.verdict one.file there))
+            (Broke-append old.1 one.between.1 new.1 (verdicts_as words.report lines vs t.files) (wanted_as words.report lines one.verdict one.file)
+            (sent_of words lines old t.files one.told one.between one.before one.tells) (subst (Broke one.between.1 new.1) one.last one.broke)));
       }
-  onto_cut lines old new (inr end) =
+  onto_cut words lines old new (inr end) =
       let all = end.all in
       record {
         files = end.verdicts;
@@ -146,35 +148,36 @@ module _ {S F : Type 0} (shelf : Ghosts S F) (seen : F → SourceSeen) (t : Desc
           end.v1,
           all.has,
           all.are_true,
-          unflushed_after old.1 end.mid new.1 (verdicts_text lines end.verdicts t.files) (end_text lines end.verdicts end.v1)
-              (lines_all lines end.verdicts end.v1 old (new.0, end.mid) all) end.broke,
+          unflushed_after old.1 end.mid new.1 (verdicts_as words.report lines end.verdicts t.files) (end_as words.report lines end.verdicts end.v1)
+              (lines_all words lines end.verdicts end.v1 old (new.0, end.mid) all) end.broke,
         );
       }
 
   -- ---- by the answer
 
   -- a check of the files that was stopped
-  pub stopped_files : (telling : Telling) (lines : Lines) (old new : S × SinkSeen) (e : CheckFault) → EndsFiles shelf seen t telling old new (Err e)
-      → ChecksAndPrints shelf seen t telling lines old new (Err e)
-  stopped_files telling lines old new stopped.Write ends = inl ends
-  stopped_files telling lines old new stopped.NoMemory same = same
+  pub stopped_files : (words : Words) (telling : Telling) (lines : Lines) (old new : S × SinkSeen) (e : CheckFault)
+      → EndsFiles shelf seen words t telling old new (Err e)
+      → ChecksAndSays shelf seen words t telling lines old new (Err e)
+  stopped_files words telling lines old new stopped.Write ends = inl ends
+  stopped_files words telling lines old new stopped.NoMemory same = same
 
-  pub if_whole : (telling : Telling) (lines : Lines) (old new : S × SinkSeen) (r : Result Report CheckFault) (P : Report → Type 0)
-      → ChecksAndPrints shelf seen t telling lines old new r
-      → ((report : Report) → ChecksWhole shelf seen t telling lines report.files.items report.v1 old new → P report) → IfOk r P
-  if_whole telling lines old new (Ok report) P checks onto = onto report checks
-  if_whole telling lines old new (Err e) P checks onto = tt
+  pub if_whole : (words : Words) (telling : Telling) (lines : Lines) (old new : S × SinkSeen) (r : Result Report CheckFault) (P : Report → Type 0)
+      → ChecksAndSays shelf seen words t telling lines old new r
+      → ((report : Report) → ChecksWhole shelf seen words t telling lines report.files.items report.v1 old new → P report) → IfOk r P
+  if_whole words telling lines old new (Ok report) P checks onto = onto report checks
+  if_whole words telling lines old new (Err e) P checks onto = tt
 
-  pub if_stopped : (telling : Telling) (lines : Lines) (old new : S × SinkSeen) (r : Result Report CheckFault) (P : Type 0)
-      → ChecksAndPrints shelf seen t telling lines old new r → (StopsTelling shelf seen t telling lines old new → P)
+  pub if_stopped : (words : Words) (telling : Telling) (lines : Lines) (old new : S × SinkSeen) (r : Result Report CheckFault) (P : Type 0)
+      → ChecksAndSays shelf seen words t telling lines old new r → (StopsTelling shelf seen words t telling lines old new → P)
       → IfErr r (λ e. e ≡ stopped.Write → P)
-  if_stopped telling lines old new (Ok report) P checks onto = tt
-  if_stopped telling lines old new (Err stopped.Write) P checks onto = λ _. onto checks
-  if_stopped telling lines old new (Err stopped.NoMemory) P checks onto = λ is. (let no : ⊥ = cc in absurd no)
+  if_stopped words telling lines old new (Ok report) P checks onto = tt
+  if_stopped words telling lines old new (Err stopped.Write) P checks onto = λ _. onto checks
+  if_stopped words telling lines old new (Err stopped.NoMemory) P checks onto = λ is. (let no : ⊥ = cc in absurd no)
 
-  pub if_refused : (telling : Telling) (lines : Lines) (old new : S × SinkSeen) (r : Result Report CheckFault) (P : Type 0)
-      → ChecksAndPrints shelf seen t telling lines old new r → (((new.0 ≡ old.0) × (new.1 ≡ old.1)) → P)
+  pub if_refused : (words : Words) (telling : Telling) (lines : Lines) (old new : S × SinkSeen) (r : Result Report CheckFault) (P : Type 0)
+      → ChecksAndSays shelf seen words t telling lines old new r → (((new.0 ≡ old.0) × (new.1 ≡ old.1)) → P)
       → IfErr r (λ e. e ≡ stopped.NoMemory → P)
-  if_refused telling lines old new (Ok report) P checks onto = tt
-  if_refused telling lines old new (Err stopped.Write) P checks onto = λ is. (let no : ⊥ = cc in absurd no)
-  if_refused telling lines old new (Err stopped.NoMemory) P checks onto = λ _. onto checks
+  if_refused words telling lines old new (Ok report) P checks onto = tt
+  if_refused words telling lines old new (Err stopped.Write) P checks onto = λ is. (let no : ⊥ = cc in absurd no)
+  if_refused words telling lines old new (Err stopped.NoMemory) P checks onto = λ _. onto checks

@@ -8,7 +8,7 @@ use Rattle.hashtree.specs.Bits.{bit_of}
 use Rattle.opening.specs.Description.{Description, FileEntry}
 use Rattle.parts.specs.Parts.{piece_count}
 use Rattle.parts.specs.RowBits.{AreBitsOf, HasGoodPiece}
-use Rattle.parts.specs.Runs.{AreBadRuns, AreClearRuns, IsBadRun, IsSetIfIn, Run, run_text, runs_text}
+use Rattle.parts.specs.Runs.{AreBadRuns, AreClearRuns, IsBadRun, IsSetIfIn, Run, RunLine, runs_as}
 use Rattle.parts.proofs.Runs.{same_runs, text_push}
 
 -- ---- runs of a row, by the numbers of the file
@@ -36,9 +36,9 @@ moved_push from [] r = refl
 moved_push from (x ∷ rs) r = ap (λ ys. moved from x ∷ ys) (moved_push from rs r)
 
 -- the text of runs with one more
-pub moved_text : (t : Description) (f : FileEntry) (from : ℕ) (rs : List Run) (r : Run)
-    → runs_text t f (all_moved from (rs ++ r ∷ [])) ≡ runs_text t f (all_moved from rs) ++ run_text t f (moved from r)
-moved_text t f from rs r = ap (runs_text t f) (moved_push from rs r) ∙ text_push t f (all_moved from rs) (moved from r)
+pub moved_text : (line : RunLine) (t : Description) (f : FileEntry) (from : ℕ) (rs : List Run) (r : Run)
+    → runs_as line t f (all_moved from (rs ++ r ∷ [])) ≡ runs_as line t f (all_moved from rs) ++ line t f (moved from r)
+moved_text line t f from rs r = ap (runs_as line t f) (moved_push from rs r) ∙ text_push line t f (all_moved from rs) (moved from r)
 
 -- the run that a line tells of
 pub moved_run : (from first end : ℕ) → first < end

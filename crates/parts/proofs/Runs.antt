@@ -6,7 +6,7 @@ use Rattle.std.proofs.lemmas.Bool.{cases_lt}
 use Rattle.std.proofs.lemmas.Option.{same_Some, none-some, slice_get_within}
 use Rattle.hashtree.specs.Bits.{AreSet, IsClearRun, bit_of}
 use Rattle.opening.specs.Description.{Description, FileEntry}
-use Rattle.parts.specs.Runs.{AreBadRuns, IsBadRun, Run, run_text, runs_text}
+use Rattle.parts.specs.Runs.{AreBadRuns, IsBadRun, Run, RunLine, runs_as}
 
 -- ---- one run more in a list
 
@@ -29,9 +29,10 @@ last_in [] x = refl
 last_in (s ∷ rs) x = last_in rs x
 
 -- the text of runs with one more
-pub text_push : (t : Description) (f : FileEntry) (rs : List Run) (r : Run) → runs_text t f (rs ++ r ∷ []) ≡ runs_text t f rs ++ run_text t f r
-text_push t f [] r = append-nil (run_text t f r)
-text_push t f (x ∷ rs) r = ap (λ y. run_text t f x ++ y) (text_push t f rs r) ∙ sym (append_assoc (run_text t f x) (runs_text t f rs) (run_text t f r))
+pub text_push : (line : RunLine) (t : Description) (f : FileEntry) (rs : List Run) (r : Run)
+    → runs_as line t f (rs ++ r ∷ []) ≡ runs_as line t f rs ++ line t f r
+text_push line t f [] r = append-nil (line t f r)
+text_push line t f (x ∷ rs) r = ap (λ y. line t f x ++ y) (text_push line t f rs r) ∙ sym (append_assoc (line t f x) (runs_as line t f rs) (line t f r))
 
 -- ---- runs so far
 

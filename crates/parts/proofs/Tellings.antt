@@ -7,15 +7,16 @@ use Rattle.benc.proofs.Out.{Broke-append, Sent-append}
 use Rattle.benc.specs.Device.{Broke, Sent, SinkSeen, Wrote}
 use Rattle.benc.specs.declared.device.DeviceFault.{DeviceFault}
 use Rattle.opening.specs.Description.{Description, FileEntry}
-use Rattle.folders.specs.Printed.{file_verdict_text, wanted_text}
-use Rattle.folders.specs.declared.lines.Lines.{Lines}
+use Rattle.folders.specs.Printed.{wanted_as}
+use Rattle.folders.specs.declared.report_lines.Lines.{Lines}
 use Rattle.folders.specs.declared.report.FileVerdict.{FileVerdict}
-use Rattle.parts.specs.PartLines.{has_place, held_line}
+use Rattle.parts.specs.PartLines.{has_place, held_as}
 use Rattle.parts.specs.Parts.{Touches, piece_count}
 use Rattle.parts.specs.RowBits.{HasGoodPiece}
-use Rattle.parts.specs.Runs.{AreBadRuns, AreClearRuns, AreRunsIn, IsGoodIfIn, Run, WentFirst, runs_text}
+use Rattle.parts.specs.Runs.{AreBadRuns, AreClearRuns, AreRunsIn, IsGoodIfIn, Run, RunLine, WentFirst, runs_as}
 use Rattle.parts.specs.Spans.{IsSpanOf, first_in}
 use Rattle.parts.specs.Telling.{AreMarkedRuns, AreToldRuns, MarksIn, MarksRow, NeedsBits, TellsFile, has_runs}
+use Rattle.parts.specs.Words.{Words}
 use Rattle.parts.specs.declared.places.Places.{Places}
 use Rattle.parts.specs.declared.span.Span.{Span}
 use Rattle.parts.specs.declared.telling.Telling.{Telling}
@@ -31,28 +32,30 @@ pub needs_bits_in : (s : Telling) (r : Places) → s ≡ telling.RunsIn r → Ne
 needs_bits_in s r is = subst NeedsBits (sym is) tt
 
 -- nothing
-pub told_nothing : (t : Description) (f : FileEntry) (v : FileVerdict) (bits : List ℕ) (out : SinkSeen) → TellsFile t telling.Nothing f v bits out out (Ok tt)
-told_nothing t f v bits out = record {
+pub told_nothing : (words : Words) (t : Description) (f : FileEntry) (v : FileVerdict) (bits : List ℕ) (out : SinkSeen)
+    → TellsFile words t telling.Nothing f v bits out out (Ok tt)
+told_nothing words t f v bits out = record {
   text = [];
   went = record { bytes = Appends_nothing out.written; faults = refl; flushes = refl };
   is = λ content marks. refl;
 }
 
 -- a line
-pub told_line : (t : Description) (lines : Lines) (f : FileEntry) (v : FileVerdict) (bits : List ℕ) (old new : SinkSeen) (r : Result (Unit {0}) DeviceFault)
-    → Wrote old new r (wanted_text lines v f) → TellsFile t (telling.Line lines) f v bits old new r
-told_line t lines f v bits old new (Ok u) wrote = record { text = wanted_text lines v f; went = wrote; is = λ content marks. refl }
-told_line t lines f v bits old new (Err e) wrote = record { text = wanted_text lines v f; went = wrote; is = λ content marks. refl }
+pub told_line : (words : Words) (t : Description) (lines : Lines) (f : FileEntry) (v : FileVerdict) (bits : List ℕ) (old new : SinkSeen)
+    (r : Result (Unit {0}) DeviceFault)
+    → Wrote old new r (wanted_as words.report lines v f) → TellsFile words t (telling.Line lines) f v bits old new r
+told_line words t lines f v bits old new (Ok u) wrote = record { text = wanted_as words.report lines v f; went = wrote; is = λ content marks. refl }
+told_line words t lines f v bits old new (Err e) wrote = record { text = wanted_as words.report lines v f; went = wrote; is = λ content marks. refl }
 
 -- ---- a line and runs
 
 -- what went out: what stands in front of the runs, and runs that these are of each content that has the bits
-pub record SaysRuns (t : Description) (f : FileEntry) (v : FileVerdict) (bits : List ℕ) (from to : ℕ) (front : List ℕ)
+pub record SaysRuns (line : RunLine) (t : Description) (f : FileEntry) (v : FileVerdict) (bits : List ℕ) (from to : ℕ) (front : List ℕ)
     (AreRuns : List ℕ → List Run → Type 0) (Went : List ℕ → Type 0) : Type 0 where
   pub text : List ℕ
   pub went : Went text
   pub is : (content : Option (List ℕ)) → MarksRow t f from to content v bits
-      → (runs : List Run) × AreToldRuns AreRuns (has_runs v) content runs × (text ≡ front ++ runs_text t f runs)
+      → (runs : List Run) × AreToldRuns AreRuns (has_runs v) content runs × (text ≡ front ++ runs_as line t f runs)
 
 abbrev pub AreAll : Description → FileEntry → (List ℕ → ℕ → Type 0) → List ℕ → List Run → Type 0
 AreAll t f IsGood bytes runs = AreBadRuns (piece_count t f) (piece_count t f) (IsGood bytes) runs
@@ -60,7 +63,8 @@ AreAll t f IsGood bytes runs = AreBadRuns (piece_count t f) (piece_count t f) (I
 abbrev pub AreFirst : Description → FileEntry → (List ℕ → ℕ → Type 0) → List ℕ → List Run → Type 0
 AreFirst t f IsGood bytes runs = (end : ℕ) × (end ≤ piece_count t f) × AreBadRuns (piece_count t f) end (IsGood bytes) runs
 
-module _ (t : Description) (f : FileEntry) (v : FileVerdict) (bits : List ℕ) (from to : ℕ) (front : List ℕ) (IsGood : List ℕ → ℕ → Type 0) where
+module _ (line : RunLine) (t : Description) (f : FileEntry) (v : FileVerdict) (bits : List ℕ) (from to : ℕ) (front : List ℕ)
+    (IsGood : List ℕ → ℕ → Type 0) where
   told_runs : (content : Option (List ℕ)) (runs : List Run) → IsRow t f from to bits → AsksOfRow t f from to IsGood → has_runs v ≡ true
       → MarksRow t f from to content v bits → AreClearRuns t f from to bits (piece_count t f) runs
       → AreToldRuns (AreAll t f IsGood) (has_runs v) content runs
@@ -89,7 +93,7 @@ module _ (t : Description) (f : FileEntry) (v : FileVerdict) (bits : List ℕ) (
 
   -- what stands in front broke off
   pub front_broke : (old new : SinkSeen) → IsRow t f from to bits → AsksOfRow t f from to IsGood → Broke old new front
-      → SaysRuns t f v bits from to front (AreFirst t f IsGood) (Broke old new)
+      → SaysRuns line t f v bits from to front (AreFirst t f IsGood) (Broke old new)
   front_broke old new row asks broke = record {
     text = front;
     went = broke;
@@ -97,7 +101,7 @@ module _ (t : Description) (f : FileEntry) (v : FileVerdict) (bits : List ℕ) (
   }
 
   -- it stands alone
-  pub front_alone : (old new : SinkSeen) → has_runs v ≡ false → Sent old new front → SaysRuns t f v bits from to front (AreAll t f IsGood) (Sent old new)
+  pub front_alone : (old new : SinkSeen) → has_runs v ≡ false → Sent old new front → SaysRuns line t f v bits from to front (AreAll t f IsGood) (Sent old new)
   front_alone old new off sent = record {
     text = front;
     went = sent;
@@ -106,20 +110,20 @@ module _ (t : Description) (f : FileEntry) (v : FileVerdict) (bits : List ℕ) (
 
   -- all runs follow
   pub front_and_runs : (old mid new : SinkSeen) (runs : List Run) → IsRow t f from to bits → AsksOfRow t f from to IsGood → has_runs v ≡ true
-      → Sent old mid front → AreClearRuns t f from to bits (piece_count t f) runs → Sent mid new (runs_text t f runs)
-      → SaysRuns t f v bits from to front (AreAll t f IsGood) (Sent old new)
-  front_and_runs old mid new runs row asks on line are sent = record {
-    text = front ++ runs_text t f runs;
-    went = Sent-append old mid new front (runs_text t f runs) line sent;
+      → Sent old mid front → AreClearRuns t f from to bits (piece_count t f) runs → Sent mid new (runs_as line t f runs)
+      → SaysRuns line t f v bits from to front (AreAll t f IsGood) (Sent old new)
+  front_and_runs old mid new runs row asks on first are sent = record {
+    text = front ++ runs_as line t f runs;
+    went = Sent-append old mid new front (runs_as line t f runs) first sent;
     is = λ content marks. (runs, told_runs content runs row asks on marks are, refl);
   }
 
   -- some do, before one broke off
   pub runs_broke : (old mid new : SinkSeen) → IsRow t f from to bits → AsksOfRow t f from to IsGood → has_runs v ≡ true
-      → Sent old mid front → WentFirst t f from to bits (Broke mid new) → SaysRuns t f v bits from to front (AreFirst t f IsGood) (Broke old new)
-  runs_broke old mid new row asks on line (runs, end, le, are, broke) = record {
-    text = front ++ runs_text t f runs;
-    went = Broke-append old mid new front (runs_text t f runs) line broke;
+      → Sent old mid front → WentFirst line t f from to bits (Broke mid new) → SaysRuns line t f v bits from to front (AreFirst t f IsGood) (Broke old new)
+  runs_broke old mid new row asks on first (runs, end, le, are, broke) = record {
+    text = front ++ runs_as line t f runs;
+    went = Broke-append old mid new front (runs_as line t f runs) first broke;
     is = λ content marks. (runs, told_first content runs end row asks on le marks are, refl);
   }
 
@@ -132,15 +136,15 @@ pub whole_asks : (t : Description) (f : FileEntry) → AsksOfRow t f 0 (piece_co
 whole_asks t f bytes k lt = (λ good. good (omega arith) lt, λ good low high. good)
 
 -- and what is told is the line, if it is wanted, and runs
-pub whole_told : (t : Description) (lines : Lines) (f : FileEntry) (v : FileVerdict) (bits : List ℕ) (old new : SinkSeen)
-    → SaysRuns t f v bits 0 (piece_count t f) (wanted_text lines v f) (AreAll t f (HasGoodPiece t f)) (Sent old new)
-    → TellsFile t (telling.LineAndRuns lines) f v bits old new (Ok tt)
-whole_told t lines f v bits old new says = record { text = says.text; went = says.went; is = says.is }
+pub whole_told : (words : Words) (t : Description) (lines : Lines) (f : FileEntry) (v : FileVerdict) (bits : List ℕ) (old new : SinkSeen)
+    → SaysRuns words.run t f v bits 0 (piece_count t f) (wanted_as words.report lines v f) (AreAll t f (HasGoodPiece t f)) (Sent old new)
+    → TellsFile words t (telling.LineAndRuns lines) f v bits old new (Ok tt)
+whole_told words t lines f v bits old new says = record { text = says.text; went = says.went; is = says.is }
 
-pub whole_first : (t : Description) (lines : Lines) (f : FileEntry) (v : FileVerdict) (bits : List ℕ) (old new : SinkSeen) (e : DeviceFault)
-    → SaysRuns t f v bits 0 (piece_count t f) (wanted_text lines v f) (AreFirst t f (HasGoodPiece t f)) (Broke old new)
-    → TellsFile t (telling.LineAndRuns lines) f v bits old new (Err e)
-whole_first t lines f v bits old new e says = record { text = says.text; went = says.went; is = says.is }
+pub whole_first : (words : Words) (t : Description) (lines : Lines) (f : FileEntry) (v : FileVerdict) (bits : List ℕ) (old new : SinkSeen) (e : DeviceFault)
+    → SaysRuns words.run t f v bits 0 (piece_count t f) (wanted_as words.report lines v f) (AreFirst t f (HasGoodPiece t f)) (Broke old new)
+    → TellsFile words t (telling.LineAndRuns lines) f v bits old new (Err e)
+whole_first words t lines f v bits old new e says = record { text = says.text; went = says.went; is = says.is }
 
 -- ---- of the pieces among places
 
@@ -163,39 +167,41 @@ span_marks t r f s content v bits is marks =
     (subst (λ to. MarksRow t f (first_in r f) to content v bits) (sym is.to_is) marks)
 
 -- what is told is the line, and runs
-pub span_told : (t : Description) (r : Places) (f : FileEntry) (s : Span) (v : FileVerdict) (bits : List ℕ) (old new : SinkSeen) → IsSpanOf t r f s
-    → has_place t r f ≡ true → SaysRuns t f v bits s.from s.to (file_verdict_text v f) (AreAll t f (IsGoodIfIn t r f)) (Sent old new)
-    → TellsFile t (telling.RunsIn r) f v bits old new (Ok tt)
-span_told t r f s v bits old new is on says = record {
+pub span_told : (words : Words) (t : Description) (r : Places) (f : FileEntry) (s : Span) (v : FileVerdict) (bits : List ℕ) (old new : SinkSeen)
+    → IsSpanOf t r f s
+    → has_place t r f ≡ true → SaysRuns words.run t f v bits s.from s.to (words.report.file v f) (AreAll t f (IsGoodIfIn t r f)) (Sent old new)
+    → TellsFile words t (telling.RunsIn r) f v bits old new (Ok tt)
+span_told words t r f s v bits old new is on says = record {
   text = says.text;
   went = says.went;
   is = λ content marks.
       let told = says.is content (span_marks t r f s content v bits is marks) in
-      (told.0, told.1, told.2 ∙ sym (ap (λ b. held_line b v f ++ runs_text t f told.0) on));
+      (told.0, told.1, told.2 ∙ sym (ap (λ b. held_as words.report.file b v f ++ runs_as words.run t f told.0) on));
 }
 
-pub span_first : (t : Description) (r : Places) (f : FileEntry) (s : Span) (v : FileVerdict) (bits : List ℕ) (old new : SinkSeen) (e : DeviceFault)
+pub span_first : (words : Words) (t : Description) (r : Places) (f : FileEntry) (s : Span) (v : FileVerdict) (bits : List ℕ) (old new : SinkSeen)
+    (e : DeviceFault)
     → IsSpanOf t r f s → has_place t r f ≡ true
-    → SaysRuns t f v bits s.from s.to (file_verdict_text v f) (AreFirst t f (IsGoodIfIn t r f)) (Broke old new)
-    → TellsFile t (telling.RunsIn r) f v bits old new (Err e)
-span_first t r f s v bits old new e is on says = record {
+    → SaysRuns words.run t f v bits s.from s.to (words.report.file v f) (AreFirst t f (IsGoodIfIn t r f)) (Broke old new)
+    → TellsFile words t (telling.RunsIn r) f v bits old new (Err e)
+span_first words t r f s v bits old new e is on says = record {
   text = says.text;
   went = says.went;
   is = λ content marks.
       let told = says.is content (span_marks t r f s content v bits is marks) in
-      (told.0, told.1, told.2 ∙ sym (ap (λ b. held_line b v f ++ runs_text t f told.0) on));
+      (told.0, told.1, told.2 ∙ sym (ap (λ b. held_as words.report.file b v f ++ runs_as words.run t f told.0) on));
 }
 
 -- a file that has no place has no runs
-pub none_in : (t : Description) (r : Places) (f : FileEntry) (v : FileVerdict) (bits : List ℕ) (out : SinkSeen) → (Touches t r f → ⊥)
-    → has_place t r f ≡ false → TellsFile t (telling.RunsIn r) f v bits out out (Ok tt)
-none_in t r f v bits out other off = record {
+pub none_in : (words : Words) (t : Description) (r : Places) (f : FileEntry) (v : FileVerdict) (bits : List ℕ) (out : SinkSeen) → (Touches t r f → ⊥)
+    → has_place t r f ≡ false → TellsFile words t (telling.RunsIn r) f v bits out out (Ok tt)
+none_in words t r f v bits out other off = record {
   text = [];
   went = record { bytes = Appends_nothing out.written; faults = refl; flushes = refl };
   is = λ content marks. (
     [],
     none content marks (has_runs v) refl,
-    sym (ap (λ b. held_line b v f ++ []) off),
+    sym (ap (λ b. held_as words.report.file b v f ++ []) off),
   );
 }
   where

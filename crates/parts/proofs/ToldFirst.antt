@@ -23,6 +23,7 @@ use Rattle.folders.proofs.Counts.{more_none, unreadable_push}
 use Rattle.parts.specs.Checking.{shelf_and_sink, verdicts_in}
 use Rattle.parts.specs.Telling.{TellsNothing, Tells, TellsFirst, Told}
 use Rattle.parts.specs.Visiting.{Finds, IsTold, SaysAndTells, StopsAtFile, Visiting, VisitsAll, VisitsOne}
+use Rattle.parts.specs.Words.{Words}
 use Rattle.parts.specs.Worse.{worse_v1}
 use Rattle.parts.specs.declared.telling.Telling.{Telling}
 use Rattle.parts.specs.declared.verdicts.Verdicts.{Verdicts}
@@ -65,7 +66,7 @@ counts_of old new files few counted =
     let low : unreadable_count files < 2 ^ 64 = omega (arith, few, count_by-le-length is_unreadable files) in
     record { counted = counted; readable = λ same. more_none old (unreadable_count files) low (sym counted ∙ same) }
 
-module _ {S : Type 0} (V : Visiting S) (t : Description) (telling : Telling) where
+module _ {S : Type 0} (V : Visiting S) (words : Words) (t : Description) (telling : Telling) where
   -- the first n files were visited and told of
   pub record IsToldFirst (old : S × SinkSeen) (n : ℕ) (files : List FileVerdict) (v1 : V1Verdict) (new : S × SinkSeen) : Type 0 where
     pub told : List (FileVerdict × List ℕ)
@@ -75,7 +76,7 @@ module _ {S : Type 0} (V : Visiting S) (t : Description) (telling : Telling) whe
     pub visited : Chain (VisitsOne V) old (take n t.files) told new
     pub stays : V.contents new.0 ≡ V.contents old.0
     pub checked : is_checked v1 ≡ list_all is_whole files
-    pub found : HasFoundFirst t V.places (SaysAndTells V t telling) (V.contents old.0).under n told v1
+    pub found : HasFoundFirst t V.places (SaysAndTells V words t telling) (V.contents old.0).under n told v1
 
   -- none yet
   pub told_none : (old : S × SinkSeen) → IsToldFirst old 0 [] version1.Good old
@@ -87,7 +88,7 @@ module _ {S : Type 0} (V : Visiting S) (t : Description) (telling : Telling) whe
     visited = refl;
     stays = refl;
     checked = refl;
-    found = found_none t V.places (SaysAndTells V t telling) (V.contents old.0).under;
+    found = found_none t V.places (SaysAndTells V words t telling) (V.contents old.0).under;
   }
 
   -- a file was visited, after the first n
@@ -111,11 +112,11 @@ module _ {S : Type 0} (V : Visiting S) (t : Description) (telling : Telling) whe
 
   -- and told of
   pub told_one : (old mid : S × SinkSeen) (n : ℕ) (files : List FileVerdict) (a : V1Verdict) (f : FileEntry) (v : Verdicts) (bits : List ℕ) (visited : S)
-      (out : SinkSeen) → VisitsNext mid n f v bits visited → Told (λ content. Tells t telling f content v.file) t telling f v.file bits (Sent mid.1 out)
+      (out : SinkSeen) → VisitsNext mid n f v bits visited → Told (λ content. Tells words t telling f content v.file) t telling f v.file bits (Sent mid.1 out)
       → IsToldFirst old n files a mid → IsToldFirst old (n + 1) (files ++ v.file ∷ []) (worse_v1 a v.v1) (shelf_and_sink visited out)
   told_one old mid n files a f v bits visited out next tells so_far =
       let finds = finds_there old mid n files a f v bits visited so_far next in
-      let one : FindsOne t V.places (SaysAndTells V t telling) f ((V.contents old.0).under f.path) (v.file, tells.text) v.v1 = record {
+      let one : FindsOne t V.places (SaysAndTells V words t telling) f ((V.contents old.0).under f.path) (v.file, tells.text) v.v1 = record {
         content = finds.content;
         agrees = finds.agrees;
         says = (finds.verdict, record { bits = bits; marked = finds.marked; tells = tells.is });
@@ -133,15 +134,15 @@ module _ {S : Type 0} (V : Visiting S) (t : Description) (telling : Telling) whe
             (get_or_from_slice_get t.files n f f next.there)) step);
         stays = next.stays ∙ so_far.stays;
         checked = checked_next files a f _ v bits so_far.checked finds;
-        found = found_one t V.places (SaysAndTells V t telling) (V.contents old.0).under n so_far.told a v.v1 f (v.file, tells.text) next.there
+        found = found_one t V.places (SaysAndTells V words t telling) (V.contents old.0).under n so_far.told a v.v1 f (v.file, tells.text) next.there
             so_far.count one so_far.found;
       }
 
   -- or what is told of it broke off
   pub stops_at : (old mid : S × SinkSeen) (n : ℕ) (files : List FileVerdict) (a : V1Verdict) (f : FileEntry) (v : Verdicts) (bits : List ℕ) (visited : S)
       (out : SinkSeen) → length files < 2 ^ 64 - 1 → (TellsNothing telling → ⊥) → VisitsNext mid n f v bits visited
-      → Told (λ content. TellsFirst t telling f content v.file) t telling f v.file bits (Broke mid.1 out)
-      → IsToldFirst old n files a mid → StopsAtFile V t telling old (shelf_and_sink visited out)
+      → Told (λ content. TellsFirst words t telling f content v.file) t telling f v.file bits (Broke mid.1 out)
+      → IsToldFirst old n files a mid → StopsAtFile V words t telling old (shelf_and_sink visited out)
   stops_at old mid n files a f v bits visited out few some next tells so_far =
       let finds = finds_there old mid n files a f v bits visited so_far next in
       let under = (V.contents old.0).under in
@@ -154,7 +155,7 @@ module _ {S : Type 0} (V : Visiting S) (t : Description) (telling : Telling) whe
       let counted : V.faults visited ≡ more (V.faults old.0) (unreadable_count (verdicts_in so_far.told ++ v.file ∷ [])) =
       subst (λ vs. V.faults visited ≡ more (V.faults old.0) (unreadable_count (vs ++ v.file ∷ []))) (sym so_far.verdicts_are)
       (unreadable_push (V.faults old.0) (V.faults mid.0) (V.faults visited) files v.file so_far.counted next.counts) in
-      let last : IsTold V (λ c. TellsFirst t telling f c v.file) t telling f finds.content v.file tells.text =
+      let last : IsTold V (λ c. TellsFirst words t telling f c v.file) t telling f finds.content v.file tells.text =
       record { bits = bits; marked = finds.marked; tells = tells.is } in
       record {
         some = some;
@@ -172,10 +173,10 @@ module _ {S : Type 0} (V : Visiting S) (t : Description) (telling : Telling) whe
             let inside : k < length seen_all = omega (arith, lt, so_far.count, length_push so_far.found.seen finds.content, so_far.found.count) in
             let c = item_at seen_all k inside in
             subst (Agrees (under g.path)) (sym (contents_extend seen_all k c.0 c.1))
-            (agree_more t V.places (SaysAndTells V t telling) under n so_far.told a f finds.content next.there finds.agrees so_far.found k g c.0 at c.1);
+            (agree_more t V.places (SaysAndTells V words t telling) under n so_far.told a f finds.content next.there finds.agrees so_far.found k g c.0 at c.1);
         each = λ k g x at said. stated.each k g x at said;
         says = subst (λ c. V.says f c v.file) (sym there) finds.verdict;
-        last = subst (λ c. IsTold V (λ d. TellsFirst t telling f d v.file) t telling f c v.file tells.text) (sym there) last;
+        last = subst (λ c. IsTold V (λ d. TellsFirst words t telling f d v.file) t telling f c v.file tells.text) (sym there) last;
         counts = counts_of (V.faults old.0) (V.faults visited) (verdicts_in so_far.told ++ v.file ∷ [])
             (omega (arith, few, ap length so_far.verdicts_are, length_push (verdicts_in so_far.told) v.file)) counted;
       }
@@ -183,7 +184,7 @@ module _ {S : Type 0} (V : Visiting S) (t : Description) (telling : Telling) whe
   -- all files were
   pub told_all : (old new : S × SinkSeen) (n : ℕ) (files : List FileVerdict) (a : V1Verdict) (v1 : Option V1Verdict) → IsSound t → n ≡ length t.files
       → length files < 2 ^ 64 → is_some v1 ≡ is_some t.v1 → ((v : V1Verdict) → v1 ≡ Some v → a ≡ v) → IsToldFirst old n files a new
-      → VisitsAll V t telling files v1 old new
+      → VisitsAll V words t telling files v1 old new
   told_all old new n files a v1 sound all few hybrid is so_far =
       let under = (V.contents old.0).under in
       let contents : Contents = contents_of so_far.found.seen in
@@ -195,7 +196,7 @@ module _ {S : Type 0} (V : Visiting S) (t : Description) (telling : Telling) whe
           checked = λ v at. ap is_checked (sym (is v at)) ∙ so_far.checked;
         };
         contents = contents;
-        agree = all_agree t V.places (SaysAndTells V t telling) under n so_far.told a all so_far.found;
+        agree = all_agree t V.places (SaysAndTells V words t telling) under n so_far.told a all so_far.found;
         told = so_far.told;
         verdicts_are = so_far.verdicts_are;
         each = stated.each;

@@ -21,6 +21,7 @@ use Rattle.parts.specs.Finding.{FindsWhole, all_places}
 use Rattle.parts.specs.Parts.{Holds, IsPartV1, place_count}
 use Rattle.parts.specs.Telling.{Marks, MarksOf, TellsWhole}
 use Rattle.parts.specs.Visiting.{Finds, StopsAtFile, VisitsAll, VisitsOne, whole_visiting}
+use Rattle.parts.specs.Words.{Words}
 use Rattle.parts.specs.declared.telling.Telling.{Telling}
 use Rattle.parts.specs.declared.telling.Telling.TheVariants as telling
 use Rattle.parts.specs.declared.verdicts.Verdicts.{Verdicts}
@@ -58,9 +59,10 @@ module _ {S F : Type 0} (shelf : Ghosts S F) (seen : F → SourceSeen) (t : Desc
   whole_marks (telling.RunsIn r) f c v bits whole marks = absurd whole
 
   -- what is told of a file broke off
-  pub whole_stops : (telling : Telling) (old new : S × SinkSeen) → TellsWhole telling → StopsAtFile (whole_visiting shelf seen t) t telling old new
-      → StopsAtOne shelf seen t telling old new
-  whole_stops telling old new whole stops =
+  pub whole_stops : (words : Words) (telling : Telling) (old new : S × SinkSeen) → TellsWhole telling
+      → StopsAtFile (whole_visiting shelf seen t) words t telling old new
+      → StopsAtOne shelf seen words t telling old new
+  whole_stops words telling old new whole stops =
       let n : ℕ = length stops.told in
       let long : length (verdicts_in stops.told) ≡ length stops.told = length-told stops.told in
       record {
@@ -96,9 +98,10 @@ module _ {S F : Type 0} (shelf : Ghosts S F) (seen : F → SourceSeen) (t : Desc
       }
 
   -- all files were checked
-  pub whole_all : (telling : Telling) (files : List FileVerdict) (v1 : Option V1Verdict) (old new : S × SinkSeen) → IsSound t → TellsWhole telling
-      → VisitsAll (whole_visiting shelf seen t) t telling files v1 old new → ChecksAll shelf seen t telling files v1 old new
-  whole_all telling files v1 old new sound whole visits =
+  pub whole_all : (words : Words) (telling : Telling) (files : List FileVerdict) (v1 : Option V1Verdict) (old new : S × SinkSeen) → IsSound t
+      → TellsWhole telling
+      → VisitsAll (whole_visiting shelf seen t) words t telling files v1 old new → ChecksAll shelf seen words t telling files v1 old new
+  whole_all words telling files v1 old new sound whole visits =
       let contents : Contents = visits.contents in
       let each : (m : ℕ) (f : FileEntry) (v : FileVerdict) → slice_get t.files m ≡ Some f → slice_get files m ≡ Some v → IsVerdict t f (contents m) v =
       λ m f v there said.

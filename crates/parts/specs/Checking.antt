@@ -5,17 +5,18 @@ use Rattle.std.specs.Prelude.{◌≡◌, ◌⊎◌, ℕ, List, [], ◌∷◌, �
 use Rattle.benc.specs.Device.{Broke, BrokeOrUnflushed, Sent, SentAndFlushed, SinkSeen, SourceSeen}
 use Rattle.chains.specs.Chain.{Chain}
 use Rattle.folders.specs.Folder.{Contents}
-use Rattle.folders.specs.Printed.{end_text}
+use Rattle.folders.specs.Printed.{end_as}
 use Rattle.folders.specs.Stopping.{AreTrueOfFirst}
 use Rattle.folders.specs.Verdicts.{CountsUnreadable, HasVerdicts, IsTrueOfFolder}
 use Rattle.folders.specs.Visits.{Visits}
-use Rattle.folders.specs.declared.lines.Lines.{Lines}
+use Rattle.folders.specs.declared.report_lines.Lines.{Lines}
 use Rattle.folders.specs.declared.report.FileVerdict.{FileVerdict}
 use Rattle.folders.specs.declared.report.Report.{Report}
 use Rattle.folders.specs.declared.report.V1Verdict.{V1Verdict}
 use Rattle.folders.specs.declared.shelf.Shelf.{Ghosts}
 use Rattle.opening.specs.Description.{Description, FileEntry}
 use Rattle.parts.specs.Telling.{Tells, TellsFirst}
+use Rattle.parts.specs.Words.{Words, words_in_text}
 use Rattle.parts.specs.declared.all_files.CheckFault.{CheckFault}
 use Rattle.parts.specs.declared.all_files.CheckFault.TheVariants as stopped
 use Rattle.parts.specs.declared.telling.Telling.{Telling}
@@ -29,10 +30,11 @@ abbrev pub verdicts_in : List (FileVerdict × List ℕ) → List FileVerdict
 verdicts_in told = map (λ x. x.0) told
 
 -- each of the first files is told of so, if these are the files' contents
-abbrev pub AreTold : Description → Telling → Contents → List (FileVerdict × List ℕ) → Type 0
-AreTold t telling contents told = (n : ℕ) (f : FileEntry) (x : FileVerdict × List ℕ)
+abbrev pub AreTold : Words → Description → Telling → Contents → List (FileVerdict × List ℕ)
+    → Type 0
+AreTold words t telling contents told = (n : ℕ) (f : FileEntry) (x : FileVerdict × List ℕ)
     → slice_get t.files n ≡ Some f → slice_get told n ≡ Some x
-    → Tells t telling f (contents n) x.0 x.1
+    → Tells words t telling f (contents n) x.0 x.1
 
 module _ {S F : Type 0} (shelf : Ghosts S F) (seen : F → SourceSeen) where
   -- a file was visited once, for this verdict; then this went out
@@ -43,20 +45,22 @@ module _ {S F : Type 0} (shelf : Ghosts S F) (seen : F → SourceSeen) where
 
   -- all files were checked and told of, each before the next was opened, for these verdicts, which
   -- are true of what stands at the files' paths; and what was told is true of the same
-  pub record ChecksAll (t : Description) (telling : Telling) (verdicts : List FileVerdict)
-      (v1 : Option V1Verdict) (old new : S × SinkSeen) : Type 0 where
-    pub has : HasVerdicts t verdicts v1
-    pub are_true : IsTrueOfFolder t (shelf.contents old.0).under verdicts v1
-    pub told : List (FileVerdict × List ℕ)
-    pub verdicts_are : verdicts_in told ≡ verdicts
-    pub tells : AreTold t telling are_true.contents told
-    pub files : Chain (ChecksFile t) old t.files told new
-    pub counts : CountsUnreadable (shelf.faults old.0) (shelf.faults new.0) verdicts
+  pub record ChecksAll (words : Words) (t : Description) (telling : Telling)
+      (verdicts : List FileVerdict) (v1 : Option V1Verdict) (old new : S × SinkSeen) : Type 0
+    where
+      pub has : HasVerdicts t verdicts v1
+      pub are_true : IsTrueOfFolder t (shelf.contents old.0).under verdicts v1
+      pub told : List (FileVerdict × List ℕ)
+      pub verdicts_are : verdicts_in told ≡ verdicts
+      pub tells : AreTold words t telling are_true.contents told
+      pub files : Chain (ChecksFile t) old t.files told new
+      pub counts : CountsUnreadable (shelf.faults old.0) (shelf.faults new.0) verdicts
 
   -- After all that is told of the files before it, a file was visited once, for this verdict; and
   -- what is told of it broke off. No later file was opened. The verdicts are true of what stands at
   -- the files' paths, and what was told is true of the same.
-  pub record StopsAtOne (t : Description) (telling : Telling) (old new : S × SinkSeen) : Type 0
+  pub record StopsAtOne (words : Words) (t : Description) (telling : Telling)
+      (old new : S × SinkSeen) : Type 0
     where
       pub told : List (FileVerdict × List ℕ)
       pub between : S × SinkSeen
@@ -69,47 +73,54 @@ module _ {S F : Type 0} (shelf : Ghosts S F) (seen : F → SourceSeen) where
       pub broke : Broke between.1 new.1 text
       pub are_true : AreTrueOfFirst t (shelf.contents old.0).under
           (verdicts_in told ++ verdict ∷ [])
-      pub tells : AreTold t telling are_true.contents told
-      pub last : TellsFirst t telling file (are_true.contents (length told)) verdict text
+      pub tells : AreTold words t telling are_true.contents told
+      pub last : TellsFirst words t telling file (are_true.contents (length told)) verdict text
       pub counts : CountsUnreadable (shelf.faults old.0) (shelf.faults new.0)
           (verdicts_in told ++ verdict ∷ [])
 
   -- what was done for all files, by the answer
-  abbrev pub EndsFiles : Description → Telling → S × SinkSeen → S × SinkSeen
+  abbrev pub EndsFiles : Words → Description → Telling → S × SinkSeen → S × SinkSeen
       → Result Report CheckFault → Type 0
-  EndsFiles t telling old new (Ok report) =
-      ChecksAll t telling report.files.items report.v1 old new
-  EndsFiles t telling old new (Err stopped.Write) = StopsAtOne t telling old new
-  EndsFiles t telling old new (Err stopped.NoMemory) = (new.0 ≡ old.0) × (new.1 ≡ old.1)
+  EndsFiles words t telling old new (Ok report) =
+      ChecksAll words t telling report.files.items report.v1 old new
+  EndsFiles words t telling old new (Err stopped.Write) = StopsAtOne words t telling old new
+  EndsFiles words t telling old new (Err stopped.NoMemory) = (new.0 ≡ old.0) × (new.1 ≡ old.1)
 
   -- all files were checked and told of, and then the end of the report went out, with one flush
-  pub record ChecksWhole (t : Description) (telling : Telling) (lines : Lines)
+  pub record ChecksWhole (words : Words) (t : Description) (telling : Telling) (lines : Lines)
       (verdicts : List FileVerdict) (v1 : Option V1Verdict) (old new : S × SinkSeen) : Type 0
     where
       pub mid : SinkSeen
-      pub all : ChecksAll t telling verdicts v1 old (shelf_and_sink new.0 mid)
-      pub end : SentAndFlushed mid new.1 (end_text lines verdicts v1)
+      pub all : ChecksAll words t telling verdicts v1 old (shelf_and_sink new.0 mid)
+      pub end : SentAndFlushed mid new.1 (end_as words.report lines verdicts v1)
 
   -- all files were, and the end of the report broke off or was not flushed
-  pub record StopsAtEnd (t : Description) (telling : Telling) (lines : Lines)
+  pub record StopsAtEnd (words : Words) (t : Description) (telling : Telling) (lines : Lines)
       (old new : S × SinkSeen) : Type 0 where
     pub verdicts : List FileVerdict
     pub v1 : Option V1Verdict
     pub mid : SinkSeen
-    pub all : ChecksAll t telling verdicts v1 old (shelf_and_sink new.0 mid)
-    pub broke : BrokeOrUnflushed mid new.1 (end_text lines verdicts v1)
+    pub all : ChecksAll words t telling verdicts v1 old (shelf_and_sink new.0 mid)
+    pub broke : BrokeOrUnflushed mid new.1 (end_as words.report lines verdicts v1)
 
   -- the sink failed at a file, or behind the last one
-  abbrev pub StopsTelling : Description → Telling → Lines → S × SinkSeen → S × SinkSeen → Type 0
-  StopsTelling t telling lines old new =
-      StopsAtOne t telling old new ⊎ StopsAtEnd t telling lines old new
+  abbrev pub StopsTelling : Words → Description → Telling → Lines → S × SinkSeen → S × SinkSeen
+      → Type 0
+  StopsTelling words t telling lines old new =
+      StopsAtOne words t telling old new ⊎ StopsAtEnd words t telling lines old new
+
+  -- what a check did whose lines are worded so, by its answer
+  abbrev pub ChecksAndSays : Words → Description → Telling → Lines → S × SinkSeen → S × SinkSeen
+      → Result Report CheckFault → Type 0
+  ChecksAndSays words t telling lines old new (Ok report) =
+      ChecksWhole words t telling lines report.files.items report.v1 old new
+  ChecksAndSays words t telling lines old new (Err stopped.Write) =
+      StopsTelling words t telling lines old new
+  ChecksAndSays words t telling lines old new (Err stopped.NoMemory) =
+      (new.0 ≡ old.0) × (new.1 ≡ old.1)
 
   -- what a check that prints did, by its answer
   abbrev pub ChecksAndPrints : Description → Telling → Lines → S × SinkSeen → S × SinkSeen
       → Result Report CheckFault → Type 0
-  ChecksAndPrints t telling lines old new (Ok report) =
-      ChecksWhole t telling lines report.files.items report.v1 old new
-  ChecksAndPrints t telling lines old new (Err stopped.Write) =
-      StopsTelling t telling lines old new
-  ChecksAndPrints t telling lines old new (Err stopped.NoMemory) =
-      (new.0 ≡ old.0) × (new.1 ≡ old.1)
+  ChecksAndPrints t telling lines old new r =
+      ChecksAndSays words_in_text t telling lines old new r

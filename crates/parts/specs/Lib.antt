@@ -20,4 +20,5 @@ pub mod Shares
 pub mod Spans
 pub mod Telling
 pub mod Visiting
+pub mod Words
 pub mod Worse

@@ -4,9 +4,10 @@ use Rattle.hex.specs.Hex.{encode_lower}
 use Rattle.opening.specs.Description.{Description, FileEntry}
 use Rattle.folders.specs.declared.report.FileVerdict.{FileVerdict}
 use Rattle.folders.specs.declared.report.V1Verdict.{V1Verdict}
-use Rattle.parts.specs.PartLines.{end_lines, has_place, held_line}
-use Rattle.parts.specs.Runs.{Run, runs_text}
+use Rattle.parts.specs.PartLines.{end_lines, has_place, held_as, held_line}
+use Rattle.parts.specs.Runs.{Run, runs_as, runs_text}
 use Rattle.parts.specs.Shares.{share}
+use Rattle.parts.specs.Words.{Words}
 use Rattle.parts.specs.declared.places.Places.{Places}
 
 -- the first line: that of a report without runs, and one word more
@@ -17,6 +18,11 @@ marked_head_text t part parts =
 
 -- what stands of a file with this verdict: its line, if it has one of these places, and then those
 -- of its runs
+abbrev pub marked_as : Words → Description → Places → FileEntry → FileVerdict → List Run → List ℕ
+marked_as words t r f v runs =
+    held_as words.report.file (has_place t r f) v f ++ runs_as words.run t f runs
+
+-- the same as text
 abbrev pub marked_line : Description → Places → FileEntry → FileVerdict → List Run → List ℕ
 marked_line t r f v runs = held_line (has_place t r f) v f ++ runs_text t f runs
 

@@ -22,9 +22,13 @@ head_text t part parts =
     codes "part " ++ decimal (part + 1) ++ codes "/" ++ decimal parts ++ codes " "
     ++ encode_lower t.info_hash_v2 ++ codes "\n"
 
--- the line of a file that has a place in the part
+-- the line of a file that has a place in the part, worded so
+abbrev pub held_as : (FileVerdict → FileEntry → List ℕ) → Bool → FileVerdict → FileEntry → List ℕ
+held_as line is_held v f = (if is_held then line v f else [])
+
+-- the same as text
 abbrev pub held_line : Bool → FileVerdict → FileEntry → List ℕ
-held_line is_held v f = (if is_held then file_verdict_text v f else [])
+held_line is_held v f = held_as file_verdict_text is_held v f
 
 -- the lines of the first files that have one of these places, of all of which these are the
 -- verdicts

@@ -86,20 +86,29 @@ run_text t f r =
     ++ codes " bytes " ++ decimal (t.piece_length * r.first)
     ++ codes "-" ++ decimal (min (t.piece_length * (r.last + 1)) f.length - 1) ++ codes "\n"
 
+-- how the line of a run is worded
+abbrev pub RunLine : Type 0
+RunLine = Description → FileEntry → Run → List ℕ
+
 -- the lines of several
+abbrev pub runs_as : RunLine → Description → FileEntry → List Run → List ℕ
+runs_as line t f [] = []
+runs_as line t f (r ∷ rs) = line t f r ++ runs_as line t f rs
+
+-- the same as text
 abbrev pub runs_text : Description → FileEntry → List Run → List ℕ
-runs_text t f [] = []
-runs_text t f (r ∷ rs) = run_text t f r ++ runs_text t f rs
+runs_text t f runs = runs_as run_text t f runs
 
 -- the lines of some of the first runs of bits that are not set went out so
-abbrev pub WentFirst : Description → FileEntry → ℕ → ℕ → List ℕ → (List ℕ → Type 0) → Type 0
-WentFirst t f from to bits Went = (runs : List Run) × (end : ℕ) × (end ≤ piece_count t f)
-    × AreClearRuns t f from to bits end runs × Went (runs_text t f runs)
+abbrev pub WentFirst : RunLine → Description → FileEntry → ℕ → ℕ → List ℕ → (List ℕ → Type 0)
+    → Type 0
+WentFirst line t f from to bits Went = (runs : List Run) × (end : ℕ) × (end ≤ piece_count t f)
+    × AreClearRuns t f from to bits end runs × Went (runs_as line t f runs)
 
 -- the lines of all of them went out, or those of the first ones broke off
-abbrev pub WritesRuns : {E : Type 0} → Description → FileEntry → ℕ → ℕ → List ℕ → SinkSeen
-    → SinkSeen → Result (Unit {0}) E → Type 0
-WritesRuns t f from to bits out out' r = MatchResult r
+abbrev pub WritesRuns : {E : Type 0} → RunLine → Description → FileEntry → ℕ → ℕ → List ℕ
+    → SinkSeen → SinkSeen → Result (Unit {0}) E → Type 0
+WritesRuns line t f from to bits out out' r = MatchResult r
     (λ _. (runs : List Run) × AreClearRuns t f from to bits (piece_count t f) runs
-    × Sent out out' (runs_text t f runs))
-    (λ _. WentFirst t f from to bits (Broke out out'))
+    × Sent out out' (runs_as line t f runs))
+    (λ _. WentFirst line t f from to bits (Broke out out'))

@@ -2,15 +2,16 @@
 use Rattle.std.specs.Prelude.{◌≡◌, ℕ, ◌*◌, ◌≤◌, Bool, true, false, List, [], ◌++◌, slice_get, Option, Some, Result, MatchResult, ⊤}
 use Rattle.benc.specs.Device.{Broke, Sent, SinkSeen}
 use Rattle.benc.specs.declared.device.DeviceFault.{DeviceFault}
-use Rattle.folders.specs.Printed.{wanted_text}
+use Rattle.folders.specs.Printed.{wanted_as}
 use Rattle.folders.specs.declared.report.FileVerdict.{FileVerdict}
 use Rattle.folders.specs.declared.report.FileVerdict.TheVariants as file
 use Rattle.opening.specs.Description.{Description, FileEntry}
-use Rattle.parts.specs.MarkedLines.{marked_line}
+use Rattle.parts.specs.MarkedLines.{marked_as}
 use Rattle.parts.specs.Parts.{piece_count}
 use Rattle.parts.specs.RowBits.{AreBitsOf}
-use Rattle.parts.specs.Runs.{AreFirstRunsIn, AreFirstRunsOf, AreRunsIn, AreRunsOf, Run, runs_text}
+use Rattle.parts.specs.Runs.{AreFirstRunsIn, AreFirstRunsOf, AreRunsIn, AreRunsOf, Run, runs_as}
 use Rattle.parts.specs.Spans.{end_in, first_in}
+use Rattle.parts.specs.Words.{Words}
 use Rattle.parts.specs.declared.places.Places.{Places}
 use Rattle.parts.specs.declared.telling.Telling.{Telling}
 use Rattle.parts.specs.declared.telling.Telling.TheVariants as telling
@@ -78,26 +79,27 @@ AreFirstMarkedRuns t r f content v runs =
 -- what is told of a file that has this content, for its verdict: nothing; its line if that is
 -- wanted; that line and those of its runs of bad pieces; or its line if it has one of these places,
 -- and those of its runs of bad pieces among them
-abbrev pub Tells : Description → Telling → FileEntry → Option (List ℕ) → FileVerdict → List ℕ
-    → Type 0
-Tells t telling.Nothing f content v text = text ≡ []
-Tells t (telling.Line lines) f content v text = text ≡ wanted_text lines v f
-Tells t (telling.LineAndRuns lines) f content v text =
+abbrev pub Tells : Words → Description → Telling → FileEntry → Option (List ℕ) → FileVerdict
+    → List ℕ → Type 0
+Tells words t telling.Nothing f content v text = text ≡ []
+Tells words t (telling.Line lines) f content v text = text ≡ wanted_as words.report lines v f
+Tells words t (telling.LineAndRuns lines) f content v text =
     (runs : List Run) × AreToldRuns (AreRunsOf t f) (has_runs v) content runs
-    × (text ≡ wanted_text lines v f ++ runs_text t f runs)
-Tells t (telling.RunsIn r) f content v text =
-    (runs : List Run) × AreMarkedRuns t r f content v runs × (text ≡ marked_line t r f v runs)
+    × (text ≡ wanted_as words.report lines v f ++ runs_as words.run t f runs)
+Tells words t (telling.RunsIn r) f content v text =
+    (runs : List Run) × AreMarkedRuns t r f content v runs × (text ≡ marked_as words t r f v runs)
 
 -- the same up to one of the runs
-abbrev pub TellsFirst : Description → Telling → FileEntry → Option (List ℕ) → FileVerdict
+abbrev pub TellsFirst : Words → Description → Telling → FileEntry → Option (List ℕ) → FileVerdict
     → List ℕ → Type 0
-TellsFirst t telling.Nothing f content v text = ⊥
-TellsFirst t (telling.Line lines) f content v text = text ≡ wanted_text lines v f
-TellsFirst t (telling.LineAndRuns lines) f content v text =
+TellsFirst words t telling.Nothing f content v text = ⊥
+TellsFirst words t (telling.Line lines) f content v text = text ≡ wanted_as words.report lines v f
+TellsFirst words t (telling.LineAndRuns lines) f content v text =
     (runs : List Run) × AreToldRuns (AreFirstRunsOf t f) (has_runs v) content runs
-    × (text ≡ wanted_text lines v f ++ runs_text t f runs)
-TellsFirst t (telling.RunsIn r) f content v text =
-    (runs : List Run) × AreFirstMarkedRuns t r f content v runs × (text ≡ marked_line t r f v runs)
+    × (text ≡ wanted_as words.report lines v f ++ runs_as words.run t f runs)
+TellsFirst words t (telling.RunsIn r) f content v text =
+    (runs : List Run) × AreFirstMarkedRuns t r f content v runs
+    × (text ≡ marked_as words t r f v runs)
 
 -- ---- what was written
 
@@ -133,8 +135,8 @@ pub record Told (Is : Option (List ℕ) → List ℕ → Type 0) (t : Descriptio
   pub is : (content : Option (List ℕ)) → MarksOf t told f content v bits → Is content text
 
 -- what is told of a file went out, or broke off
-abbrev pub TellsFile : Description → Telling → FileEntry → FileVerdict → List ℕ → SinkSeen
+abbrev pub TellsFile : Words → Description → Telling → FileEntry → FileVerdict → List ℕ → SinkSeen
     → SinkSeen → Result (Unit {0}) DeviceFault → Type 0
-TellsFile t told f v bits out out' r = MatchResult r
-    (λ _. Told (λ content. Tells t told f content v) t told f v bits (Sent out out'))
-    (λ _. Told (λ content. TellsFirst t told f content v) t told f v bits (Broke out out'))
+TellsFile words t told f v bits out out' r = MatchResult r
+    (λ _. Told (λ content. Tells words t told f content v) t told f v bits (Sent out out'))
+    (λ _. Told (λ content. TellsFirst words t told f content v) t told f v bits (Broke out out'))

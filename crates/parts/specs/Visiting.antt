@@ -17,6 +17,7 @@ use Rattle.parts.specs.Finding.{IsFileV1, all_places}
 use Rattle.parts.specs.Parts.{IsPartV1, IsPartVerdict}
 use Rattle.parts.specs.PartVisits.{VisitsPart}
 use Rattle.parts.specs.Telling.{Marks, MarksIn, MarksOf, Tells, TellsFirst, TellsNothing}
+use Rattle.parts.specs.Words.{Words}
 use Rattle.parts.specs.declared.places.Places.{Places}
 use Rattle.parts.specs.declared.telling.Telling.{Telling}
 use Rattle.parts.specs.declared.verdicts.Verdicts.{Verdicts}
@@ -78,10 +79,10 @@ module _ {S : Type 0} (V : Visiting S) where
     pub tells : (c : Option (List ℕ)) → MarksOf t told f c v bits → Is c text
 
   -- this was said of a file with this content, and told of it
-  abbrev pub SaysAndTells : Description → Telling → FileEntry → Option (List ℕ)
+  abbrev pub SaysAndTells : Words → Description → Telling → FileEntry → Option (List ℕ)
       → FileVerdict × List ℕ → Type 0
-  SaysAndTells t told f content x = V.says f content x.0
-      × IsTold (λ c. Tells t told f c x.0) t told f content x.0 x.1
+  SaysAndTells words t told f content x = V.says f content x.0
+      × IsTold (λ c. Tells words t told f c x.0) t told f content x.0 x.1
 
   -- a file was visited for this verdict; then this went out
   pub record VisitsOne (old : S × SinkSeen) (f : FileEntry) (x : FileVerdict × List ℕ)
@@ -91,23 +92,25 @@ module _ {S : Type 0} (V : Visiting S) where
 
   -- all files were visited and told of, each before the next, for these verdicts, which are true of
   -- contents that are the shelf's as far as those are known; and what was told is true of the same
-  pub record VisitsAll (t : Description) (telling : Telling) (verdicts : List FileVerdict)
-      (v1 : Option V1Verdict) (old new : S × SinkSeen) : Type 0 where
-    pub has : HasVerdicts t verdicts v1
-    pub contents : Contents
-    pub agree : AgreeWith t (V.contents old.0).under contents
-    pub told : List (FileVerdict × List ℕ)
-    pub verdicts_are : verdicts_in told ≡ verdicts
-    pub each : (n : ℕ) (f : FileEntry) (x : FileVerdict × List ℕ) → slice_get t.files n ≡ Some f
-        → slice_get told n ≡ Some x → SaysAndTells t telling f (contents n) x
-    pub version1 : (v : Version1) (a : V1Verdict) → t.v1 ≡ Some v → v1 ≡ Some a
-        → IsPartV1 t v V.places contents a
-    pub visited : Chain VisitsOne old t.files told new
-    pub counts : CountsUnreadable (V.faults old.0) (V.faults new.0) verdicts
+  pub record VisitsAll (words : Words) (t : Description) (telling : Telling)
+      (verdicts : List FileVerdict) (v1 : Option V1Verdict) (old new : S × SinkSeen) : Type 0
+    where
+      pub has : HasVerdicts t verdicts v1
+      pub contents : Contents
+      pub agree : AgreeWith t (V.contents old.0).under contents
+      pub told : List (FileVerdict × List ℕ)
+      pub verdicts_are : verdicts_in told ≡ verdicts
+      pub each : (n : ℕ) (f : FileEntry) (x : FileVerdict × List ℕ) → slice_get t.files n ≡ Some f
+          → slice_get told n ≡ Some x → SaysAndTells words t telling f (contents n) x
+      pub version1 : (v : Version1) (a : V1Verdict) → t.v1 ≡ Some v → v1 ≡ Some a
+          → IsPartV1 t v V.places contents a
+      pub visited : Chain VisitsOne old t.files told new
+      pub counts : CountsUnreadable (V.faults old.0) (V.faults new.0) verdicts
 
   -- after all that is told of the files before it, a file was visited, and what is told of it broke
   -- off; no later file was visited
-  pub record StopsAtFile (t : Description) (telling : Telling) (old new : S × SinkSeen) : Type 0
+  pub record StopsAtFile (words : Words) (t : Description) (telling : Telling)
+      (old new : S × SinkSeen) : Type 0
     where
       pub some : TellsNothing telling → ⊥
       pub told : List (FileVerdict × List ℕ)
@@ -123,16 +126,16 @@ module _ {S : Type 0} (V : Visiting S) where
       pub agree : (n : ℕ) (f : FileEntry) → n < length told + 1 → slice_get t.files n ≡ Some f
           → Agrees ((V.contents old.0).under f.path) (contents n)
       pub each : (n : ℕ) (f : FileEntry) (x : FileVerdict × List ℕ) → slice_get t.files n ≡ Some f
-          → slice_get told n ≡ Some x → SaysAndTells t telling f (contents n) x
+          → slice_get told n ≡ Some x → SaysAndTells words t telling f (contents n) x
       pub says : V.says file (contents (length told)) verdict
-      pub last : IsTold (λ c. TellsFirst t telling file c verdict) t telling file
+      pub last : IsTold (λ c. TellsFirst words t telling file c verdict) t telling file
           (contents (length told)) verdict text
       pub counts : CountsUnreadable (V.faults old.0) (V.faults new.0)
           (verdicts_in told ++ verdict ∷ [])
 
   -- what was done for all files, by the answer
-  abbrev pub EndsVisits : Description → Telling → S × SinkSeen → S × SinkSeen
+  abbrev pub EndsVisits : Words → Description → Telling → S × SinkSeen → S × SinkSeen
       → Result Report DeviceFault → Type 0
-  EndsVisits t telling old new (Ok report) =
-      VisitsAll t telling report.files.items report.v1 old new
-  EndsVisits t telling old new (Err fault) = StopsAtFile t telling old new
+  EndsVisits words t telling old new (Ok report) =
+      VisitsAll words t telling report.files.items report.v1 old new
+  EndsVisits words t telling old new (Err fault) = StopsAtFile words t telling old new

@@ -9,6 +9,7 @@ ghost use Rattle.parts.specs.Checking.{EndsFiles, shelf_and_sink};
 ghost use Rattle.parts.specs.Finding.{FindsWhole};
 ghost use Rattle.parts.specs.Parts.{piece_count as pieces_in};
 ghost use Rattle.parts.specs.Telling.{TellsWhole};
+ghost use Rattle.parts.specs.Words.{words_as};
 ghost use Rattle.parts.specs.declared.all_files.CheckFault.TheVariants as fault;
 
 use crate::bits::{clear_bits, taken};
@@ -19,8 +20,9 @@ use crate::span::Span;
 use crate::telling::Telling;
 use crate::verdicts::Verdicts;
 use crate::visiting::{Visitor, visit_files};
-use benc::{DeviceFault, Sink, WriteFault};
+use benc::{DeviceFault, WriteFault};
 use folders::{FileVerdict, Report, Shelf, visit};
+use lines::LineSink;
 use opening::{File, Torrent};
 use std::alloc::{AllocError, Global};
 use thiserror::Error;
@@ -45,19 +47,19 @@ impl<S: Shelf> Visitor<S> for WholeFiles {
     }
 }
 
-/// Checks each file of a torrent, and writes what is wanted of it before the next one is opened.
+/// Checks each file of a torrent, and says what is wanted of it before the next one is opened.
 /// Memory is taken before the first path is opened, for the report, and for the bits of pieces if
 /// they are told of. What breaks off ends the check. Condition: what is told is of whole files.
-pub(crate) fn visit_whole<S: Shelf, W: Sink>(
+pub(crate) fn visit_whole<S: Shelf, L: LineSink>(
     alloc: Global,
     torrent: &Torrent<'_>,
     shelf: &mut S,
     telling: Telling,
-    out: &mut W,
+    out: &mut L,
 ) -> Result<Report, CheckFault>
     requires whole { TellsWhole telling }
-    ensures checks { EndsFiles S.Shelf S.File.seen torrent.now telling
-        (shelf_and_sink shelf.old (W.seen out.old)) (shelf_and_sink shelf.new (W.seen out.new))
+    ensures checks { EndsFiles S.Shelf S.File.seen (words_as L.spelled) torrent.now telling
+        (shelf_and_sink shelf.old (L.seen out.old)) (shelf_and_sink shelf.new (L.seen out.new))
         result }
     ensures stays { S.contents shelf.new ≡ S.contents shelf.old }
 {

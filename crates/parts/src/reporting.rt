@@ -2,21 +2,23 @@
 ghost use Rattle.std.specs.Prelude.{◌≡◌, IfErr, IfOk};
 ghost use Rattle.benc.specs.Device.{SentAndFlushed};
 ghost use Rattle.chains.specs.Chain.{Chain};
-ghost use Rattle.folders.specs.Printed.{report_text};
+ghost use Rattle.folders.specs.Printed.{report_as, report_text};
 ghost use Rattle.folders.specs.Shelf.{more};
-ghost use Rattle.folders.specs.Stopping.{BreaksOff};
+ghost use Rattle.folders.specs.Said.{worded};
+ghost use Rattle.folders.specs.Stopping.{BreaksOff, BreaksOffAs};
 ghost use Rattle.folders.specs.Verdicts.{HasVerdicts, IsTrueOfFolder, unreadable_count};
 ghost use Rattle.folders.specs.Visits.{Visits};
-ghost use Rattle.parts.specs.Checking.{ChecksAndPrints, shelf_and_sink};
+ghost use Rattle.parts.specs.Checking.{ChecksAndPrints, ChecksAndSays, shelf_and_sink};
 ghost use Rattle.parts.specs.Telling.{TellsWhole};
+ghost use Rattle.parts.specs.Words.{words_as};
 ghost use Rattle.parts.specs.declared.telling.Telling.TheVariants as telling;
 
 use crate::all_files::{CheckFault, visit_whole};
 use crate::telling::Telling;
 use benc::Sink;
-use folders::{Lines, Report, Shelf, write_end};
+use folders::{Lines, Report, Shelf, say_end};
+use lines::{LineSink, finish_after};
 use opening::Torrent;
-use printing::flush_after;
 use std::alloc::Global;
 
 /// Checks that the shelf holds the torrent's files, as `check` does, and writes the lines that are
@@ -58,7 +60,45 @@ pub fn check_onto<S: Shelf, W: Sink>(
         → W.seen out.new ≡ W.seen out.old) }
     ensures stays { S.contents shelf.new ≡ S.contents shelf.old }
 {
-    print_files(alloc, torrent, shelf, Telling::Line(lines), lines, out)
+    say_check(alloc, torrent, shelf, lines, out)
+}
+
+/// The same, but the lines go to anything that takes lines, spelled as it spells them: as texts, or
+/// as JSON objects.
+///
+/// # Errors
+///
+/// As for `check_onto`.
+pub fn say_check<S: Shelf, L: LineSink>(
+    alloc: Global,
+    torrent: &Torrent<'_>,
+    shelf: &mut S,
+    lines: Lines,
+    out: &mut L,
+) -> Result<Report, CheckFault>
+    ensures verdicts { IfOk result (λ r. HasVerdicts torrent.now r.files.items r.v1) }
+    ensures are_true { IfOk result (λ r.
+        IsTrueOfFolder torrent.now (S.contents shelf.old).under r.files.items r.v1) }
+    ensures once { IfOk result (λ r. Chain (Visits S.Shelf S.File.seen torrent.now) shelf.old
+        torrent.now.files r.files.items shelf.new) }
+    ensures unreadable { IfOk result (λ r.
+        S.faults shelf.new ≡ more (S.faults shelf.old) (unreadable_count r.files.items)) }
+    ensures readable { IfOk result (λ r.
+        S.faults shelf.new ≡ S.faults shelf.old → unreadable_count r.files.items ≡ 0) }
+    ensures report { IfOk result (λ r. SentAndFlushed (L.seen out.old) (L.seen out.new)
+        (report_as (worded L.spelled) lines torrent.now.files r.files.items r.v1)) }
+    ensures cut { IfErr result (λ e. e ≡ CheckFault.Write → BreaksOffAs S.Shelf S.File.seen
+        (worded L.spelled) torrent.now shelf.old lines (L.seen out.old) (L.seen out.new)
+        shelf.new) }
+    ensures in_turn { ChecksAndSays S.Shelf S.File.seen (words_as L.spelled) torrent.now
+        (telling.Line lines) lines (shelf_and_sink shelf.old (L.seen out.old))
+        (shelf_and_sink shelf.new (L.seen out.new)) result }
+    ensures no_memory { IfErr result (λ e. e ≡ CheckFault.NoMemory → shelf.new ≡ shelf.old) }
+    ensures silent { IfErr result (λ e. e ≡ CheckFault.NoMemory
+        → L.seen out.new ≡ L.seen out.old) }
+    ensures stays { S.contents shelf.new ≡ S.contents shelf.old }
+{
+    say_files(alloc, torrent, shelf, Telling::Line(lines), lines, out)
 }
 
 /// Checks that the shelf holds the torrent's files, as `check` does, and writes the lines that are
@@ -89,7 +129,27 @@ pub fn check_with_bad_pieces<S: Shelf, W: Sink>(
         (shelf_and_sink shelf.new (W.seen out.new)) result }
     ensures stays { S.contents shelf.new ≡ S.contents shelf.old }
 {
-    print_files(
+    say_check_with_bad_pieces(alloc, torrent, shelf, lines, out)
+}
+
+/// The same, but the lines go to anything that takes lines, spelled as it spells them.
+///
+/// # Errors
+///
+/// As for `check_with_bad_pieces`.
+pub fn say_check_with_bad_pieces<S: Shelf, L: LineSink>(
+    alloc: Global,
+    torrent: &Torrent<'_>,
+    shelf: &mut S,
+    lines: Lines,
+    out: &mut L,
+) -> Result<Report, CheckFault>
+    ensures checks { ChecksAndSays S.Shelf S.File.seen (words_as L.spelled) torrent.now
+        (telling.LineAndRuns lines) lines (shelf_and_sink shelf.old (L.seen out.old))
+        (shelf_and_sink shelf.new (L.seen out.new)) result }
+    ensures stays { S.contents shelf.new ≡ S.contents shelf.old }
+{
+    say_files(
         alloc,
         torrent,
         shelf,
@@ -99,24 +159,24 @@ pub fn check_with_bad_pieces<S: Shelf, W: Sink>(
     )
 }
 
-// Checks all files, and writes what is wanted of each, and then what follows; and flushes.
+// Checks all files, and says what is wanted of each, and then what follows; and flushes.
 // Condition: what is wanted is of whole files.
-fn print_files<S: Shelf, W: Sink>(
+fn say_files<S: Shelf, L: LineSink>(
     alloc: Global,
     torrent: &Torrent<'_>,
     shelf: &mut S,
     telling: Telling,
     lines: Lines,
-    out: &mut W,
+    out: &mut L,
 ) -> Result<Report, CheckFault>
     requires whole { TellsWhole telling }
-    ensures checks { ChecksAndPrints S.Shelf S.File.seen torrent.now telling lines
-        (shelf_and_sink shelf.old (W.seen out.old)) (shelf_and_sink shelf.new (W.seen out.new))
-        result }
+    ensures checks { ChecksAndSays S.Shelf S.File.seen (words_as L.spelled) torrent.now telling
+        lines (shelf_and_sink shelf.old (L.seen out.old))
+        (shelf_and_sink shelf.new (L.seen out.new)) result }
     ensures stays { S.contents shelf.new ≡ S.contents shelf.old }
 {
     let report = visit_whole(alloc, torrent, shelf, telling, out)?;
-    let written = write_end(&report, lines, out);
-    flush_after(out, written)?;
+    let said = say_end(&report, lines, out);
+    finish_after(out, said)?;
     Ok(report)
 }

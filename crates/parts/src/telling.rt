@@ -1,20 +1,22 @@
 //! What is written of each file of a check as soon as it is done.
-ghost use Rattle.std.specs.Prelude.{◌≡◌, ◌+◌, ◌-◌, ◌*◌, ◌<◌, ◌≤◌, length, IfOk, OnErr};
+ghost use Rattle.std.specs.Prelude.{◌≡◌, ◌*◌, ◌≤◌, length, IfOk, OnErr};
 ghost use Rattle.std.specs.Vec.{vec_capacity};
 ghost use Rattle.opening.specs.Seen.{file_entry};
 ghost use Rattle.folders.specs.Verdicts.{IsFileOf};
 ghost use Rattle.parts.specs.Parts.{piece_count as pieces_in};
-ghost use Rattle.parts.specs.Runs.{WritesRuns, run_text};
+ghost use Rattle.parts.specs.Runs.{WritesRuns};
 ghost use Rattle.parts.specs.Telling.{IsMostPieces, NeedsBits, TellsFile, TellsNothing, has_runs};
+ghost use Rattle.parts.specs.Words.{words_as};
 ghost use Rattle.parts.specs.declared.telling.Telling.TheVariants as telling;
 
 use crate::places::{Places, piece_count};
+use crate::run::say_run;
 use crate::span::span_of;
-use benc::{DeviceFault, Sink, write_all};
-use folders::{FileVerdict, Lines, write_verdict, write_wanted};
+use benc::DeviceFault;
+use folders::{FileVerdict, Lines, say_verdict, say_wanted};
 use hashtree::clear_run;
+use lines::LineSink;
 use opening::{File, Torrent};
-use printing::Line;
 use std::alloc::{AllocError, Global};
 
 /// What is written of each file as soon as it is done.
@@ -46,61 +48,61 @@ impl Telling {
         }
     }
 
-    /// Writes what is wanted of a file with this verdict, of whose pieces these bits tell: of all,
+    /// Says what is wanted of a file with this verdict, of whose pieces these bits tell: of all,
     /// or of those among the places that are told of. Nothing is flushed. Conditions: the torrent
     /// has the file, and there is a bit for each of its pieces if they are told of.
-    pub(crate) fn tell<W: Sink>(
+    pub(crate) fn tell<L: LineSink>(
         self,
         torrent: &Torrent<'_>,
         file: &File<'_>,
         verdict: FileVerdict,
         bits: &[u8],
-        out: &mut W,
+        out: &mut L,
     ) -> Result<(), DeviceFault>
         requires file { IsFileOf torrent.now (file_entry file.now) }
         requires room { NeedsBits self → pieces_in torrent.now (file_entry file.now)
             ≤ 8 * length bits.now }
-        ensures tells { TellsFile torrent.now self (file_entry file.now) verdict bits.now
-            (W.seen out.old) (W.seen out.new) result }
+        ensures tells { TellsFile (words_as L.spelled) torrent.now self (file_entry file.now)
+            verdict bits.now (L.seen out.old) (L.seen out.new) result }
         ensures some { OnErr result (TellsNothing self → ⊥) }
     {
         match self {
             Telling::Nothing => Ok(()),
-            Telling::Line(lines) => write_wanted(lines, verdict, file, out),
+            Telling::Line(lines) => say_wanted(lines, verdict, file, out),
             Telling::LineAndRuns(lines) => {
-                write_wanted(lines, verdict, file, out)?;
+                say_wanted(lines, verdict, file, out)?;
                 if may_have_runs(verdict) {
                     let count = piece_count(torrent, file.length);
-                    write_runs(torrent, file, 0, count, bits, out)?;
+                    say_runs(torrent, file, 0, count, bits, out)?;
                 }
                 Ok(())
             }
-            Telling::RunsIn(places) => write_marked(torrent, file, verdict, places, bits, out),
+            Telling::RunsIn(places) => say_marked(torrent, file, verdict, places, bits, out),
         }
     }
 }
 
-// Writes the line of a file that has one of these places, and the lines of its bad pieces among
+// Says the line of a file that has one of these places, and the lines of its bad pieces among
 // them, of which these bits tell.
-fn write_marked<W: Sink>(
+fn say_marked<L: LineSink>(
     torrent: &Torrent<'_>,
     file: &File<'_>,
     verdict: FileVerdict,
     places: Places,
     bits: &[u8],
-    out: &mut W,
+    out: &mut L,
 ) -> Result<(), DeviceFault>
     requires file { IsFileOf torrent.now (file_entry file.now) }
     requires room { pieces_in torrent.now (file_entry file.now) ≤ 8 * length bits.now }
-    ensures { TellsFile torrent.now (telling.RunsIn places) (file_entry file.now) verdict bits.now
-        (W.seen out.old) (W.seen out.new) result }
+    ensures { TellsFile (words_as L.spelled) torrent.now (telling.RunsIn places)
+        (file_entry file.now) verdict bits.now (L.seen out.old) (L.seen out.new) result }
 {
     let Some(span) = span_of(torrent, file, places) else {
         return Ok(());
     };
-    write_verdict(verdict, file, out)?;
+    say_verdict(verdict, file, out)?;
     if may_have_runs(verdict) {
-        write_runs(torrent, file, span.from, span.to, bits, out)?;
+        say_runs(torrent, file, span.from, span.to, bits, out)?;
     }
     Ok(())
 }
@@ -125,54 +127,28 @@ fn may_have_runs(verdict: FileVerdict) -> bool
     matches!(verdict, FileVerdict::WrongLength | FileVerdict::Bad(_))
 }
 
-// Writes the line of each run of bits that are not set, in ascending order. They are those of the
+// Says the line of each run of bits that are not set, in ascending order. They are those of the
 // file's pieces from one up to another.
-fn write_runs<W: Sink>(
+fn say_runs<L: LineSink>(
     torrent: &Torrent<'_>,
     file: &File<'_>,
     from: u64,
     to: u64,
     bits: &[u8],
-    out: &mut W,
+    out: &mut L,
 ) -> Result<(), DeviceFault>
     requires file { IsFileOf torrent.now (file_entry file.now) }
     requires order { from ≤ to }
     requires inside { to ≤ pieces_in torrent.now (file_entry file.now) }
-    ensures { WritesRuns torrent.now (file_entry file.now) from to bits.now (W.seen out.old)
-        (W.seen out.new) result }
+    ensures { WritesRuns (words_as L.spelled).run torrent.now (file_entry file.now) from to bits.now
+        (L.seen out.old) (L.seen out.new) result }
 {
     torrent.sound();
     let count = (to - from) as usize;
     let mut at: usize = 0;
     'runs: while let Some((first, end)) = clear_run(bits, at, count) {
-        let line = run_line(torrent, file, from + first as u64, from + end as u64);
-        write_all(out, line.as_slice())?;
+        say_run(torrent, file, from + first as u64, from + end as u64, out)?;
         at = end;
     }
     Ok(())
-}
-
-/// The line `bad pieces FIRST LAST bytes FROM-TO` of the run from one piece of a file up to
-/// another. FIRST and LAST are the torrent's numbers of pieces, FROM and TO offsets in the file,
-/// both included. Conditions: the torrent has the file, and the pieces are some of its own.
-pub fn run_line(torrent: &Torrent<'_>, file: &File<'_>, from: u64, to: u64) -> Line
-    requires file { IsFileOf torrent.now (file_entry file.now) }
-    requires some { from < to }
-    requires inside { to ≤ pieces_in torrent.now (file_entry file.now) }
-    ensures { result ≡ run_text torrent.now (file_entry file.now)
-        (record { first = from; last = to - 1 }) }
-{
-    torrent.sound();
-    let piece_length = torrent.piece_length();
-    let mut line = Line::new();
-    line.put(b"bad pieces ");
-    line.put_number(file.first_piece + from);
-    line.put(b" ");
-    line.put_number(file.first_piece + (to - 1));
-    line.put(b" bytes ");
-    line.put_number(piece_length * from);
-    line.put(b"-");
-    line.put_number((piece_length * to).min(file.length) - 1);
-    line.put(b"\n");
-    line
 }

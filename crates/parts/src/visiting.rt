@@ -9,14 +9,16 @@ ghost use Rattle.parts.specs.Checking.{shelf_and_sink};
 ghost use Rattle.parts.specs.Parts.{piece_count};
 ghost use Rattle.parts.specs.Rooms.{IsRoomFor};
 ghost use Rattle.parts.specs.Visiting.{EndsVisits};
+ghost use Rattle.parts.specs.Words.{words_as};
 
 use crate::buffer::buffer_of;
 use crate::joining::worse_v1;
 use crate::room::Room;
 use crate::telling::Telling;
 use crate::verdicts::Verdicts;
-use benc::{DeviceFault, Sink};
+use benc::DeviceFault;
 use folders::{Report, V1Verdict};
+use lines::LineSink;
 use opening::{File, Torrent};
 
 /// Visits the files of a torrent on a shelf of this type.
@@ -54,23 +56,23 @@ pub(crate) trait Visitor<S> {
             ≡ (visiting self.now torrent.now).contents shelf.old };
 }
 
-/// Visits each file of a torrent, and writes what is wanted of it before the next one is visited.
+/// Visits each file of a torrent, and says what is wanted of it before the next one is visited.
 /// No memory is taken but for the buffer: if that is refused, it is a smaller one. What breaks off
 /// ends the visits. Condition: there is room for what is told.
 // It has a block in its frame, so it is not inlined.
 #[inline(never)]
-pub(crate) fn visit_files<S, V: Visitor<S>, W: Sink>(
+pub(crate) fn visit_files<S, V: Visitor<S>, L: LineSink>(
     room: Room,
     torrent: &Torrent<'_>,
     visitor: &V,
     shelf: &mut S,
     telling: Telling,
-    out: &mut W,
+    out: &mut L,
 ) -> Result<Report, DeviceFault>
     requires room { IsRoomFor torrent.now telling room }
-    ensures ends { EndsVisits (V.visiting visitor.now torrent.now) torrent.now telling
-        (shelf_and_sink shelf.old (W.seen out.old)) (shelf_and_sink shelf.new (W.seen out.new))
-        result }
+    ensures ends { EndsVisits (V.visiting visitor.now torrent.now) (words_as L.spelled)
+        torrent.now telling (shelf_and_sink shelf.old (L.seen out.old))
+        (shelf_and_sink shelf.new (L.seen out.new)) result }
     ensures stays { (V.visiting visitor.now torrent.now).contents shelf.new
         ≡ (V.visiting visitor.now torrent.now).contents shelf.old }
 {

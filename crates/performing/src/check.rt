@@ -1,6 +1,6 @@
 //! `check`: whether a folder holds the files of a torrent.
 use crate::extra::print_extra;
-use crate::printed::{buffered_output, line_output, memory_first, refuse};
+use crate::printed::{buffered_output, line_output, refuse};
 use crate::sizes::all_bytes;
 use crate::summary::{print_hint, print_summary};
 use crate::tally::Tally;
@@ -9,7 +9,8 @@ use actions::Check;
 use benc::Sink;
 use commands::checks;
 use folders::Lines;
-use json_lines::{LineWriter, check_forms};
+use json_lines::refusal_forms;
+use lines::{LineSink, Objects};
 use opening::Torrent;
 use printing::Fault;
 use real_files::{Cleared, Folder, Progress, System};
@@ -39,7 +40,7 @@ fn judge_torrent<'a, W: Sink + Drop>(
             let cleared = Cleared::new(out, &progress);
             print_check(system, &torrent, asked, &progress, cleared)
         }
-        Err(refusal) => refuse(system, &refusal, asked.json, check_forms(), out),
+        Err(refusal) => refuse(system, &refusal, asked.json, refusal_forms(), out),
     }
 }
 
@@ -50,22 +51,20 @@ fn print_check<'a, W: Sink + Drop>(
     progress: &Progress,
     out: W,
 ) -> Result<u8, Fault<'a>> {
-    if !asked.json {
-        let mut lines = Tally::new(out);
+    if asked.json {
+        let mut lines = Tally::new(Objects::new(out));
         return explain_folder(system, torrent, asked, progress, &mut lines);
     }
-    let mut lines = Tally::new(LineWriter::new(system.alloc(), check_forms(), out));
-    let status = explain_folder(system, torrent, asked, progress, &mut lines);
-    memory_first(status, lines.sink())
+    explain_folder(system, torrent, asked, progress, &mut Tally::new(out))
 }
 
 // Prints the report, and on standard error what else is told of it.
-fn explain_folder<'a, W: Sink>(
+fn explain_folder<'a, L: LineSink>(
     system: &System,
     torrent: &Torrent<'_>,
     asked: &Check<'a>,
     progress: &Progress,
-    lines: &mut Tally<W>,
+    lines: &mut Tally<L>,
 ) -> Result<u8, Fault<'a>> {
     let start = if asked.summary {
         Instant::now(system.rt()).ok()
@@ -80,12 +79,12 @@ fn explain_folder<'a, W: Sink>(
     Ok(status)
 }
 
-fn judge_folder<'a, W: Sink>(
+fn judge_folder<'a, L: LineSink>(
     system: &System,
     torrent: &Torrent<'_>,
     asked: &Check<'a>,
     progress: &Progress,
-    out: &mut W,
+    out: &mut L,
 ) -> Result<u8, Fault<'a>> {
     if asked.extra {
         print_extra(system, torrent, asked.dir, out)?;

@@ -1,18 +1,18 @@
 //! `check --extra`: the files that a torrent does not name.
-use benc::{DeviceFault, Sink, write_all};
 use folders::ShelfFault;
+use lines::{Checked, Line, LineSink, say};
 use opening::Torrent;
-use printing::{Fault, OUTPUT, write_escaped};
+use printing::{Fault, OUTPUT};
 use real_files::{System, others_below};
 
 /// Prints a line for each file below a folder that the torrent does not name, in the order of
 /// paths. The fault is that the folder cannot be read, if one of its folders cannot be listed, or
 /// that a name is not UTF-8.
-pub(crate) fn print_extra<'a, W: Sink>(
+pub(crate) fn print_extra<'a, L: LineSink>(
     system: &System,
     torrent: &Torrent<'_>,
     dir: &'a str,
-    out: &mut W,
+    out: &mut L,
 ) -> Result<(), Fault<'a>> {
     let others = match others_below(system, dir, torrent) {
         Ok(others) => others,
@@ -21,19 +21,10 @@ pub(crate) fn print_extra<'a, W: Sink>(
         Err(_) => return Err(Fault::Read(dir)),
     };
     'paths: for path in &others {
-        if write_extra(path.as_slice(), out).is_err() {
+        let line = Line::Checked(Checked::Extra(path.as_slice()));
+        if say(&line, out).is_err() {
             return Err(Fault::Write(OUTPUT));
         }
     }
     Ok(())
-}
-
-fn write_extra<W: Sink>(path: &[String], out: &mut W) -> Result<(), DeviceFault> {
-    let mut before: &[u8] = b"extra ";
-    'parts: for part in path {
-        write_all(out, before)?;
-        write_escaped(out, part.as_bytes())?;
-        before = b"/";
-    }
-    write_all(out, b"\n")
 }

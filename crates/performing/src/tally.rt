@@ -1,10 +1,6 @@
 //! The verdicts of a check, counted as their lines go by.
-use arrayvec::ArrayVec;
-use benc::{DeviceFault, Sink};
-use std::str;
-
-// How many bytes of a line tell which verdict it has.
-const TOLD: usize = 5;
+use benc::DeviceFault;
+use lines::{LineSink, Part};
 
 /// How many lines there were of each verdict on a file.
 #[derive(Clone, Copy, Drop)]
@@ -35,89 +31,57 @@ impl Counts {
             .saturating_add(self.bad)
     }
 
-    // Counts a line that starts so, if it is a verdict on a file.
-    fn add(&mut self, start: &[u8]) {
-        let counted = match str::from_utf8(start) {
-            Ok("good ") => &mut self.good,
-            Ok("missi") => &mut self.missing,
-            Ok("unrea") => &mut self.unreadable,
-            Ok("wrong") => &mut self.wrong_length,
-            Ok("bad p") => return,
-            Ok(text) if text.starts_with("bad ") => &mut self.bad,
+    // Counts a line of this kind, if it is a verdict on a file.
+    fn add(&mut self, kind: &str) {
+        let counted = match kind {
+            "good" => &mut self.good,
+            "missing" => &mut self.missing,
+            "unreadable" => &mut self.unreadable,
+            "wrong length" => &mut self.wrong_length,
+            "bad" => &mut self.bad,
             _ => return,
         };
         *counted = counted.saturating_add(1);
     }
 }
 
-// The line that is printed, as far as it tells its verdict, and the counts of those before it.
+/// What counts the verdicts that are said to another one that takes lines.
 #[derive(Drop)]
-struct Lines {
-    start: ArrayVec<u8, TOLD>,
+pub(crate) struct Tally<L: LineSink> {
+    lines: L,
     counts: Counts,
 }
 
-impl Lines {
-    fn note(&mut self, text: &[u8]) {
-        'bytes: for &byte in text {
-            if byte == b'\n' {
-                self.counts.add(self.start.as_slice());
-                self.start.clear();
-            } else {
-                let _ = self.start.try_push(byte);
-            }
-        }
-    }
-}
-
-/// A sink that counts the verdicts that are printed to another one.
-#[derive(Drop)]
-pub(crate) struct Tally<W: Sink> {
-    sink: W,
-    lines: Lines,
-}
-
-impl<W: Sink> Tally<W> {
-    /// No line has been printed to this sink.
-    pub(crate) fn new(sink: W) -> Tally<W> {
+impl<L: LineSink> Tally<L> {
+    /// No line has been said to this one.
+    pub(crate) fn new(lines: L) -> Tally<L> {
         Tally {
-            sink,
-            lines: Lines {
-                start: ArrayVec::new(),
-                counts: Counts::none(),
-            },
+            lines,
+            counts: Counts::none(),
         }
-    }
-
-    /// The sink that takes the lines.
-    pub(crate) fn sink(&self) -> &W {
-        &self.sink
     }
 
     /// How many lines there were of each verdict.
     pub(crate) fn counts(&self) -> Counts {
-        self.lines.counts
+        self.counts
     }
 }
 
-impl<W: Sink> Sink for Tally<W> {
-    ghost seen = { λ s. W.seen s.sink };
+impl<L: LineSink> LineSink for Tally<L> {
+    ghost seen = { λ s. L.seen s.lines };
 
-    fn write(&mut self, buf: &[u8]) -> Result<usize, DeviceFault> {
-        match self.sink.write(buf) {
-            Ok(count) => {
-                self.lines.note(&buf[..count]);
-                Ok(count)
-            }
-            Err(fault) => Err(fault),
-        }
+    ghost spelled = { L.spelled };
+
+    fn row(&mut self, kind: &'static str, parts: &[Part<'_>]) -> Result<(), DeviceFault> {
+        self.counts.add(kind);
+        self.lines.row(kind, parts)
     }
 
-    fn flush(&mut self) -> Result<(), DeviceFault> {
-        self.sink.flush()
+    fn finish(&mut self) -> Result<(), DeviceFault> {
+        self.lines.finish()
     }
 
-    fn failures(&self) -> u64 {
-        self.sink.failures()
+    fn faults(&self) -> u64 {
+        self.lines.faults()
     }
 }

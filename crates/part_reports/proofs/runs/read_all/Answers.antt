@@ -30,7 +30,7 @@ runs-preserved c =
       next ∙ sym (next_push c.args.from runs r),
       c.runs.invariant.3 ∙ ap (λ x. runs_text t f runs ++ x) read.2
           ∙ sym (append_assoc (runs_text t f runs) (run_text t f r) behind)
-          ∙ ap (λ x. x ++ behind) (sym (text_push t f runs r)),
+          ∙ ap (λ x. x ++ behind) (sym (text_push run_text t f runs r)),
       marks_both (IsInRuns f runs) (IsBetween (f.first_piece + first) (f.first_piece + end)) (IsInRuns f more) c.args.bad.now c.runs.bad c.mark.new.self
           c.runs.invariant.4 c.mark.ensures
           (λ q is. elim (in_more f runs r q is) [

@@ -1,7 +1,7 @@
 use Rattle.std.proofs.Common.{refl}
 use Rattle.benc.proofs.Out.{Wrote-then}
 use Rattle.folders.specs.Printed.{end_text}
-use Rattle.folders.specs.declared.lines.Lines.TheVariants.{All}
+use Rattle.folders.specs.declared.report_lines.Lines.TheVariants.{All}
 use Rattle.part_reports.specs.WholeLines.{whole_lines, whole_text}
 use Rattle.part_reports.proofs.WholePrints.{printed_whole}
 use Rattle.part_reports.proofs.whole_lines.print_marked_report.Goals as goal

@@ -40,7 +40,7 @@ runs-preserved g c =
           (run_of_file bad c.runs.at (start + c.piece_count.result) c.in-Some.first c.in-Some.end (start + (c.runs.at - start)) (start + piece_count t f)
           (start + (c.in-Some.first - start)) (start + (c.in-Some.end - start)) (omega (arith, so_far.1)) (omega (arith, c.piece_count.ensures))
           (omega (arith, so_far.1, run.low)) (omega (arith, so_far.1, run.low, run.some)) run) so_far.2,
-      subst (Sent (seen c.args.out.now) (seen c.write_all.new.out)) (sym (text_push t f so_far.0 r))
+      subst (Sent (seen c.args.out.now) (seen c.write_all.new.out)) (sym (text_push run_text t f so_far.0 r))
           (Sent-append (seen c.args.out.now) (seen c.runs.out) (seen c.write_all.new.out) (runs_text t f so_far.0) (run_text t f r) so_far.3 sent),
     )
 
@@ -64,7 +64,7 @@ returns-in_err-write_all g c =
     subst (PrintsRuns t bad f (seen c.args.out.now) (seen c.write_all.new.out)) (sym p.1) (
       so_far.0 ++ r ∷ [],
       (c.in-Some.end - start, next.inside, next.done),
-      subst (Broke (seen c.args.out.now) (seen c.write_all.new.out)) (sym (text_push t f so_far.0 r))
+      subst (Broke (seen c.args.out.now) (seen c.write_all.new.out)) (sym (text_push run_text t f so_far.0 r))
           (Broke-append (seen c.args.out.now) (seen c.runs.out) (seen c.write_all.new.out) (runs_text t f so_far.0) (run_text t f r) so_far.3 broke),
     )
 

@@ -6,8 +6,11 @@ use Rattle.parts.specs.MarkedChecks.{ChecksMarked, ChecksMarkedPart}
 use Rattle.parts.specs.PartLines.{end_lines}
 use Rattle.parts.specs.MarkedLines.{marked_head_text}
 use Rattle.parts.specs.Shares.{share}
+use Rattle.lines.specs.Texts.{text_of}
 use Rattle.parts.specs.Visiting.{EndsVisits, part_visiting}
+use Rattle.parts.specs.Words.{words_as}
 use Rattle.parts.specs.declared.telling.Telling.TheVariants as telling
+use Rattle.parts.proofs.AsTexts.{ends_in_text}
 use Rattle.parts.proofs.MarkedVisits.{marked_prints, marks_all, stops_at_marks}
 use Rattle.parts.proofs.marked.check_part_with_bad_pieces.Goals as goal
 
@@ -27,8 +30,10 @@ returns-in_err-report-clause-checks g c =
     let p = err_from_is_err_and c.from_residual-in_err-report.result c.from_residual-in_err-report.ensures.1 in
     let head : Sent (seen c.args.out.now) begun (marked_head_text t part parts) =
     subst (Sent (seen c.args.out.now) begun) (c.as_slice.ensures ∙ c.head.ensures) c.in_ok-write_all.ensures in
-    let ends = subst (λ r. EndsVisits (part_visiting S opens_at files r t) t (telling.RunsIn r) mid new (Err c.in_err-report.field-0.0))
-    c.of_part-places.ensures c.in_err-report.ensures.ends in
+    let r = share t part parts in
+    let ends = ends_in_text (part_visiting S opens_at files r t) t (telling.RunsIn r) mid new (Err c.in_err-report.field-0.0)
+    (subst (λ r. EndsVisits (part_visiting S opens_at files r t) (words_as text_of) t (telling.RunsIn r) mid new (Err c.in_err-report.field-0.0))
+    c.of_part-places.ensures c.in_err-report.ensures.ends) in
     subst (ChecksMarked S opens_at files t part parts old new) (sym (p.1 ∙ ap Err p.2))
     (inr (inl (record { begun = begun; head = head; stops = stops_at_marks S opens_at files t (share t part parts) mid new ends })))
 
@@ -49,8 +54,11 @@ returns-in_err-flush_after-clause-checks g c =
     let p = err_from_is_err_and c.from_residual-in_err-flush_after.result c.from_residual-in_err-flush_after.ensures.1 in
     let head : Sent (seen c.args.out.now) begun (marked_head_text t part parts) =
     subst (Sent (seen c.args.out.now) begun) (c.as_slice.ensures ∙ c.head.ensures) c.in_ok-write_all.ensures in
-    let ends = subst (λ p. EndsVisits (part_visiting S opens_at files p t) t (telling.RunsIn p) (shelf_and_sink c.args.shelf.now begun)
-    (shelf_and_sink c.visit_files.new.shelf mid) (Ok r)) c.of_part-places.ensures c.in_ok-report.ensures.ends in
+    let places = share t part parts in
+    let ends = ends_in_text (part_visiting S opens_at files places t) t (telling.RunsIn places) (shelf_and_sink c.args.shelf.now begun)
+    (shelf_and_sink c.visit_files.new.shelf mid) (Ok r)
+    (subst (λ p. EndsVisits (part_visiting S opens_at files p t) (words_as text_of) t (telling.RunsIn p) (shelf_and_sink c.args.shelf.now begun)
+    (shelf_and_sink c.visit_files.new.shelf mid) (Ok r)) c.of_part-places.ensures c.in_ok-report.ensures.ends) in
     subst (ChecksMarked S opens_at files t part parts old new) (sym (p.1 ∙ ap Err p.2))
     (inr (inr (record {
       begun = begun;
@@ -74,8 +82,11 @@ returns-clause-checks g c =
     let r = c.in_ok-report.report in
     let begun = seen c.write_all.new.out in
     let mid = seen c.visit_files.new.out in
-    let ends = subst (λ p. EndsVisits (part_visiting S opens_at files p t) t (telling.RunsIn p) (shelf_and_sink c.args.shelf.now begun)
-    (shelf_and_sink c.visit_files.new.shelf mid) (Ok r)) c.of_part-places.ensures c.in_ok-report.ensures.ends in
+    let places = share t part parts in
+    let ends = ends_in_text (part_visiting S opens_at files places t) t (telling.RunsIn places) (shelf_and_sink c.args.shelf.now begun)
+    (shelf_and_sink c.visit_files.new.shelf mid) (Ok r)
+    (subst (λ p. EndsVisits (part_visiting S opens_at files p t) (words_as text_of) t (telling.RunsIn p) (shelf_and_sink c.args.shelf.now begun)
+    (shelf_and_sink c.visit_files.new.shelf mid) (Ok r)) c.of_part-places.ensures c.in_ok-report.ensures.ends) in
     record {
       begun = begun;
       head = subst (Sent (seen c.args.out.now) begun) (c.as_slice.ensures ∙ c.head.ensures) c.in_ok-write_all.ensures;

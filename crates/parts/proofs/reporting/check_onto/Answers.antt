@@ -1,95 +1,29 @@
-use Rattle.parts.specs.Checking.{shelf_and_sink}
+use Rattle.std.proofs.Common.{◌≡◌, IfErr, IfOk, subst}
+use Rattle.benc.specs.Device.{SentAndFlushed}
+use Rattle.folders.specs.Printed.{report_as}
+use Rattle.folders.specs.Stopping.{BreaksOffAs}
+use Rattle.folders.proofs.AsTexts.{worded_is}
+use Rattle.parts.specs.Checking.{ChecksAndSays, shelf_and_sink}
+use Rattle.parts.specs.declared.all_files.CheckFault.TheVariants as stopped
 use Rattle.parts.specs.declared.telling.Telling.TheVariants as telling
-use Rattle.parts.proofs.Reported.{if_refused, if_stopped, if_whole, onto_cut, onto_report, whole_once}
+use Rattle.parts.proofs.AsTexts.{words_are}
 use Rattle.parts.proofs.reporting.check_onto.Goals as goal
-
-pub returns-clause-verdicts : goal.returns-clause-verdicts
-returns-clause-verdicts g c =
-    let t = c.args.torrent.now in
-    let S = g.S.Shelf in
-    let old = shelf_and_sink c.args.shelf.now (g.W.Sink.seen c.args.out.now) in
-    let new = shelf_and_sink c.print_files.new.shelf (g.W.Sink.seen c.print_files.new.out) in
-    if_whole S g.S.File.Source.seen t (telling.Line c.args.lines) c.args.lines old new c.print_files.result
-    _ c.print_files.ensures.checks
-    (λ report whole. whole.all.has)
-
-pub returns-clause-are_true : goal.returns-clause-are_true
-returns-clause-are_true g c =
-    let t = c.args.torrent.now in
-    let S = g.S.Shelf in
-    let old = shelf_and_sink c.args.shelf.now (g.W.Sink.seen c.args.out.now) in
-    let new = shelf_and_sink c.print_files.new.shelf (g.W.Sink.seen c.print_files.new.out) in
-    if_whole S g.S.File.Source.seen t (telling.Line c.args.lines) c.args.lines old new c.print_files.result
-    _ c.print_files.ensures.checks
-    (λ report whole. whole.all.are_true)
-
-pub returns-clause-once : goal.returns-clause-once
-returns-clause-once g c =
-    let t = c.args.torrent.now in
-    let S = g.S.Shelf in
-    let old = shelf_and_sink c.args.shelf.now (g.W.Sink.seen c.args.out.now) in
-    let new = shelf_and_sink c.print_files.new.shelf (g.W.Sink.seen c.print_files.new.out) in
-    if_whole S g.S.File.Source.seen t (telling.Line c.args.lines) c.args.lines old new c.print_files.result
-    _ c.print_files.ensures.checks
-    (λ report whole. whole_once S g.S.File.Source.seen t (telling.Line c.args.lines) report.files.items report.v1 old
-    (shelf_and_sink new.0 whole.mid) whole.all)
-
-pub returns-clause-unreadable : goal.returns-clause-unreadable
-returns-clause-unreadable g c =
-    let t = c.args.torrent.now in
-    let S = g.S.Shelf in
-    let old = shelf_and_sink c.args.shelf.now (g.W.Sink.seen c.args.out.now) in
-    let new = shelf_and_sink c.print_files.new.shelf (g.W.Sink.seen c.print_files.new.out) in
-    if_whole S g.S.File.Source.seen t (telling.Line c.args.lines) c.args.lines old new c.print_files.result
-    _ c.print_files.ensures.checks
-    (λ report whole. whole.all.counts.counted)
-
-pub returns-clause-readable : goal.returns-clause-readable
-returns-clause-readable g c =
-    let t = c.args.torrent.now in
-    let S = g.S.Shelf in
-    let old = shelf_and_sink c.args.shelf.now (g.W.Sink.seen c.args.out.now) in
-    let new = shelf_and_sink c.print_files.new.shelf (g.W.Sink.seen c.print_files.new.out) in
-    if_whole S g.S.File.Source.seen t (telling.Line c.args.lines) c.args.lines old new c.print_files.result
-    _ c.print_files.ensures.checks
-    (λ report whole. whole.all.counts.readable)
 
 pub returns-clause-report : goal.returns-clause-report
 returns-clause-report g c =
-    let t = c.args.torrent.now in
-    let S = g.S.Shelf in
-    let old = shelf_and_sink c.args.shelf.now (g.W.Sink.seen c.args.out.now) in
-    let new = shelf_and_sink c.print_files.new.shelf (g.W.Sink.seen c.print_files.new.out) in
-    if_whole S g.S.File.Source.seen t (telling.Line c.args.lines) c.args.lines old new c.print_files.result
-    _ c.print_files.ensures.checks
-    (λ report whole. onto_report S g.S.File.Source.seen t c.args.lines report.files.items report.v1 old new whole)
+    subst (λ words. IfOk c.say_check.result (λ r. SentAndFlushed (g.W.Sink.seen c.args.out.now) (g.W.Sink.seen c.say_check.new.out)
+    (report_as words c.args.lines c.args.torrent.now.files r.files.items r.v1)))
+    worded_is c.say_check.ensures.report
 
 pub returns-clause-cut : goal.returns-clause-cut
 returns-clause-cut g c =
-    let t = c.args.torrent.now in
-    let S = g.S.Shelf in
-    let old = shelf_and_sink c.args.shelf.now (g.W.Sink.seen c.args.out.now) in
-    let new = shelf_and_sink c.print_files.new.shelf (g.W.Sink.seen c.print_files.new.out) in
-    if_stopped S g.S.File.Source.seen t (telling.Line c.args.lines) c.args.lines old new c.print_files.result
-    _ c.print_files.ensures.checks
-    (λ stops. onto_cut S g.S.File.Source.seen t c.args.lines old new stops)
+    subst (λ words. IfErr c.say_check.result (λ e. e ≡ stopped.Write → BreaksOffAs g.S.Shelf g.S.File.Source.seen words
+    c.args.torrent.now c.args.shelf.now c.args.lines (g.W.Sink.seen c.args.out.now) (g.W.Sink.seen c.say_check.new.out) c.say_check.new.shelf))
+    worded_is c.say_check.ensures.cut
 
-pub returns-clause-no_memory : goal.returns-clause-no_memory
-returns-clause-no_memory g c =
-    let t = c.args.torrent.now in
-    let S = g.S.Shelf in
-    let old = shelf_and_sink c.args.shelf.now (g.W.Sink.seen c.args.out.now) in
-    let new = shelf_and_sink c.print_files.new.shelf (g.W.Sink.seen c.print_files.new.out) in
-    if_refused S g.S.File.Source.seen t (telling.Line c.args.lines) c.args.lines old new c.print_files.result
-    _ c.print_files.ensures.checks
-    (λ same. same.0)
-
-pub returns-clause-silent : goal.returns-clause-silent
-returns-clause-silent g c =
-    let t = c.args.torrent.now in
-    let S = g.S.Shelf in
-    let old = shelf_and_sink c.args.shelf.now (g.W.Sink.seen c.args.out.now) in
-    let new = shelf_and_sink c.print_files.new.shelf (g.W.Sink.seen c.print_files.new.out) in
-    if_refused S g.S.File.Source.seen t (telling.Line c.args.lines) c.args.lines old new c.print_files.result
-    _ c.print_files.ensures.checks
-    (λ same. same.1)
+pub returns-clause-in_turn : goal.returns-clause-in_turn
+returns-clause-in_turn g c =
+    subst (λ words. ChecksAndSays g.S.Shelf g.S.File.Source.seen words c.args.torrent.now (telling.Line c.args.lines) c.args.lines
+    (shelf_and_sink c.args.shelf.now (g.W.Sink.seen c.args.out.now))
+    (shelf_and_sink c.say_check.new.shelf (g.W.Sink.seen c.say_check.new.out)) c.say_check.result)
+    words_are c.say_check.ensures.in_turn
