@@ -142,7 +142,7 @@ def names_of_refusals():
 
 def texts_of_the_definitions():
     """The texts of which the definitions put printed lines together."""
-    for crate in ["printing", "folders", "seeding", "replays", "commands"]:
+    for crate in ["printing", "torrent_lines", "folders", "seeding", "replays", "commands"]:
         for path in glob.glob(f"{TOP}/crates/{crate}/specs/**/*.antt", recursive=True) + glob.glob(f"{TOP}/crates/{crate}/src/*.rt"):
             for text in re.findall(r'codes "((?:[^"\\]|\\.)*)"', text_of(path)):
                 yield from (piece.strip() for piece in text.split("\\n"))

@@ -3,9 +3,9 @@ pub use Rattle.conversions.specs.Converting
 pub use Rattle.conversions.specs.declared.fault.ConvertFault
 pub use Rattle.printing.specs.Cut
 pub use Rattle.printing.specs.Text
-pub use Rattle.printing.specs.Refused
 pub use Rattle.printing.specs.Fault
-pub use Rattle.printing.specs.Show
+pub use Rattle.torrent_lines.specs.Refused
+pub use Rattle.torrent_lines.specs.Show
 pub use Rattle.folders.specs.Root
 pub use Rattle.folders.specs.Shelf
 pub use Rattle.folders.specs.MemShelf

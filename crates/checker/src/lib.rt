@@ -17,6 +17,7 @@ pub use parts::{
     CheckFault, Places, check, check_onto, check_part, check_part_with_bad_pieces,
     check_with_bad_pieces, print_part,
 };
-pub use printing::{Fault, fault_line, refusal_line, show};
+pub use printing::{Fault, fault_line};
 pub use replays::{Outcome, replay, replay_as, replay_pieces};
 pub use seeding::{SeedFault, seed};
+pub use torrent_lines::{refusal_line, show};

@@ -29,7 +29,7 @@ use Rattle.filetree.specs.Tests.{First, NoneHolds, TestRow}
 use Rattle.drafts.specs.Written.{value_of}
 use Rattle.replays.specs.Outcome.{status_of}
 use Rattle.folders.specs.Printed.{Wording, report_as, report_text}
-use Rattle.printing.specs.Refused.{refusal_text}
+use Rattle.torrent_lines.specs.Refused.{refusal_text}
 use Rattle.replays.specs.Replay.{IsReport, ReplaySeen}
 use Rattle.replays.specs.Telling.{plain_as}
 use Rattle.folders.specs.Shelf.{path_bytes}

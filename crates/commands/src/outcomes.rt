@@ -4,8 +4,8 @@ ghost use Rattle.std.specs.String.{string_bytes};
 ghost use Rattle.benc.specs.Device.{BrokeOrUnflushed, SentAndFlushed, WroteAndFlushed};
 ghost use Rattle.chains.specs.Chain.{Chain};
 ghost use Rattle.gathering.specs.Gathering.{Gathers};
-ghost use Rattle.printing.specs.Refused.{refusal_text};
-ghost use Rattle.printing.specs.Show.{show_text};
+ghost use Rattle.torrent_lines.specs.Refused.{refusal_text};
+ghost use Rattle.torrent_lines.specs.Show.{show_text};
 ghost use Rattle.replays.specs.Replay.{IsCutReport, replay_seen};
 ghost use Rattle.replays.specs.Telling.{plain_as};
 ghost use Rattle.folders.specs.Root.{root_line_of};
@@ -33,10 +33,11 @@ use opening::Torrent;
 use part_reports::{JoinFault, Kind, kind_of};
 use parts::{Places, print_part};
 use pieces::PieceBuffer;
-use printing::{Fault, OUTPUT, refusal_line, write_line};
+use printing::{Fault, OUTPUT, write_line};
 use seeding::SeedFault;
 use session::{NodeMap, Paged, Session};
 use std::alloc::Global;
+use torrent_lines::refusal_line;
 
 /// Prints the length and root of the file with this path. The status is 1 if the file is too long.
 /// If memory for its buffer is refused, it uses a smaller one, which is no fault.
@@ -70,7 +71,7 @@ pub fn show<'a, W: Sink>(torrent: &Torrent<'_>, out: &mut W) -> Result<u8, Fault
         (show_text torrent.now) }
     ensures fault { IfErr result NamesOutput }
 {
-    match printing::show(torrent, out) {
+    match torrent_lines::show(torrent, out) {
         Ok(()) => Ok(status(true)),
         Err(_) => Err(Fault::Write(OUTPUT)),
     }

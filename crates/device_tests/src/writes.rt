@@ -12,13 +12,12 @@ use folders::memory::MemShelf;
 use folders::{print_report, root_line};
 use gathering::gather;
 use parts::{Places, check, check_part, print_part};
-use printing::{
-    Fault, fault_line, flush_after, refusal_line, show, write_escaped, write_line, write_path,
-};
+use printing::{Fault, fault_line, flush_after, write_escaped, write_line, write_path};
 use replays::replay;
 use seeding::seed;
 use session::{Flat, Session};
 use std::io;
+use torrent_lines::{refusal_line, show};
 use wire::{Ask, Message, write};
 
 /// A call that writes to a sink.

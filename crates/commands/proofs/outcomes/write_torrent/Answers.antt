@@ -1,7 +1,7 @@
 use Rattle.std.specs.Prelude.{◌≡◌, ◌≢◌, ℕ, List, [], Result, Ok, Err, IfErr, IfOk, OnOk, false}
 use Rattle.std.proofs.Common.{rules, inr}
 use Rattle.benc.specs.Device.{SinkSeen, SentAndFlushed}
-use Rattle.printing.specs.Refused.{refusal_text}
+use Rattle.torrent_lines.specs.Refused.{refusal_text}
 use Rattle.printing.specs.declared.fault.Fault.{Fault}
 use Rattle.drafts.specs.Finishing.{finish_rows}
 use Rattle.drafts.specs.Outline.{Outline}

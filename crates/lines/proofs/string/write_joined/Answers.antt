@@ -9,15 +9,17 @@ use Rattle.lines.proofs.string.write_joined.Goals as goal
 pub returns-in_err-write_inside : goal.returns-in_err-write_inside
 returns-in_err-write_inside g c =
     let text = c.as_bytes.result.now in
-    let all = from_first g.S.AsStr.text c.args.path.now c.in-Some.others.now c.in-Some.first.now text c.in-Some.ensures.cases.0 (c.as_bytes.ensures.value ∙ c.as_str.ensures) in
+    let is = c.as_bytes.ensures.value ∙ c.as_str.ensures in
+    let all = from_first g.S.AsStr.text c.args.path.now c.in-Some.others.now c.in-Some.first.now text c.in-Some.ensures.cases.0 is in
     let p = err_from_is_err_and c.from_residual.result c.from_residual.ensures.1 in
     Wrote-part _ p.0 _ _ (string_bytes text) (joined_rest (map g.S.AsStr.text c.in-Some.others.now)) _ all p.1 c.in_err-write_inside.ensures
 
 pub parts-init : goal.parts-init
 parts-init g c =
-    let text = c.as_bytes.result.now in (
+    let text = c.as_bytes.result.now in
+    let is = c.as_bytes.ensures.value ∙ c.as_str.ensures in (
       string_bytes text,
-      from_first g.S.AsStr.text c.args.path.now c.in-Some.others.now c.in-Some.first.now text c.in-Some.ensures.cases.0 (c.as_bytes.ensures.value ∙ c.as_str.ensures),
+      from_first g.S.AsStr.text c.args.path.now c.in-Some.others.now c.in-Some.first.now text c.in-Some.ensures.cases.0 is,
       c.in_ok-write_inside.ensures,
     )
 

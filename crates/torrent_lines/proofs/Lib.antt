@@ -1,0 +1,2 @@
+-- Lemmas on a torrent's lines.
+pub mod AsTexts

@@ -1,0 +1,4 @@
+-- What contracts of a torrent's lines cite.
+pub mod Refused
+pub mod Show
+pub mod Rows
