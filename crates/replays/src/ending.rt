@@ -13,7 +13,8 @@ use benc::WriteFault;
 use lines::{Line, LineSink, say_last};
 use wire::FrameFault;
 
-/// Writes the last lines and flushes, and then flushes the answers: what the report amounts to then.
+/// Writes the last lines and flushes, and then flushes the answers: what the report amounts to
+/// then.
 pub(crate) fn end_replay<L: LineSink, K: Telling, B: Answering>(
     report: &mut L,
     keeper: &K,
