@@ -100,7 +100,7 @@ def test_make_proves_what_changed():
         assert status == 0, told
         changed = [call.split()[0] for call in calls]
         assert changed[0] == "pieces" and changed[-1] == "btcheck" and "opening" in changed, changed
-        assert not {"benc", "hashtree", "wire", "chains", "json_lines"} & {*changed}, changed
+        assert not {"benc", "hashtree", "wire", "chains"} & {*changed}, changed
         assert len(copy.lines(told)) > len(changed)
 
 

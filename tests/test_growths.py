@@ -58,7 +58,7 @@ def test_root_and_show():
         runs = [("root", ["root", write(f"{place}/content", bytes(200000))])]
         for name, content in torrents_to_show().items():
             runs.append((f"show of {name}", ["show", write(f"{place}/{name}", content)]))
-        for name, arguments in runs:
+        for name, arguments in runs + [(f"{name}, --json", [*arguments, "--json"]) for name, arguments in runs]:
             ample = None
             for called, done in refused_in_turn(shim, name, *arguments):
                 ample = ample or outcome(done)
@@ -66,18 +66,17 @@ def test_root_and_show():
 
 
 def test_json():
-    """Memory for a line or its object is refused too. The objects that went out before are whole."""
+    """An object takes no memory, so those that went out before memory was refused are whole."""
     with shimmed() as (place, shim):
-        runs = [("root --json", ["root", write(f"{place}/content", bytes(200000)), "--json"])]
-        for name, content in torrents_to_show().items():
-            runs.append((f"show --json of {name}", ["show", write(f"{place}/{name}", content), "--json"]))
-        for name, arguments in runs:
-            ample = None
-            for called, done in refused_in_turn(shim, name, *arguments):
-                ample = ample or done
-                if outcome(done) != outcome(ample):
-                    assert (done.returncode, done.stderr) == NO_MEMORY[::2], (called, outcome(done))
-                    assert ample.stdout.startswith(done.stdout) and done.stdout[-1:] in (b"", b"\n"), (called, done)
+        path, ample = write(f"{place}/torrent", torrent(hybrid())), None
+        for called, done in refused_in_turn(shim, "check --json", "check", path, f"{place}/nothing", "--json"):
+            ample = ample or done
+            seen = done.stdout.replace(b'"unreadable"', b'"missing"')
+            if done.returncode == 2:
+                assert done.stderr == NO_MEMORY[2], (called, outcome(done))
+                assert ample.stdout.startswith(seen) and seen[-1:] in (b"", b"\n"), (called, outcome(done))
+            else:
+                assert (done.returncode, seen) == (ample.returncode, ample.stdout), (called, outcome(done))
 
 
 def test_help_and_refused_arguments():

@@ -89,12 +89,11 @@ def test_faults_are_answered_without_memory():
 
 def test_calls_that_other_calls_make():
     """What a command reaches through another call, called alone."""
-    report = b"good five\nbad 3 a\\x0a\\xff\nwrong length b\nmissing c\nv1 not checked\nodd line\nno"
     with shimmed(memory_tests()) as (place, shim):
         path = write(f"{place}/torrent", torrent_of([("five", FIVE)], 32768))
-        five, lines = write(f"{place}/content", FIVE), write(f"{place}/report", report)
+        five = write(f"{place}/content", FIVE)
         for call, name, given in [("span", "decode_with_span", path), ("layer", "LayerBuilder", five),
-                                  ("cuts", "V1Cuts", five), ("objects", "object", lines)]:
+                                  ("cuts", "V1Cuts", five)]:
             counts = calls_refused(shim, call, path, given, "paged", call)
             assert counts[name] > 0, (call, counts)
 

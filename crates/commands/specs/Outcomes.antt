@@ -98,15 +98,18 @@ pub record IsUnprinted (r : Refusal) (text : List ℕ) (out out' : SinkSeen) (f 
 
 -- ---- root
 
--- What printing the root of a source's file did, by its answer: its line went out, and the status
--- is 0 exactly if the file is not too long; or the source failed before one byte past the bound;
--- or the line broke off.
-abbrev pub EndsRoot : SourceSeen → SourceSeen → SinkSeen → SinkSeen → Result ℕ Fault → Type 0
-EndsRoot source source' out out' (Ok status) = (within : Bool)
-    × PrintsRoot source source' out out' within × (status ≡ answer_status within)
-EndsRoot source source' out out' (Err (faults.Read path)) = source.limit ≤ source'.limit + 2 ^ 46
-EndsRoot source source' out out' (Err (faults.Write path)) = BreaksRootLine source source' out out'
-EndsRoot source source' out out' (Err fault) = ⊥
+-- What printing the root of a source's file did, by its answer: its line, as it is spelled, went
+-- out, and the status is 0 exactly if the file is not too long; or the source failed before one
+-- byte past the bound; or the line broke off.
+abbrev pub EndsRoot : (List ℕ → List ℕ) → SourceSeen → SourceSeen → SinkSeen → SinkSeen
+    → Result ℕ Fault → Type 0
+EndsRoot line source source' out out' (Ok status) = (within : Bool)
+    × PrintsRoot line source source' out out' within × (status ≡ answer_status within)
+EndsRoot line source source' out out' (Err (faults.Read path)) =
+    source.limit ≤ source'.limit + 2 ^ 46
+EndsRoot line source source' out out' (Err (faults.Write path)) =
+    BreaksRootLine line source source' out out'
+EndsRoot line source source' out out' (Err fault) = ⊥
 
 -- ---- check
 

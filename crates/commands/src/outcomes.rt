@@ -4,11 +4,13 @@ ghost use Rattle.std.specs.String.{string_bytes};
 ghost use Rattle.benc.specs.Device.{BrokeOrUnflushed, SentAndFlushed, WroteAndFlushed};
 ghost use Rattle.chains.specs.Chain.{Chain};
 ghost use Rattle.gathering.specs.Gathering.{Gathers};
+ghost use Rattle.lines.specs.Rows.{spell};
+ghost use Rattle.lines.specs.Table.{refusal_row};
 ghost use Rattle.torrent_lines.specs.Refused.{refusal_text};
-ghost use Rattle.torrent_lines.specs.Show.{show_text};
+ghost use Rattle.torrent_lines.specs.Rows.{show_rows};
 ghost use Rattle.replays.specs.Replay.{IsCutReport, replay_seen};
 ghost use Rattle.replays.specs.Telling.{plain_as};
-ghost use Rattle.folders.specs.Root.{root_line_of};
+ghost use Rattle.folders.specs.Root.{root_line_as};
 ghost use Rattle.seeding.specs.Seeding.{IsSeededAs, SeedsAs, seed_line_as, shelf_and_session};
 ghost use Rattle.folders.specs.TakeAll.{IsReadWithin};
 ghost use Rattle.folders.specs.Verdicts.{CountsUnreadable};
@@ -26,7 +28,7 @@ use benc::{Sink, Source};
 use conversions::ConvertFault;
 use drafts::Draft;
 use filetree::Refusal;
-use folders::{RootFault, SeekShelf, Shelf, ShelfFault, root_line_through};
+use folders::{RootFault, SeekShelf, Shelf, ShelfFault, root_line_onto};
 use gathering::GatherFault;
 use lines::LineSink;
 use opening::Torrent;
@@ -37,41 +39,41 @@ use printing::{Fault, OUTPUT, write_line};
 use seeding::SeedFault;
 use session::{NodeMap, Paged, Session};
 use std::alloc::Global;
-use torrent_lines::refusal_line;
+use torrent_lines::{refusal_line_onto, show_onto};
 
-/// Prints the length and root of the file with this path. The status is 1 if the file is too long.
+/// Says the length and root of the file with this path. The status is 1 if the file is too long.
 /// If memory for its buffer is refused, it uses a smaller one, which is no fault.
 // It has a block in its frame, so it is not inlined.
 #[inline(never)]
-pub fn root<'a, R: Source, W: Sink>(
+pub fn root<'a, R: Source, L: LineSink>(
     alloc: Global,
     path: &'a str,
     source: &mut R,
-    out: &mut W,
+    out: &mut L,
 ) -> Result<u8, Fault<'a>>
-    ensures ends { EndsRoot (R.seen source.old) (R.seen source.new)
-        (W.seen out.old) (W.seen out.new) result }
+    ensures ends { EndsRoot (root_line_as L.spelled) (R.seen source.old) (R.seen source.new)
+        (L.seen out.old) (L.seen out.new) result }
     ensures no_further { IsReadWithin (2 ^ 46 + 1) (R.seen source.old) (R.seen source.new) }
     ensures faults { BlamesOne path.now (R.seen source.old) (R.seen source.new)
-        (W.seen out.old) (W.seen out.new) result }
+        (L.seen out.old) (L.seen out.new) result }
 {
     let mut buffer = PieceBuffer::of_blocks(alloc);
-    match root_line_through(source, buffer.as_mut_slice(), out) {
+    match root_line_onto(source, buffer.as_mut_slice(), out) {
         Ok(within) => Ok(status(within)),
         Err(RootFault::Read) => Err(Fault::Read(path)),
         Err(RootFault::Write) => Err(Fault::Write(OUTPUT)),
     }
 }
 
-/// Prints what a torrent holds, status 0. The one fault is a failed write to `out`, after a prefix
-/// of the text.
-pub fn show<'a, W: Sink>(torrent: &Torrent<'_>, out: &mut W) -> Result<u8, Fault<'a>>
+/// Says what a torrent holds, status 0. The one fault is a failed write to `out`, after a prefix of
+/// the lines.
+pub fn show<'a, L: LineSink>(torrent: &Torrent<'_>, out: &mut L) -> Result<u8, Fault<'a>>
     ensures status { IfOk result (λ s. s ≡ answer_status true) }
-    ensures lines { WroteAndFlushed (W.seen out.old) (W.seen out.new) result
-        (show_text torrent.now) }
+    ensures lines { WroteAndFlushed (L.seen out.old) (L.seen out.new) result
+        (spell L.spelled (show_rows torrent.now)) }
     ensures fault { IfErr result NamesOutput }
 {
-    match torrent_lines::show(torrent, out) {
+    match show_onto(torrent, out) {
         Ok(()) => Ok(status(true)),
         Err(_) => Err(Fault::Write(OUTPUT)),
     }
@@ -89,9 +91,27 @@ pub fn refuse<'a, W: Sink>(refusal: &Refusal, path: &[String], out: &mut W) -> R
         (refusal_text refusal.now (map string_bytes path.now))
         (W.seen out.old) (W.seen out.new)) }
 {
+    refuse_onto(refusal, path, out)
+}
+
+/// Does what `refuse` does, onto what takes lines.
+pub fn refuse_onto<'a, L: LineSink>(
+    refusal: &Refusal,
+    path: &[String],
+    out: &mut L,
+) -> Result<u8, Fault<'a>>
+    requires sink { refusal.now ≢ Refusal.Write }
+    ensures status { IfOk result (λ s. s ≡ answer_status false) }
+    ensures line { OnOk result (SentAndFlushed (L.seen out.old) (L.seen out.new)
+        (L.spelled (refusal_row refusal.now (map string_bytes path.now)))) }
+    ensures known { OnOk result (refusal.now ≢ Refusal.NoMemory) }
+    ensures fault { IfErr result (IsUnprinted refusal.now
+        (L.spelled (refusal_row refusal.now (map string_bytes path.now)))
+        (L.seen out.old) (L.seen out.new)) }
+{
     match refusal {
         Refusal::NoMemory => Err(Fault::NoMemory),
-        _ => match refusal_line(refusal, path, out) {
+        _ => match refusal_line_onto(refusal, path, out) {
             Ok(()) => Ok(status(false)),
             Err(_) => Err(Fault::Write(OUTPUT)),
         },

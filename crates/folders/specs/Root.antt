@@ -1,9 +1,13 @@
 -- The line that `root` prints.
-use Rattle.std.specs.Prelude.{◌≡◌, ◌↔◌, Bool, IsTrue, Result, Ok, Err, ℕ, ◌+◌, ◌^◌, ◌≤◌, ◌++◌, List, [], ◌∷◌, length, nat_le, if◌then◌else◌, codes, decimal}
+use Rattle.std.specs.Prelude.{◌≡◌, ◌↔◌, Bool, IsTrue, Result, Ok, Err, Some, None, ℕ, ◌+◌, ◌^◌, ◌≤◌, ◌++◌, List, [], ◌∷◌, length, nat_le}
+use Rattle.std.specs.Prelude.{if◌then◌else◌, codes, decimal}
 use Rattle.std.specs.Io.KnownBytes.{Keeps}
 use Rattle.benc.specs.Device.{BrokeOrUnflushed, SentAndFlushed, SinkSeen, SourceSeen, one_more}
 use Rattle.hex.specs.Hex.{encode_lower}
 use Rattle.hashtree.specs.Tree.{root_of}
+use Rattle.filetree.specs.declared.refusal.Refusal.TheVariants as refusals
+use Rattle.lines.specs.Rows.{Row, Spelling}
+use Rattle.lines.specs.Table.{refusal_row, root_row}
 use Rattle.folders.specs.Verdicts.{Agrees}
 use Rattle.folders.specs.declared.root.RootFault.{RootFault}
 use Rattle.folders.specs.declared.root.RootFault.TheVariants as fault
@@ -18,6 +22,17 @@ root_line_of [] = codes "0 -\n"
 root_line_of (b ∷ bs) =
     (if nat_le (length (b ∷ bs)) (2 ^ 46) then content_line (b ∷ bs)
     else codes "refused 10 Length\n")
+
+-- the line of a file as a row of the table
+unfoldable pub root_row_of : List ℕ → Row
+root_row_of [] = root_row 0 None
+root_row_of (b ∷ bs) =
+    (if nat_le (length (b ∷ bs)) (2 ^ 46) then root_row (length (b ∷ bs)) (Some (root_of (b ∷ bs)))
+    else refusal_row refusals.Length [])
+
+-- the line of a file as lines are spelled
+abbrev pub root_line_as : Spelling → List ℕ → List ℕ
+root_line_as spelled file = spelled (root_row_of file)
 
 -- neither device failed, or the one that is blamed did, once; if the source did, nothing was
 -- written or flushed
@@ -37,23 +52,25 @@ pub record IsFileOfSource (source source' : SourceSeen) (file : List ℕ) : Type
   pub taken : length file ≤ 2 ^ 46 → source'.limit + length file ≡ source.limit
 
 -- the source's file was read, and its line went out, with one flush
-pub record PrintsRoot (source source' : SourceSeen) (out out' : SinkSeen) (within : Bool) : Type 0
-  where
-    pub file : List ℕ
-    pub is_file : IsFileOfSource source source' file
-    pub is_within : IsTrue within ↔ (length file ≤ 2 ^ 46)
-    pub sent : SentAndFlushed out out' (root_line_of file)
-
--- the source's file was read, and its line broke off, or was not flushed
-pub record BreaksRootLine (source source' : SourceSeen) (out out' : SinkSeen) : Type 0 where
+pub record PrintsRoot (line : List ℕ → List ℕ) (source source' : SourceSeen) (out out' : SinkSeen)
+    (within : Bool) : Type 0 where
   pub file : List ℕ
   pub is_file : IsFileOfSource source source' file
-  pub broke : BrokeOrUnflushed out out' (root_line_of file)
+  pub is_within : IsTrue within ↔ (length file ≤ 2 ^ 46)
+  pub sent : SentAndFlushed out out' (line file)
+
+-- the source's file was read, and its line broke off, or was not flushed
+pub record BreaksRootLine (line : List ℕ → List ℕ) (source source' : SourceSeen)
+    (out out' : SinkSeen) : Type 0 where
+  pub file : List ℕ
+  pub is_file : IsFileOfSource source source' file
+  pub broke : BrokeOrUnflushed out out' (line file)
 
 -- what became of the line, by the answer; a fault of the source comes before the first byte past
 -- 2^46
-abbrev pub EndsRootLine : SourceSeen → SourceSeen → SinkSeen → SinkSeen → Result Bool RootFault
-    → Type 0
-EndsRootLine source source' out out' (Ok within) = PrintsRoot source source' out out' within
-EndsRootLine source source' out out' (Err fault.Read) = source.limit ≤ source'.limit + 2 ^ 46
-EndsRootLine source source' out out' (Err fault.Write) = BreaksRootLine source source' out out'
+abbrev pub EndsRootLine : (List ℕ → List ℕ) → SourceSeen → SourceSeen → SinkSeen → SinkSeen
+    → Result Bool RootFault → Type 0
+EndsRootLine line source source' out out' (Ok within) = PrintsRoot line source source' out out' within
+EndsRootLine line source source' out out' (Err fault.Read) = source.limit ≤ source'.limit + 2 ^ 46
+EndsRootLine line source source' out out' (Err fault.Write) =
+    BreaksRootLine line source source' out out'

@@ -21,7 +21,7 @@ pub use exactly::take_exactly;
 pub use file_reader::{FileReader, visit, visit_at};
 pub use report::{FileVerdict, Report, V1Verdict};
 pub use report_lines::{Lines, print_report, stream_line, write_end, write_verdict};
-pub use root::{RootFault, root_line, root_line_through};
+pub use root::{RootFault, root_line, root_line_onto, root_line_through};
 pub use row_feed::{RowFeed, RowFound};
 pub use saying::{say_end, say_report, say_verdict, say_wanted};
 pub use seek_shelf::SeekShelf;

@@ -1,14 +1,15 @@
 //! The line of a file: its length and its pieces root.
 ghost use Rattle.std.specs.Prelude.{◌≡◌, ℕ, ◌+◌, ◌^◌, ◌<◌, List, length, IfOk, OnErr};
-ghost use Rattle.benc.specs.Device.{CountsFault};
+ghost use Rattle.benc.specs.Device.{CountsFault, WroteAndFlushed};
 ghost use Rattle.folders.specs.Reading.{IsReadingOf};
-ghost use Rattle.folders.specs.Root.{Blames, EndsRootLine, IsFileOfSource, root_line_of};
+ghost use Rattle.folders.specs.Root.{Blames, EndsRootLine, IsFileOfSource, root_line_as, root_line_of};
 ghost use Rattle.folders.specs.TakeAll.{IsReadWithin};
 
 use crate::taking::{BUFFER_LENGTH, Consumer, take_all};
-use benc::{DeviceFault, Sink, Source};
+use benc::{DeviceFault, Sink, Source, WriteFault};
+use filetree::Refusal;
 use hashtree::{Hash, MAX_LENGTH, RootBuilder};
-use printing::{Line, write_line};
+use lines::{Line, LineSink, say_last};
 use thiserror::Error;
 
 /// Why no line was written whole.
@@ -43,7 +44,7 @@ enum Reading {
 // It has the buffer in its frame, so it is not inlined.
 #[inline(never)]
 pub fn root_line<R: Source, W: Sink>(source: &mut R, out: &mut W) -> Result<bool, RootFault>
-    ensures ends { EndsRootLine (R.seen source.old) (R.seen source.new)
+    ensures ends { EndsRootLine root_line_of (R.seen source.old) (R.seen source.new)
         (W.seen out.old) (W.seen out.new) result }
     ensures no_further { IsReadWithin (2 ^ 46 + 1) (R.seen source.old) (R.seen source.new) }
 
@@ -63,38 +64,66 @@ pub fn root_line_through<R: Source, W: Sink>(
     out: &mut W,
 ) -> Result<bool, RootFault>
     requires { 0 < length buffer.old }
-    ensures ends { EndsRootLine (R.seen source.old) (R.seen source.new)
+    ensures ends { EndsRootLine root_line_of (R.seen source.old) (R.seen source.new)
         (W.seen out.old) (W.seen out.new) result }
     ensures no_further { IsReadWithin (2 ^ 46 + 1) (R.seen source.old) (R.seen source.new) }
     ensures faults { Blames (R.seen source.old) (R.seen source.new)
         (W.seen out.old) (W.seen out.new) result }
 {
+    root_line_onto(source, buffer, out)
+}
+
+/// Does what `root_line_through` does, onto what takes lines.
+pub fn root_line_onto<R: Source, L: LineSink>(
+    source: &mut R,
+    buffer: &mut [u8],
+    out: &mut L,
+) -> Result<bool, RootFault>
+    requires { 0 < length buffer.old }
+    ensures ends { EndsRootLine (root_line_as L.spelled) (R.seen source.old) (R.seen source.new)
+        (L.seen out.old) (L.seen out.new) result }
+    ensures no_further { IsReadWithin (2 ^ 46 + 1) (R.seen source.old) (R.seen source.new) }
+    ensures faults { Blames (R.seen source.old) (R.seen source.new)
+        (L.seen out.old) (L.seen out.new) result }
+{
     let Ok(reading) = read_content(source, buffer) else {
         return Err(RootFault::Read);
     };
     let within = !matches!(reading, Reading::TooLong);
-    match write_line(out, reading_line(&reading).as_slice()) {
+    match say_reading(&reading, out) {
         Ok(()) => Ok(within),
         Err(_) => Err(RootFault::Write),
     }
 }
 
-// The line of what was read.
-fn reading_line(reading: &Reading) -> Line
-    ensures { (file : List ℕ) → IsReadingOf file reading.now → result ≡ root_line_of file }
+// Says the line of what was read.
+fn say_reading<L: LineSink>(reading: &Reading, out: &mut L) -> Result<(), WriteFault>
+    ensures { (file : List ℕ) → IsReadingOf file reading.now → WroteAndFlushed (L.seen out.old)
+        (L.seen out.new) result (root_line_as L.spelled file) }
 {
-    let mut line = Line::new();
     match reading {
-        Reading::Empty => line.put(b"0 -\n"),
-        Reading::Root(length, root) => {
-            line.put_number(*length);
-            line.put(b" ");
-            line.put_digest(root);
-            line.put(b"\n");
-        }
-        Reading::TooLong => line.put(b"refused 10 Length\n"),
+        Reading::Empty => say_last(
+            &Line::Root {
+                length: 0,
+                root: None,
+            },
+            out,
+        ),
+        Reading::Root(length, root) => say_last(
+            &Line::Root {
+                length: *length,
+                root: Some(root),
+            },
+            out,
+        ),
+        Reading::TooLong => say_last(
+            &Line::Refusal {
+                refusal: &Refusal::Length,
+                path: &[],
+            },
+            out,
+        ),
     }
-    line
 }
 
 // Reads the source to its end, or to one byte past the greatest length.

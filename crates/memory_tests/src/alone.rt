@@ -2,7 +2,6 @@
 use crate::again::name_refused;
 use benc::{Fault, FaultKind, decode_with_span};
 use hashtree::{Hash, LayerBuilder};
-use json_lines::{check_forms, object};
 use pieces::{V1Cuts, V1File};
 use std::alloc::{AllocError, Global};
 use std::io;
@@ -61,23 +60,4 @@ fn cuts_of(alloc: Global, content: &[u8]) -> Result<V1File, AllocError> {
     let mut cuts = V1Cuts::new(alloc, 16384);
     cuts.push(content)?;
     cuts.finish()
-}
-
-/// Makes an object of each line of a report, and prints it.
-pub(crate) fn objects_again(rt: &HostRuntime, report: &[u8]) -> io::Result<()> {
-    for line in report.split(|byte| *byte == b'\n') {
-        let object = match object_text(rt.alloc(), line) {
-            Ok(object) => object,
-            Err(AllocError) => {
-                name_refused(rt, "object")?;
-                object_text(rt.alloc(), line)?
-            }
-        };
-        println!(rt; "{object}")?;
-    }
-    Ok(())
-}
-
-fn object_text(alloc: Global, line: &[u8]) -> Result<String, AllocError> {
-    object(alloc, check_forms(), line)?.to_string(alloc)
 }

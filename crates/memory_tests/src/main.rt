@@ -20,7 +20,7 @@ mod wanting;
 mod whole_pieces;
 
 use again::{decode_again, open_again, print_refusal};
-use alone::{cuts_again, layer_again, objects_again, span_again};
+use alone::{cuts_again, layer_again, span_again};
 use drafting::draft_again;
 use marking::join_marked_again;
 use messages::take_record;
@@ -59,7 +59,6 @@ fn make_call<N: NodeMap>(
         "span" => span_again(rt, record),
         "layer" => layer_again(rt, record),
         "cuts" => cuts_again(rt, record),
-        "objects" => objects_again(rt, record),
         _ => take_record::<N>(rt, torrent, record, call),
     }
 }

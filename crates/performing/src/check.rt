@@ -9,7 +9,6 @@ use actions::Check;
 use benc::Sink;
 use commands::checks;
 use folders::Lines;
-use json_lines::refusal_forms;
 use lines::{LineSink, Objects};
 use opening::Torrent;
 use printing::Fault;
@@ -40,7 +39,7 @@ fn judge_torrent<'a, W: Sink + Drop>(
             let cleared = Cleared::new(out, &progress);
             print_check(system, &torrent, asked, &progress, cleared)
         }
-        Err(refusal) => refuse(system, &refusal, asked.json, refusal_forms(), out),
+        Err(refusal) => refuse(&refusal, asked.json, out),
     }
 }
 

@@ -1,40 +1,54 @@
 //! `show --long`: what all files of a torrent come to.
 use crate::sizes::{all_bytes, all_pieces};
 use arrayvec::ArrayString;
-use benc::{DeviceFault, Sink, write_all};
+use benc::WriteFault;
+use lines::{Line, LineSink, Shown, say, say_last};
 use opening::Torrent;
 use printing::{Fault, OUTPUT};
 use real_files::Amount;
 use std::fmt::Write;
 
-// Three words, three numbers, and two amounts fit.
-type Lines = ArrayString<192>;
+// An amount with its unit fits.
+type Size = ArrayString<32>;
 
-/// Prints the sum of the lengths, how many pieces there are, and how many piece layers.
-pub(crate) fn print_long<'a, W: Sink>(torrent: &Torrent<'_>, out: &mut W) -> Result<(), Fault<'a>> {
-    match write_lines(torrent, out) {
+/// Says the sum of the lengths, how many pieces there are, and how many piece layers.
+pub(crate) fn print_long<'a, L: LineSink>(
+    torrent: &Torrent<'_>,
+    out: &mut L,
+) -> Result<(), Fault<'a>> {
+    match say_lines(torrent, out) {
         Ok(()) => Ok(()),
         Err(_) => Err(Fault::Write(OUTPUT)),
     }
 }
 
-fn write_lines<W: Sink>(torrent: &Torrent<'_>, out: &mut W) -> Result<(), DeviceFault> {
-    let text = lines_of(torrent);
-    write_all(out, text.as_bytes())?;
-    out.flush()
+fn say_lines<L: LineSink>(torrent: &Torrent<'_>, out: &mut L) -> Result<(), WriteFault> {
+    let bytes = all_bytes(torrent);
+    let (total, each) = (size_of(bytes), size_of(torrent.piece_length()));
+    let total = Shown::Total {
+        bytes,
+        size: &total,
+    };
+    let pieces = Shown::Pieces {
+        count: all_pieces(torrent),
+        size: &each,
+    };
+    say(&Line::Shown(total), out)?;
+    say(&Line::Shown(pieces), out)?;
+    say_last(&Line::Shown(Shown::Layers(layers(torrent))), out)
 }
 
-fn lines_of(torrent: &Torrent<'_>) -> Lines {
-    let (bytes, pieces) = (all_bytes(torrent), all_pieces(torrent));
-    let length = Amount(torrent.piece_length());
-    let layers = torrent
+fn size_of(bytes: u64) -> Size {
+    let mut text = Size::new();
+    let _ = write!(text, "{}", Amount(bytes));
+    text
+}
+
+// How many piece layers there are.
+fn layers(torrent: &Torrent<'_>) -> u64 {
+    torrent
         .trees()
         .iter()
         .filter(|tree| !tree.layer.is_empty())
-        .count();
-    let mut text = Lines::new();
-    let _ = writeln!(text, "total: {bytes} {}", Amount(bytes));
-    let _ = writeln!(text, "pieces: {pieces} of {length}");
-    let _ = writeln!(text, "layers: {layers}");
-    text
+        .count() as u64
 }

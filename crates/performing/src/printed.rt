@@ -4,7 +4,7 @@ ghost use Rattle.std.specs.Prelude.{◌≢◌};
 use benc::{FromWrite, Sink};
 use commands::outcomes;
 use filetree::Refusal;
-use json_lines::Form;
+use lines::Objects;
 use printing::Fault;
 use real_files::{Output, System};
 use std::io::{BufWriter, LineWriter};
@@ -31,32 +31,15 @@ pub(crate) fn line_output<'s>(
 
 /// Prints the refusal of a torrent, as its line or as the object of that. Gives the exit status.
 pub(crate) fn refuse<'a, W: Sink + Drop>(
-    system: &System,
     refusal: &Refusal,
     json: bool,
-    forms: &'static [Form],
     out: W,
 ) -> Result<u8, Fault<'a>>
     requires { refusal.now ≢ Refusal.Write }
 {
     let mut out = out;
     if !json {
-        return outcomes::refuse(refusal, &[], &mut out);
+        return outcomes::refuse_onto(refusal, &[], &mut out);
     }
-    let mut objects = json_lines::LineWriter::new(system.alloc(), forms, out);
-    let status = outcomes::refuse(refusal, &[], &mut objects);
-    memory_first(status, &objects)
-}
-
-/// What a command came to whose lines these objects were. Out of memory for a line or its object
-/// comes in place of the fault that the writer answered.
-pub(crate) fn memory_first<'a, W: Sink>(
-    status: Result<u8, Fault<'a>>,
-    objects: &json_lines::LineWriter<W>,
-) -> Result<u8, Fault<'a>> {
-    if objects.lacks_memory() {
-        Err(Fault::NoMemory)
-    } else {
-        status
-    }
+    outcomes::refuse_onto(refusal, &[], &mut Objects::new(out))
 }

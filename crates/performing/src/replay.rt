@@ -6,7 +6,6 @@ use crate::torrent_file::{open_torrent, read_torrent};
 use actions::Replay;
 use benc::{FromRead, FromWrite, Sink};
 use commands::outcomes;
-use json_lines::refusal_forms;
 use lines::{LineSink, Objects};
 use opening::Torrent;
 use printing::Fault;
@@ -42,7 +41,7 @@ fn replay_torrent<'a, W: Sink + Drop>(
                 Cleared::new(out, &progress),
             )
         }
-        Err(refusal) => refuse(system, &refusal, asked.json, refusal_forms(), out),
+        Err(refusal) => refuse(&refusal, asked.json, out),
     }
 }
 

@@ -1,9 +1,8 @@
 //! `root`: the length and the pieces root of a file.
-use crate::printed::memory_first;
 use crate::sizes::length_of;
 use benc::{FromRead, FromWrite, Sink, Source};
 use commands::outcomes;
-use json_lines::{LineWriter, root_forms};
+use lines::Objects;
 use printing::Fault;
 use real_files::{Cleared, Counted, Noted, Progress, System};
 
@@ -31,7 +30,5 @@ fn print_root<'a, R: Source, W: Sink + Drop>(
     if !json {
         return outcomes::root(system.alloc(), path, source, &mut out);
     }
-    let mut objects = LineWriter::new(system.alloc(), root_forms(), out);
-    let status = outcomes::root(system.alloc(), path, source, &mut objects);
-    memory_first(status, &objects)
+    outcomes::root(system.alloc(), path, source, &mut Objects::new(out))
 }

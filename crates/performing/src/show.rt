@@ -1,10 +1,10 @@
 //! `show`: what a torrent holds.
 use crate::long::print_long;
-use crate::printed::{buffered_output, memory_first};
+use crate::printed::buffered_output;
 use crate::torrent_file::{open_torrent, read_torrent};
 use benc::Sink;
 use commands::outcomes;
-use json_lines::{LineWriter, show_forms};
+use lines::{LineSink, Objects};
 use printing::Fault;
 use real_files::System;
 
@@ -31,20 +31,18 @@ fn print_show<'a, W: Sink + Drop>(
     if !json {
         return show_torrent(system, bytes, long, &mut out);
     }
-    let mut objects = LineWriter::new(system.alloc(), show_forms(), out);
-    let status = show_torrent(system, bytes, long, &mut objects);
-    memory_first(status, &objects)
+    show_torrent(system, bytes, long, &mut Objects::new(out))
 }
 
-fn show_torrent<'a, W: Sink>(
+fn show_torrent<'a, L: LineSink>(
     system: &System,
     bytes: &[u8],
     long: bool,
-    out: &mut W,
+    out: &mut L,
 ) -> Result<u8, Fault<'a>> {
     let torrent = match open_torrent(system, bytes) {
         Ok(torrent) => torrent,
-        Err(refusal) => return outcomes::refuse(&refusal, &[], out),
+        Err(refusal) => return outcomes::refuse_onto(&refusal, &[], out),
     };
     let status = outcomes::show(&torrent, out)?;
     if long {

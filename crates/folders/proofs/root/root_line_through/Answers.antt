@@ -1,8 +1,7 @@
-use Rattle.std.proofs.Common.{rules}
+use Rattle.folders.proofs.RootLines.{ends_as_text}
 use Rattle.folders.proofs.root.root_line_through.Goals as goal
 
-pub returns-in-Ok-write_line-clause-ends : goal.returns-in-Ok-write_line-clause-ends
-returns-in-Ok-write_line-clause-ends g c = search rules
-
-pub returns-in-Ok-write_line-clause-faults : goal.returns-in-Ok-write_line-clause-faults
-returns-in-Ok-write_line-clause-faults g c = search rules
+pub returns-clause-ends : goal.returns-clause-ends
+returns-clause-ends g c =
+    ends_as_text (g.R.Source.seen c.args.source.now) (g.R.Source.seen c.root_line_onto.new.source) (g.W.Sink.seen c.args.out.now)
+    (g.W.Sink.seen c.root_line_onto.new.out) c.root_line_onto.result c.root_line_onto.ensures.ends
