@@ -23,9 +23,10 @@
  * needs less than 64 KiB of stack.
  *
  * Costs. Nearly all that a call costs is hashing: of a block, of a piece, of the pairs of a hashes
- * message. Only btcheck_session_open takes longer where the torrent is larger. Of what one push of a
- * root or a check brings, eight blocks are hashed side by side, which with AVX2 takes less than half
- * the time: push 128 KiB or a multiple of that at once where it is at hand.
+ * message. Only btcheck_session_open takes longer where the torrent is larger. Pushes of a root or a
+ * check may be short: a handle keeps their bytes until eight blocks of them are hashed side by side,
+ * in 128 KiB of room that the call named ..._new takes. Only a piece whose bit is due is not kept:
+ * with btcheck_check_push_bits, pieces of less than 128 KiB are hashed faster in pushes of that much.
  *
  * Pointers. No pointer may be null, also with a length of 0, and what the
  * pointers of one call lead to must not overlap.
@@ -190,10 +191,10 @@ typedef struct btcheck_holdings {
 
 /* ---- the root of a file (BEP 52, "pieces root") */
 
-/* A builder that was given nothing, in an empty handle. */
+/* A builder that was given nothing, in an empty handle. No later call on it takes memory. */
 btcheck_status btcheck_root_new(btcheck_root *root);
 
-/* The file's next bytes. BTCHECK_TOO_LONG: past 2^46, and nothing was taken. */
+/* The file's next bytes, in parts of any size. BTCHECK_TOO_LONG: past 2^46, and nothing was taken. */
 btcheck_status btcheck_root_push(btcheck_root *root, const uint8_t *bytes, size_t len);
 
 /* Length and root of what was pushed; the builder begins anew. BTCHECK_NO_ROOT:
@@ -265,8 +266,9 @@ btcheck_status btcheck_session_is_marked(btcheck_session *session, size_t tree, 
    likes */
 
 /* Begins the check of file `number` of the session's torrent in an empty handle. The torrent's bytes
-   must stay unchanged until this handle is freed too; the session's may be freed before.
-   BTCHECK_NO_ROOT: the file is empty. BTCHECK_NO_SUCH: there is no such file. */
+   must stay unchanged until this handle is freed too; the session's may be freed before. No later
+   call on the check takes memory. BTCHECK_NO_ROOT: the file is empty. BTCHECK_NO_SUCH: there is no
+   such file. */
 btcheck_status btcheck_check_new(btcheck_check *check, btcheck_session *session, size_t number);
 
 /* Begins the check of the pieces `from` up to, but without, `to` of a file, from 0 in the file, as
@@ -276,7 +278,8 @@ btcheck_status btcheck_check_new(btcheck_check *check, btcheck_session *session,
 btcheck_status btcheck_check_new_pieces(btcheck_check *check, btcheck_session *session,
                                         size_t number, uint64_t from, uint64_t to);
 
-/* The next bytes. BTCHECK_TOO_LONG: fewer are still to come, and nothing was taken. */
+/* The next bytes, in parts of any size. BTCHECK_TOO_LONG: fewer are still to come, and nothing was
+   taken. */
 btcheck_status btcheck_check_push(btcheck_check *check, const uint8_t *bytes, size_t len);
 
 /* As btcheck_check_push, and sets the bit of each piece that is complete and good, as a bitfield has

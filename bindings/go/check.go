@@ -62,7 +62,7 @@ func (check *Check) Write(part []byte) (int, error) {
 	return len(part), nil
 }
 
-// ReadFrom pushes all that a reader gives, in parts of a MiB, so that eight blocks are hashed side by side. io.Copy calls it.
+// ReadFrom pushes all that a reader gives, in parts of a MiB. io.Copy calls it.
 func (check *Check) ReadFrom(reader io.Reader) (int64, error) {
 	return pushAll(check.Push, reader)
 }

@@ -40,7 +40,7 @@ func (root *Root) Write(part []byte) (int, error) {
 	return len(part), nil
 }
 
-// ReadFrom pushes all that a reader gives, in parts of a MiB, so that eight blocks are hashed side by side. io.Copy calls it.
+// ReadFrom pushes all that a reader gives, in parts of a MiB. io.Copy calls it.
 func (root *Root) ReadFrom(reader io.Reader) (int64, error) {
 	return pushAll(root.Push, reader)
 }

@@ -23,6 +23,32 @@ static void leaves_of(uint8_t (*leaves)[32]) {
   btcheck_root_free(&root);
 }
 
+/* A root and a check are the same however their bytes come: each by itself, in parts around the length of a block, and all
+   that is left. */
+static void any_parts(btcheck_session *session, const uint8_t *wanted) {
+  static const size_t parts[] = {1, BTCHECK_BLOCK - 1, BTCHECK_BLOCK, BTCHECK_BLOCK + 1, 8 * BTCHECK_BLOCK - 1, 8 * BTCHECK_BLOCK};
+  for (size_t first = 0; first < sizeof parts / sizeof *parts; first++) {
+    btcheck_root root = BTCHECK_INIT;
+    btcheck_check check = BTCHECK_INIT;
+    uint8_t found[32];
+    uint64_t length, piece;
+    WANT(btcheck_root_new(&root), BTCHECK_OK);
+    WANT(btcheck_check_new(&check, session, 0), BTCHECK_OK);
+    for (size_t at = 0, turn = first; at < size; turn++) {
+      size_t part = parts[turn % (sizeof parts / sizeof *parts)];
+      if (part > size - at) part = size - at;
+      WANT(btcheck_root_push(&root, content + at, part), BTCHECK_OK);
+      WANT(btcheck_check_push(&check, content + at, part), BTCHECK_OK);
+      at += part;
+    }
+    WANT(btcheck_check_finish(&check, &piece), BTCHECK_OK);
+    WANT(btcheck_root_finish(&root, &length, found), BTCHECK_OK);
+    CHECK(length == size && !memcmp(found, wanted, sizeof found));
+    btcheck_root_free(&root);
+    btcheck_check_free(&check);
+  }
+}
+
 /* All that a check of the first file does: on true content, on one with a bad byte, and on a part of it. */
 static void checks(btcheck_session *session) {
   static uint8_t bits[4];
@@ -128,7 +154,7 @@ static void *calls(void *is_first) {
   if (btcheck_session_want(&session, 0, 0, &ask) == BTCHECK_OK) WANT(btcheck_session_can_answer(&session, &ask), BTCHECK_NOTHING);
   WANT(btcheck_session_frame(&session, (const uint8_t *)"\4\0\0", 3, &verdict), BTCHECK_OK);
   WANT(btcheck_session_frame(&session, (const uint8_t *)"\7\0\0", 3, &verdict), BTCHECK_BAD_SIZE);
-  if (is_first) checks(&session), messages(&session, &file), holds();
+  if (is_first) checks(&session), any_parts(&session, file.root), messages(&session, &file), holds();
   btcheck_session_free(&session);
   return is_first;
 }

@@ -80,8 +80,19 @@ int main(int argc, char **argv) {
   btcheck_status status;
   unsigned refused = 0, of_torrent = 0, of_session = 0;
 
-  WANT(WITH(0, btcheck_root_new(&root)), BTCHECK_NO_MEMORY);
-  WANT(btcheck_root_push(&root, hashes[0], 1), BTCHECK_WRONG_HANDLE);
+  /* The room for the bytes of short pushes is taken at once: no later call takes memory. */
+  for (long blocks = 0; WITH(blocks, btcheck_root_new(&root)) != BTCHECK_OK; blocks++, refused++) {
+    WANT(status, BTCHECK_NO_MEMORY);
+    WANT(btcheck_root_push(&root, hashes[0], 1), BTCHECK_WRONG_HANDLE);
+  }
+  CHECK(refused == 2);
+  refused = 0;
+  WANT(WITH(0, btcheck_root_push(&root, torrent, 1)), BTCHECK_OK);
+  WANT(WITH(0, btcheck_root_push(&root, torrent, sizeof torrent)), BTCHECK_OK);
+  WANT(WITH(0, btcheck_root_finish(&root, &count, room[0])), BTCHECK_OK);
+  CHECK(count == 1 + sizeof torrent);
+  count = 7;
+  btcheck_root_free(&root);
 
   for (long blocks = 0; WITH(blocks, btcheck_session_open(&session, torrent, len, false)) != BTCHECK_OK; blocks++) {
     CHECK(status == BTCHECK_NO_MEMORY || status == BTCHECK_TORRENT_NO_MEMORY);
@@ -91,8 +102,17 @@ int main(int argc, char **argv) {
   }
   CHECK(of_torrent > 0 && of_session > 0);
 
-  WANT(WITH(0, btcheck_check_new(&check, &session, 0)), BTCHECK_NO_MEMORY);
-  WANT(btcheck_check_push(&check, hashes[0], 1), BTCHECK_WRONG_HANDLE);
+  for (long blocks = 0; WITH(blocks, btcheck_check_new(&check, &session, 0)) != BTCHECK_OK; blocks++, refused++) {
+    WANT(status, BTCHECK_NO_MEMORY);
+    WANT(btcheck_check_push(&check, hashes[0], 1), BTCHECK_WRONG_HANDLE);
+  }
+  CHECK(refused == 2);
+  refused = 0;
+  WANT(WITH(0, btcheck_check_new_pieces(&check, &session, 0, 0, 1)), BTCHECK_WRONG_HANDLE);
+  WANT(WITH(0, btcheck_check_push(&check, hashes[0], 1)), BTCHECK_OK);
+  WANT(WITH(0, btcheck_check_finish_bits(&check, &known, room[0], 1)), BTCHECK_TOO_SHORT);
+  known = 0;
+  btcheck_check_free(&check);
 
   WANT_EACH(btcheck_session_take_hashes(&session, ask.root, 0, 0, 8, 0, given, 8, &count), BTCHECK_H7_NO_MEMORY);
   CHECK(count == 14);

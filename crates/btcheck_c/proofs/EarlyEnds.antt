@@ -6,7 +6,7 @@ use Rattle.std.proofs.lemmas.Bool.{cases_lt}
 use Rattle.std.proofs.lemmas.List.{get_or_past}
 use Rattle.std.proofs.lemmas.Nat.Bits.{bit_at-zero}
 use Rattle.hashtree.specs.Bits.{AreClear, bit_of}
-use Rattle.hashtree.specs.PieceCheck.{IsFedRow}
+use Rattle.short_pushes.specs.RowChecks as rows
 use Rattle.btcheck_c.specs.FileChecks.{IsShortFile, bytes_left}
 use Rattle.btcheck_c.specs.declared.file_check.FileCheck.{FileCheck}
 use Rattle.btcheck_c.proofs.FilePieces.{one_node}
@@ -33,11 +33,13 @@ too_long n shape layer k less few le =
 
 -- pieces that are cut: the bits tell which of them are whole and good, and the only one of a file is not there
 pub short_of : (c : FileCheck) (marked good : List ℕ) → 0 < bytes_left c
-    → ((content : List ℕ) → IsFedRow c.check marked content → AreMarkedWhole good c.hashes.now c.layer content) → IsShortFile c marked good
+    → ((content : List ℕ) → rows.IsGivenRow c.check marked content → AreMarkedWhole good (rows.given_hashes c.check) (rows.chosen_layer c.check) content)
+    → IsShortFile c marked good
 short_of c marked good some bits = λ p e from to content a given.
-    let less : length content < c.shape = omega (arith, some, given.fed.at.length_is) in record {
+    let shape = rows.chosen_shape c.check in let layer = rows.chosen_layer c.check in
+    let less : length content < shape = omega (arith, some, given.length_is) in record {
       short = omega (arith, less, a.size);
       one = λ short. clear_of good (λ k lt is.
-          too_long (length content) c.shape c.layer k less (one_node c.shape c.layer (sym c.whole ∙ (a.one short).1)) ((bits content given k lt).0 is).0);
+          too_long (length content) shape layer k less (one_node shape layer (sym c.check.whole ∙ (a.one short).1)) ((bits content given k lt).0 is).0);
       many = λ longer. subst₂ (λ l h. AreMarkedWhole good h l content) a.layer (a.many longer).hashes (bits content given);
     }

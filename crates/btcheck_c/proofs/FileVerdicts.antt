@@ -8,48 +8,43 @@ use Rattle.std.proofs.lemmas.Option.{none-some, same_Some, slice_get_past}
 use Rattle.hashtree.specs.Bits.{bit_of}
 use Rattle.hashtree.specs.Difference.{IsComparison, IsFirstDifference}
 use Rattle.hashtree.specs.Judging.{IsJudgedRow}
-use Rattle.hashtree.specs.PieceCheck.{BeginsRow, IsFedRow}
-use Rattle.hashtree.specs.PieceCheck as pieces
 use Rattle.hashtree.specs.Pieces.{piece_nodes}
 use Rattle.hashtree.specs.Tree.{block_count, first_pad, height, root_of}
-use Rattle.hashtree.specs.declared.piece_check.PieceCheck.{PieceCheck}
 use Rattle.hashtree.proofs.Complete.{length-complete_nodes}
 use Rattle.hashtree.proofs.Marking.{length-piece_nodes}
 use Rattle.hashtree.proofs.PieceNodes.{layer_is_pieces}
 use Rattle.opening.specs.Description.{TreeEntry}
 use Rattle.opening.specs.PieceLayers.{piece_layer}
-use Rattle.btcheck_c.specs.FileChecks.{BeginsAnew, IsAgainst, IsFileVerdict, IsFirstFrom, IsRootVerdict, IsSameRow}
+use Rattle.short_pushes.specs.RowChecks as rows
+use Rattle.short_pushes.specs.declared.row_check.RowCheck.{RowCheck}
+use Rattle.btcheck_c.specs.FileChecks.{BeginsAnew, IsAgainst, IsFileVerdict, IsFirstFrom, IsRootVerdict}
 use Rattle.btcheck_c.specs.FileChecks.{bytes_left, row_length}
 use Rattle.btcheck_c.specs.declared.file_check.FileCheck.{FileCheck}
 use Rattle.btcheck_c.proofs.FilePieces.{layer_inside, not_complete, one_node, one_whole, only_piece, range_whole, some_length, whole_file}
 
 -- ---- beginning anew
 
--- the same pieces are compared with the same hashes
-against_as : (p : ℕ) (e : TreeEntry) (from to : ℕ) (c d : FileCheck) → IsSameRow c d → IsAgainst p e from to c → IsAgainst p e from to d
-against_as p e from to c d same a = record {
-  order = a.order;
-  within = a.within;
-  first = same.first ∙ a.first;
-  size = same.shape ∙ a.size;
-  layer = same.layer ∙ a.layer;
-  one = λ short. let o = a.one short in (same.root ∙ o.0, ap length same.hashes ∙ o.1);
-  many = λ longer. let m = a.many longer in record { root = same.root ∙ m.root; listed = m.listed; hashes = same.hashes ∙ m.hashes };
-}
-
 -- the same pieces, and nothing was given yet
-pub anew : (c d : FileCheck) (fresh : PieceCheck) → d.check ≡ fresh → BeginsRow c.shape c.layer c.hashes.now fresh → IsSameRow c d → BeginsAnew c d
-anew c d fresh made begun same = λ p e from to a. record {
-  against = against_as p e from to c d same a;
-  count = ap pieces.byte_count made ∙ begun.count;
-  given = λ good clear. subst (λ k. IsFedRow k good []) (sym made) (begun.fed good clear);
+pub anew : (c d : FileCheck) → d.first ≡ c.first → d.root ≡ c.root → rows.BeginsAnew c.check d.check → BeginsAnew c d
+anew c d first root begun = λ p e from to a. record {
+  against = record {
+    order = a.order;
+    within = a.within;
+    first = first ∙ a.first;
+    size = begun.shape_is ∙ a.size;
+    layer = begun.layer_is ∙ a.layer;
+    one = λ short. let o = a.one short in (root ∙ o.0, ap length begun.hashes_are ∙ o.1);
+    many = λ longer. let m = a.many longer in record { root = root ∙ m.root; listed = m.listed; hashes = begun.hashes_are ∙ m.hashes };
+  };
+  count = begun.count;
+  given = begun.given;
 }
 
 -- ---- the end
 
 -- nothing is still to come
-pub whole_of : (c : FileCheck) → bytes_left c ≡ 0 → pieces.byte_count c.check ≡ c.shape
-whole_of c none = let given : pieces.byte_count c.check ≤ c.shape = c.given in omega (arith, none, given)
+pub whole_of : (c : FileCheck) → bytes_left c ≡ 0 → rows.byte_count c.check ≡ rows.chosen_shape c.check
+whole_of c none = let given : rows.byte_count c.check ≤ rows.chosen_shape c.check = c.check.given in omega (arith, none, given)
 
 -- a check by a root is of the only piece of a file, and any other is of a longer file
 by_which : (p : ℕ) (e : TreeEntry) (from to : ℕ) (c : FileCheck) (r : List ℕ) → IsAgainst p e from to c → c.root ≡ Some r → (e.length ≤ p) × (r ≡ e.root)
@@ -62,29 +57,37 @@ is_longer : (p : ℕ) (e : TreeEntry) (from to : ℕ) (c : FileCheck) → IsAgai
 is_longer p e from to c a is = elim (cases_lt p e.length) [ inl longer ↦ longer | inr short ↦ absurd (none-some e.root (sym is ∙ (a.one short).0)) ]
 
 -- no bit is set before the end of an only piece
-none_marked : (c : FileCheck) (marked content : List ℕ) → length c.hashes.now ≡ 1 → length content ≤ c.shape → IsFedRow c.check marked content
-    → (k : ℕ) → k < 8 * length marked → bit_of marked k ≡ 1 → ⊥
+none_marked : (c : FileCheck) (marked content : List ℕ) → length (rows.given_hashes c.check) ≡ 1 → length content ≤ rows.chosen_shape c.check
+    → rows.IsGivenRow c.check marked content → (k : ℕ) → k < 8 * length marked → bit_of marked k ≡ 1 → ⊥
 none_marked c marked content lone few given k lt is =
-    let one : c.shape ≤ 16384 * 2 ^ c.layer = one_node c.shape c.layer (sym c.whole ∙ lone) in
+    let layer = rows.chosen_layer c.check in
+    let one : rows.chosen_shape c.check ≤ 16384 * 2 ^ layer = one_node (rows.chosen_shape c.check) layer (sym c.check.whole ∙ lone) in
     let at = ((given.marked k lt).0 is).0 in
-    let count = length-complete_nodes content (pieces.chosen_layer c.check) in
-    not_complete (length content) (pieces.chosen_layer c.check) k
-    (subst (λ l. length content ≤ 16384 * 2 ^ l) (sym c.layer_is) (omega (arith, one, few))) (omega (arith, at, count))
+    not_complete (length content) layer k (omega (arith, one, few)) (omega (arith, at, length-complete_nodes content layer))
+
+-- the same content, without marks
+unmarked : (c : RowCheck) (marked content : List ℕ) → rows.IsGivenRow c marked content → rows.IsGivenRow c [] content
+unmarked c marked content g = record {
+  length_is = g.length_is;
+  taken = g.taken;
+  content_is = g.content_is;
+  fed = g.fed;
+  marked = λ k lt. absurd (omega (arith, lt));
+}
 
 -- what the root says of the only piece is the verdict
-pub by_root : (c : FileCheck) (r : List ℕ) (ended : PieceCheck) (n : ℕ) (root lent marked good : List ℕ) (place bad : Option ℕ) → c.root ≡ Some r
-    → bytes_left c ≡ 0 → ended ≡ c.check
-    → ((content : List ℕ) → IsFedRow ended [] content → (n ≡ length content) × (root ≡ root_of content)
-    × IsJudgedRow (pieces.chosen_layer ended) (pieces.given_hashes ended) content lent place)
+pub by_root : (c : FileCheck) (r : List ℕ) (n : ℕ) (root lent marked good : List ℕ) (place bad : Option ℕ) → c.root ≡ Some r
+    → bytes_left c ≡ 0
+    → ((content : List ℕ) → rows.IsGivenRow c.check [] content → (n ≡ length content) × (root ≡ root_of content)
+    × IsJudgedRow (rows.chosen_layer c.check) (rows.given_hashes c.check) content lent place)
     → ((e : TreeEntry) (content : List ℕ) → r ≡ e.root → root ≡ root_of content → IsRootVerdict e content bad)
     → (((k : ℕ) → k < 8 * length marked → bit_of marked k ≡ 1 → ⊥) → (k : ℕ) → k < 8 * length good → (bit_of good k ≡ 1) ↔ ((k ≡ 0) × (root ≡ r)))
     → IsFileVerdict c marked good bad
-by_root c r ended n root lent marked good place bad is none same ends judged bits = λ p e from to content a given.
+by_root c r n root lent marked good place bad is none ends judged bits = λ p e from to content a given.
     let which = by_which p e from to c r a is in let short : e.length ≤ p = which.0 in
     let lone = only_piece p e.length from to (some_length p e.length (omega (arith, a.order, a.within))) short a.order a.within in
-    let fed : IsFedRow c.check [] content = record { fed = given.fed; whole = given.whole; nodes = given.nodes; marked = λ k lt. absurd (omega (arith, lt)) } in
-    let end = ends content (subst (λ k. IsFedRow k [] content) (sym same) fed) in
-    let size : length content ≡ c.shape = sym given.fed.at.length_is ∙ whole_of c none in
+    let end = ends content (unmarked c.check marked content given) in
+    let size : length content ≡ rows.chosen_shape c.check = sym given.length_is ∙ whole_of c none in
     let all : row_length p e.length from to ≡ e.length =
     subst₂ (λ x y. row_length p e.length x y ≡ e.length) (sym lone.0) (sym lone.1) (one_whole p e.length short) in
     let blank = none_marked c marked content (a.one short).1 (omega (arith, size)) given in
@@ -103,14 +106,14 @@ by_root c r ended n root lent marked good place bad is none same ends judged bit
     }
 
 -- the root is the tree's, and the first bit is set
-pub good_root : (c : FileCheck) (r : List ℕ) (ended : PieceCheck) (n : ℕ) (root lent marked good : List ℕ) (place : Option ℕ) → c.root ≡ Some r
-    → bytes_left c ≡ 0 → ended ≡ c.check
-    → ((content : List ℕ) → IsFedRow ended [] content → (n ≡ length content) × (root ≡ root_of content)
-    × IsJudgedRow (pieces.chosen_layer ended) (pieces.given_hashes ended) content lent place)
+pub good_root : (c : FileCheck) (r : List ℕ) (n : ℕ) (root lent marked good : List ℕ) (place : Option ℕ) → c.root ≡ Some r
+    → bytes_left c ≡ 0
+    → ((content : List ℕ) → rows.IsGivenRow c.check [] content → (n ≡ length content) × (root ≡ root_of content)
+    × IsJudgedRow (rows.chosen_layer c.check) (rows.given_hashes c.check) content lent place)
     → root ≡ r → length good ≡ length marked → (0 < length marked → bit_of good 0 ≡ 1) → ((k : ℕ) → k ≢ 0 → bit_of good k ≡ bit_of marked k)
     → IsFileVerdict c marked good None
-good_root c r ended n root lent marked good place is none same ends equal size set others =
-    by_root c r ended n root lent marked good place None is none same ends (λ e content trees found. sym found ∙ equal ∙ trees)
+good_root c r n root lent marked good place is none ends equal size set others =
+    by_root c r n root lent marked good place None is none ends (λ e content trees found. sym found ∙ equal ∙ trees)
     (λ blank k lt. elim (cases_lt 0 k) [
       | inl more ↦ (
         λ i. absurd (blank k (omega (arith, lt, size)) (sym (others k (λ zero. absurd (omega (arith, more, zero)))) ∙ i)),
@@ -124,12 +127,11 @@ good_root c r ended n root lent marked good place is none same ends equal size s
     ])
 
 -- it is another, and the bits stay
-pub bad_root : (c : FileCheck) (r : List ℕ) (ended : PieceCheck) (n : ℕ) (root lent good : List ℕ) (place : Option ℕ) → c.root ≡ Some r → bytes_left c ≡ 0
-    → ended ≡ c.check
-    → ((content : List ℕ) → IsFedRow ended [] content → (n ≡ length content) × (root ≡ root_of content)
-    × IsJudgedRow (pieces.chosen_layer ended) (pieces.given_hashes ended) content lent place)
+pub bad_root : (c : FileCheck) (r : List ℕ) (n : ℕ) (root lent good : List ℕ) (place : Option ℕ) → c.root ≡ Some r → bytes_left c ≡ 0
+    → ((content : List ℕ) → rows.IsGivenRow c.check [] content → (n ≡ length content) × (root ≡ root_of content)
+    × IsJudgedRow (rows.chosen_layer c.check) (rows.given_hashes c.check) content lent place)
     → root ≢ r → IsFileVerdict c good good (Some 0)
-bad_root c r ended n root lent good place is none same ends differs = by_root c r ended n root lent good good place (Some 0) is none same ends
+bad_root c r n root lent good place is none ends differs = by_root c r n root lent good good place (Some 0) is none ends
     (λ e content trees found. (refl, λ equal. differs (found ∙ equal ∙ sym trees)))
     (λ blank k lt. (λ i. absurd (blank k lt i), λ i. absurd (differs i.1)))
 
@@ -156,22 +158,20 @@ comparison_from nodes hashes (Some i) found =
     subst (IsFirstDifference nodes hashes) same found.2
 
 -- what the nodes say of pieces of a longer file is the verdict
-pub by_layer : (c : FileCheck) (ended : PieceCheck) (n : ℕ) (root marked good : List ℕ) (place bad : Option ℕ) → c.root ≡ None → bytes_left c ≡ 0
-    → ended ≡ c.check
-    → ((content : List ℕ) → IsFedRow ended marked content → (n ≡ length content) × (root ≡ root_of content)
-    × IsJudgedRow (pieces.chosen_layer ended) (pieces.given_hashes ended) content good place)
+pub by_layer : (c : FileCheck) (n : ℕ) (root marked good : List ℕ) (place bad : Option ℕ) → c.root ≡ None → bytes_left c ≡ 0
+    → ((content : List ℕ) → rows.IsGivenRow c.check marked content → (n ≡ length content) × (root ≡ root_of content)
+    × IsJudgedRow (rows.chosen_layer c.check) (rows.given_hashes c.check) content good place)
     → bad ≡ option_map (λ k. min (c.first + k) (2 ^ 64 - 1)) place → IsFileVerdict c marked good bad
-by_layer c ended n root marked good place bad is none same ends numbered = λ p e from to content a given.
+by_layer c n root marked good place bad is none ends numbered = λ p e from to content a given.
     let longer : p < e.length = is_longer p e from to c a is in let m = a.many longer in
     let hashes : List (List ℕ) = slice_range e.layer from to in
     let layer : ℕ = piece_layer p in
-    let layer_is : pieces.chosen_layer ended ≡ layer = ap pieces.chosen_layer same ∙ c.layer_is ∙ a.layer in
-    let hashes_are : pieces.given_hashes ended ≡ hashes = ap pieces.given_hashes same ∙ c.hashes_are ∙ m.hashes in
-    let found : IsJudgedRow layer hashes content good place = subst₂ (λ l h. IsJudgedRow l h content good place) layer_is hashes_are
-    (ends content (subst (λ k. IsFedRow k marked content) (sym same) given)).2 in
-    let size : length content ≡ c.shape = sym given.fed.at.length_is ∙ whole_of c none in
+    let found : IsJudgedRow layer hashes content good place =
+    subst₂ (λ l h. IsJudgedRow l h content good place) a.layer m.hashes (ends content given).2 in
+    let size : length content ≡ rows.chosen_shape c.check = sym given.length_is ∙ whole_of c none in
     let count : length (piece_nodes layer content) ≡ length hashes = length-piece_nodes layer content
-    ∙ ap (λ k. first_pad (block_count k) layer) size ∙ ap (first_pad (block_count c.shape)) (sym a.layer) ∙ sym c.whole ∙ ap length m.hashes in
+    ∙ ap (λ k. first_pad (block_count k) layer) size ∙ ap (first_pad (block_count (rows.chosen_shape c.check))) (sym a.layer) ∙ sym c.check.whole
+    ∙ ap length m.hashes in
     let compared : IsComparison (piece_nodes layer content) hashes place = subst (λ h. IsComparison (piece_nodes layer content) h place)
     (take_all (length (piece_nodes layer content)) hashes (omega (arith, count))) found.compared in
     let first : IsFirstFrom from (piece_nodes layer content) hashes bad = first_from c.first from (piece_nodes layer content) hashes place bad a.first

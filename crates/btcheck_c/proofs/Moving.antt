@@ -13,8 +13,8 @@ use Rattle.pieces.proofs.v1_feed.V1.TheSendSync as version1
 use Rattle.pieces.proofs.piece_length.PieceLength.TheSendSync as piece_length
 use Rattle.node_maps.proofs.paged.Paged.TheSendSync as paged
 use Rattle.session.proofs.pausing.Paused.TheSendSync as paused
-use Rattle.hashtree.proofs.piece_check.PieceCheck.TheSendSync as piece_check
-use Rattle.hashtree.proofs.root.RootBuilder.TheSendSync as builder
+use Rattle.short_pushes.proofs.row_check.RowCheck.TheSendSync as row_check
+use Rattle.short_pushes.proofs.file_root.FileRoot.TheSendSync as root
 use Rattle.hashtree.proofs.shape.Shape.TheSendSync as shape
 use Rattle.holdings.proofs.holdings.Holdings.TheSendSync as holdings
 use Rattle.owned_sessions.specs.contracts.owned_session.OwnedSession as OwnedSession
@@ -37,13 +37,13 @@ session : IsSend OwnedSession.the_row
 session = search (torrent, paused.the_send, paged.the_send, sendable) depth 30 fits 100000
 
 check : IsSend FileCheck.the_row
-check = search (piece_check.the_field_send, shape.the_send, declared_send, as_row_send, sendable) depth 30 fits 100000
+check = search (row_check.the_field_send, declared_send, as_row_send, sendable) depth 30 fits 100000
 
 held : IsSend Held.the_row
 held = search (holdings.the_send, declared_send, as_row_send, sendable) depth 30 fits 100000
 
 kind : IsSend Kind.the_row
-kind = search (session, builder.the_field_send, check, held, variants_send, as_row_send, sendable) depth 30 fits 100000
+kind = search (session, root.the_field_send, check, held, variants_send, as_row_send, sendable) depth 30 fits 100000
 
 pub thing : IsSend Thing.the_row
 thing = search (kind, declared_send, sendable) depth 30 fits 100000

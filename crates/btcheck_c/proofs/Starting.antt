@@ -1,13 +1,18 @@
 -- The beginning of the check of a file.
-use Rattle.std.proofs.Common.{◌≡◌, ℕ, ◌<◌, List, length, map, get_or, Option, Some, None, Result, Err, refl, sym, ap, subst, arith}
+use Rattle.std.proofs.Common.{◌≡◌, ℕ, ◌<◌, List, length, map, get_or, Option, Some, None, Result, Ok, Err, IfOk, refl, sym, ap, subst, inr, arith}
 use Rattle.std.specs.Prelude.{slice_get}
 use Rattle.std.proofs.lemmas.List.{length-map}
 use Rattle.std.proofs.lemmas.Option.{none-some, slice_get-get_or, slice_get_within}
-use Rattle.opening.specs.Description.{Description, FileEntry}
+use Rattle.std.specs.Result.{MatchResult}
+use Rattle.opening.specs.Description.{Description, FileEntry, TreeEntry}
 use Rattle.opening.specs.Seen.{tree_entry}
 use Rattle.opening.specs.Sound.{IsSound, IsSoundFile, IsSoundTree}
 use Rattle.opening.specs.declared.torrent.TreeInfo.{TreeInfo}
 use Rattle.owned_sessions.proofs.Trees.{tree_at}
+use Rattle.pieces.specs.Pieces.{pieces_of}
+use Rattle.btcheck_c.specs.CheckCalls.{ChecksFile, ChecksPieces, HasPieces, IsFileTree}
+use Rattle.btcheck_c.specs.FileChecks.{BeginsFile}
+use Rattle.btcheck_c.specs.declared.file_check.FileCheck.{FileCheck}
 use Rattle.btcheck_c.specs.Holds.{Kept, Started}
 use Rattle.btcheck_c.specs.declared.thing.Kind.{Kind}
 use Rattle.btcheck_c.specs.declared.thing.Thing.{Thing}
@@ -42,3 +47,16 @@ pub info_sound : (d : Description) (infos : List TreeInfo) (n p : ℕ) (x : Tree
     → p ≡ d.piece_length → IsSoundTree p (tree_entry (get_or infos n x))
 info_sound d infos n p x are inside sound same =
     subst (λ q. IsSoundTree q (tree_entry (get_or infos n x))) (sym same) (sound.trees n _ (info_there d infos n x are inside))
+
+-- a check that was begun, or memory for it was refused
+pub begun_or : {E : Type 0} (d : Description) (n : ℕ) (e : TreeEntry) (made : Result FileCheck E) (result : Result FileCheck ℕ) → IsFileTree d n e
+    → MatchResult made (λ c. result ≡ Ok c) (λ _. result ≡ Err 2) → IfOk made (BeginsFile d.piece_length e 0 (pieces_of d.piece_length e.length))
+    → ChecksFile d n result
+begun_or d n e (Ok c) result tree is begins = subst (ChecksFile d n) (sym is) (e, tree, begins)
+begun_or d n e (Err x) result tree is begins = subst (ChecksFile d n) (sym is) (inr (refl, (e, tree)))
+
+pub pieces_or : {E : Type 0} (d : Description) (n from to : ℕ) (e : TreeEntry) (made : Result FileCheck E) (result : Result FileCheck ℕ)
+    → IsFileTree d n e → HasPieces d e from to → MatchResult made (λ c. result ≡ Ok c) (λ _. result ≡ Err 2)
+    → IfOk made (BeginsFile d.piece_length e from to) → ChecksPieces d n from to result
+pieces_or d n from to e (Ok c) result tree has is begins = subst (ChecksPieces d n from to) (sym is) (e, tree, has, begins)
+pieces_or d n from to e (Err x) result tree has is begins = subst (ChecksPieces d n from to) (sym is) (inr (inr (refl, (e, tree, has))))

@@ -1,6 +1,7 @@
 -- A call through a handle.
 use Rattle.std.proofs.Common.{◌≡◌, ℕ, Bool, false, Option, Some, None, refl, sym, inl, inr, ◌∙◌, subst, is_some}
 use Rattle.std.proofs.lemmas.Bool.{false≢true}
+use Rattle.std.proofs.lemmas.Option.{none-some}
 use Rattle.btcheck_c.specs.declared.thing.Thing.{Thing}
 use Rattle.btcheck_c.specs.declared.thing.Kind.{Kind}
 use Rattle.btcheck_c.specs.Holds.{Fills, IsFilled, Through, ThroughBoth}
@@ -23,6 +24,11 @@ filled P k o o' status free (inl p) there refused =
     subst (λ w. Fills P w status o') (sym free) (subst (λ n. P n o') (sym p.0) (there p.1))
 filled P k o o' status free (inr p) there refused =
     subst (λ w. Fills P w status o') (sym free) (subst (λ n. P n o') (sym p.0) (refused (p.1 ∙ free)))
+
+-- nothing was made for a handle that holds nothing, and it stays so
+pub unfilled : (P : ℕ → Option Thing → Type 0) (o : Option Thing) (status : ℕ) → o ≡ None → (o ≡ None → P status o) → Fills P o status o
+unfilled P None status free p = p refl
+unfilled P (Some t) status free p = absurd (none-some t (sym free))
 
 -- the first handle holds nothing, and the other one was not touched
 pub both_none : (P : Kind → Kind → ℕ → Kind → Kind → Type 0) (o o' q : Option Thing) → None ≡ o → o' ≡ None → ThroughBoth P o q 1 o' q

@@ -35,23 +35,28 @@ FindsTree d n (Ok tree) = IsFileTree d n (tree_entry tree.now)
     × IsSoundTree d.piece_length (tree_entry tree.now)
 FindsTree d n (Err status) = HasNoTree d n status
 
+-- file n has a tree, but memory for its check was refused
+abbrev pub HasNoRoom : Description → ℕ → ℕ → Type 0
+HasNoRoom d n status = (status ≡ 2) × ((e : TreeEntry) × IsFileTree d n e)
+
 -- a check of file n that was given nothing; or there is none
 abbrev pub ChecksFile : Description → ℕ → Result FileCheck ℕ → Type 0
 ChecksFile d n (Ok c) = (e : TreeEntry) × IsFileTree d n e
     × BeginsFile d.piece_length e 0 (pieces_of d.piece_length e.length) c
-ChecksFile d n (Err status) = HasNoTree d n status
+ChecksFile d n (Err status) = HasNoTree d n status ⊎ HasNoRoom d n status
 
 -- the file has these pieces, from one number up to another, at least one
 abbrev pub HasPieces : Description → TreeEntry → ℕ → ℕ → Type 0
 HasPieces d e from to = (from < to) × (to ≤ pieces_of d.piece_length e.length)
 
 -- a check of these pieces of file n that was given nothing; or there is none, or it has not these
--- pieces
+-- pieces, or it has them, but memory for the check was refused
 abbrev pub ChecksPieces : Description → ℕ → ℕ → ℕ → Result FileCheck ℕ → Type 0
 ChecksPieces d n from to (Ok c) = (e : TreeEntry) × IsFileTree d n e × HasPieces d e from to
     × BeginsFile d.piece_length e from to c
 ChecksPieces d n from to (Err status) = HasNoTree d n status
-    ⊎ ((status ≡ 5) × ((e : TreeEntry) × IsFileTree d n e × ¬ HasPieces d e from to))
+    ⊎ (((status ≡ 5) × ((e : TreeEntry) × IsFileTree d n e × ¬ HasPieces d e from to))
+    ⊎ ((status ≡ 2) × ((e : TreeEntry) × IsFileTree d n e × HasPieces d e from to)))
 
 -- so the session's torrent has it, and the session stays as it is
 abbrev pub StartsCheck : ℕ → Kind → Result FileCheck ℕ → Kind → Type 0

@@ -4,23 +4,22 @@ use Rattle.std.specs.Prelude.{◌≡◌, ◌≢◌, ◌↔◌, ℕ, ◌+◌, ◌
 use Rattle.std.specs.Prelude.{slice_range, Option, Some, None, MatchOption}
 use Rattle.hashtree.specs.Bits.{AreClear, AreMarked, bit_of}
 use Rattle.hashtree.specs.Difference.{IsComparison, IsFirstDifference}
-use Rattle.hashtree.specs.PieceCheck.{IsFedRow}
-use Rattle.hashtree.specs.PieceCheck as pieces
 use Rattle.hashtree.specs.Pieces.{piece_nodes}
 use Rattle.hashtree.specs.Tree.{layer_of, root_of}
 use Rattle.opening.specs.Description.{TreeEntry}
 use Rattle.opening.specs.PieceLayers.{piece_layer}
 use Rattle.piece_marks.specs.Marks.{AreMarkedWhole}
 use Rattle.pieces.specs.Pieces.{pieces_of}
+use Rattle.short_pushes.specs.RowChecks as rows
 use Rattle.btcheck_c.specs.declared.file_check.FileCheck.{FileCheck}
 
 -- how many bytes the check was given
 abbrev pub bytes_given : FileCheck → ℕ
-bytes_given c = pieces.byte_count c.check
+bytes_given c = rows.byte_count c.check
 
 -- how many bytes are still to come
 abbrev pub bytes_left : FileCheck → ℕ
-bytes_left c = c.shape - bytes_given c
+bytes_left c = rows.chosen_shape c.check - bytes_given c
 
 -- how many bytes the pieces from one number up to another have, of a file of n bytes
 abbrev pub row_length : ℕ → ℕ → ℕ → ℕ → ℕ
@@ -28,18 +27,18 @@ row_length piece_length n from to = min (piece_length * to) n - piece_length * f
 
 -- the check was given this content, and these bits tell which of its pieces are complete and good
 abbrev pub IsGiven : FileCheck → List ℕ → List ℕ → Type 0
-IsGiven c good content = IsFedRow c.check good content
+IsGiven c good content = rows.IsGivenRow c.check good content
 
 -- the check compares with this root the one piece of the row, whose hash it does not look at
 abbrev pub IsByRoot : TreeEntry → FileCheck → Type 0
-IsByRoot e c = (c.root ≡ Some e.root) × (length c.hashes.now ≡ 1)
+IsByRoot e c = (c.root ≡ Some e.root) × (length (rows.given_hashes c.check) ≡ 1)
 
 -- the check compares these pieces of a file with their hashes in the piece layer
 pub record IsByLayer (piece_length : ℕ) (e : TreeEntry) (from to : ℕ) (c : FileCheck)
     : Type 0 where
   pub root : c.root ≡ None
   pub listed : length e.layer ≡ pieces_of piece_length e.length
-  pub hashes : c.hashes.now ≡ slice_range e.layer from to
+  pub hashes : rows.given_hashes c.check ≡ slice_range e.layer from to
 
 -- the check compares these pieces of a file with this tree, of a torrent with this piece length:
 -- the only one by its root, else each by its node
@@ -48,18 +47,10 @@ pub record IsAgainst (piece_length : ℕ) (e : TreeEntry) (from to : ℕ) (c : F
   pub order : from < to
   pub within : to ≤ pieces_of piece_length e.length
   pub first : c.first ≡ from
-  pub size : c.shape ≡ row_length piece_length e.length from to
-  pub layer : c.layer ≡ piece_layer piece_length
+  pub size : rows.chosen_shape c.check ≡ row_length piece_length e.length from to
+  pub layer : rows.chosen_layer c.check ≡ piece_layer piece_length
   pub one : e.length ≤ piece_length → IsByRoot e c
   pub many : piece_length < e.length → IsByLayer piece_length e from to c
-
--- another check is of the same pieces
-pub record IsSameRow (old new : FileCheck) : Type 0 where
-  pub first : new.first ≡ old.first
-  pub shape : new.shape ≡ old.shape
-  pub layer : new.layer ≡ old.layer
-  pub hashes : new.hashes.now ≡ old.hashes.now
-  pub root : new.root ≡ old.root
 
 -- nothing was given yet to the check of these pieces of a file with this tree
 pub record BeginsFile (piece_length : ℕ) (e : TreeEntry) (from to : ℕ) (c : FileCheck)

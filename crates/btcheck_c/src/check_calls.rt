@@ -12,21 +12,27 @@ use crate::thing::{Kind, Thing};
 use c_layouts::status::{BAD_PIECE, DONE, TOO_LONG, TOO_SHORT, WRONG_HANDLE};
 use std::alloc::Global;
 
-fn start_check(thing: &mut Thing, number: usize) -> Result<FileCheck, u32>
+fn start_check(alloc: Global, thing: &mut Thing, number: usize) -> Result<FileCheck, u32>
     ensures { StartsCheck number thing.old.kind result thing.new.kind }
 {
     match &mut thing.kind {
         Kind::Root(_) | Kind::Check(_) | Kind::Holdings(_) => Err(WRONG_HANDLE),
-        Kind::Session(session) => begun(session.torrent(), number),
+        Kind::Session(session) => begun(alloc, session.torrent(), number),
     }
 }
 
-fn start_pieces(thing: &mut Thing, number: usize, from: u64, to: u64) -> Result<FileCheck, u32>
+fn start_pieces(
+    alloc: Global,
+    thing: &mut Thing,
+    number: usize,
+    from: u64,
+    to: u64,
+) -> Result<FileCheck, u32>
     ensures { StartsPieces number from to thing.old.kind result thing.new.kind }
 {
     match &mut thing.kind {
         Kind::Root(_) | Kind::Check(_) | Kind::Holdings(_) => Err(WRONG_HANDLE),
-        Kind::Session(session) => pieces_check_of(session.torrent(), number, from, to),
+        Kind::Session(session) => pieces_check_of(alloc, session.torrent(), number, from, to),
     }
 }
 
@@ -93,8 +99,9 @@ fn write_piece(bad: Option<u64>, piece: &mut u64) -> u32
     }
 }
 
-/// Begins the check of a file of a session's torrent in an empty handle. The torrent's bytes must
-/// stay as they are until this handle is freed too. Status 1: the handle is full, or the other one
+/// Begins the check of a file of a session's torrent in an empty handle, with room for the bytes of
+/// short pushes: no later call takes memory. The torrent's bytes must stay as they are until this
+/// handle is freed too. Status 1: the handle is full, or the other one
 /// holds no session. Status 2: memory was refused. Status 4: the file is empty, and has no root.
 /// Status 5: there is no such file. Then the handle is as before. The session is as before always.
 #[unsafe(no_mangle)]
@@ -113,7 +120,7 @@ pub extern "C" fn btcheck_check_new(
     let Some(mut thing) = session.take(alloc) else {
         return WRONG_HANDLE;
     };
-    let started = start_check(&mut thing, number);
+    let started = start_check(alloc, &mut thing, number);
     session.put(thing);
     match started {
         Err(status) => status,
@@ -142,7 +149,7 @@ pub extern "C" fn btcheck_check_new_pieces(
     let Some(mut thing) = session.take(alloc) else {
         return WRONG_HANDLE;
     };
-    let started = start_pieces(&mut thing, number, from, to);
+    let started = start_pieces(alloc, &mut thing, number, from, to);
     session.put(thing);
     match started {
         Err(status) => status,

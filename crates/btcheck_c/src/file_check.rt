@@ -1,75 +1,64 @@
 //! The check of some of a file's pieces in a row, whose bytes come in parts of any size.
 
-ghost use Rattle.std.specs.Prelude.{◌≡◌, ◌^◌, ◌<◌, ◌≤◌, ◌+◌, length};
-ghost use Rattle.hashtree.specs.PieceCheck as compared;
-ghost use Rattle.hashtree.specs.Tree.{block_count, first_pad};
+ghost use Rattle.std.specs.Prelude.{◌≡◌, ◌^◌, ◌<◌, ◌≤◌, ◌+◌, IfOk, length};
 ghost use Rattle.opening.specs.Seen.{tree_entry};
 ghost use Rattle.opening.specs.Sound.{IsSoundTree};
 ghost use Rattle.pieces.specs.Pieces.{pieces_of};
+ghost use Rattle.short_pushes.specs.RowChecks as rows;
 
 use crate::rows::{numbered, only_root, row_hashes, row_length, set_first};
-use hashtree::{Hash, PieceCheck, Shape};
+use hashtree::{Hash, NoMemory, Shape};
 use opening::TreeInfo;
 use piece_marks::ends_with_piece;
 use pieces::PieceLength;
-use std::mem::replace;
+use short_pushes::RowCheck;
+use std::alloc::Global;
 
 /// The check of some of a file's pieces in a row. Each is compared with its hash in the piece
 /// layer; the only piece of a file is compared by its root, which lies in no slice that lives as
-/// long as the torrent's bytes. It takes no memory.
+/// long as the torrent's bytes. Only [`FileCheck::new`] takes memory.
 #[derive(Drop)]
 pub struct FileCheck {
-    check: PieceCheck<'static>,
+    check: RowCheck<'static>,
     first: u64,
-    shape: Shape,
-    layer: u32,
-    hashes: &'static [Hash],
     root: Option<Hash>,
-    ghost some: { 0 < shape },
-    ghost low: { layer ≤ 32 },
-    ghost few: { first + length hashes.now ≤ 2 ^ 47 },
-    ghost whole: { length hashes.now ≡ first_pad (block_count shape) layer },
-    ghost shape_is: { compared.chosen_shape check ≡ shape },
-    ghost layer_is: { compared.chosen_layer check ≡ layer },
-    ghost hashes_are: { compared.given_hashes check ≡ hashes.now },
-    ghost given: { compared.byte_count check ≤ shape },
+    ghost some: { 0 < rows.chosen_shape check },
+    ghost few: { first + length (rows.given_hashes check) ≤ 2 ^ 47 },
 }
 
 impl FileCheck {
-    ghost use Rattle.btcheck_c.specs.FileChecks.{BeginsAnew, BeginsFile, FeedsFile, IsFileVerdict, IsShortFile, IsSameRow, bytes_left};
+    ghost use Rattle.btcheck_c.specs.FileChecks.{BeginsAnew, BeginsFile, FeedsFile, IsFileVerdict, IsShortFile, bytes_left};
 
-    /// A check that was given nothing yet, of a file's pieces from one number up to another.
-    /// Conditions: the tree is one of a torrent with this piece length, and its files have these
-    /// pieces.
+    /// A check that was given nothing yet, of a file's pieces from one number up to another. It
+    /// fails if memory is refused. Conditions: the tree is one of a torrent with this piece length,
+    /// and its files have these pieces.
     pub(crate) fn new(
+        alloc: Global,
         tree: &TreeInfo<'static>,
         piece_length: PieceLength,
         from: u64,
         to: u64,
-    ) -> FileCheck
+    ) -> Result<FileCheck, NoMemory>
         requires sound { IsSoundTree piece_length (tree_entry tree.now) }
         requires order { from < to }
         requires within { to ≤ pieces_of piece_length tree.now.length }
-        ensures { BeginsFile piece_length (tree_entry tree.now) from to result }
+        ensures { IfOk result (BeginsFile piece_length (tree_entry tree.now) from to) }
     {
         let shape = Shape::of(row_length(piece_length, tree.length, from, to)).unwrap();
         let layer = Shape::of(piece_length.bytes()).unwrap().height();
         let hashes = row_hashes(tree, piece_length, from, to);
-        FileCheck {
-            check: PieceCheck::of_row(shape, layer, hashes),
+        Ok(FileCheck {
+            check: RowCheck::new(alloc, shape, layer, hashes)?,
             first: from,
-            shape,
-            layer,
-            hashes,
             root: only_root(tree, piece_length),
-        }
+        })
     }
 
     /// How many bytes of the pieces are still to come.
     pub(crate) fn left(&self) -> u64
         ensures { result ≡ bytes_left self.now }
     {
-        self.shape.length() - self.check.len()
+        self.check.left()
     }
 
     /// Takes the next bytes, and sets the bit of each piece of the row that is complete and good.
@@ -78,7 +67,7 @@ impl FileCheck {
         requires { length bytes.now ≤ bytes_left self.old }
         ensures { FeedsFile self.old good.old bytes.now self.new good.new }
     {
-        self.check.push_marking(bytes, good);
+        self.check.push(bytes, good);
     }
 
     /// The number in the file of the first piece that is not the torrent's, from 0; `None` if each
@@ -90,14 +79,13 @@ impl FileCheck {
         ensures begins { BeginsAnew self.old self.new }
         ensures size { length good.new ≡ length good.old }
     {
-        let mut ended = self.begin_anew();
         match self.root {
             None => {
-                let (_, _, place) = ended.finish_marking(good);
+                let (_, _, place) = self.check.finish(good);
                 numbered(self.first, place)
             }
             Some(root) => {
-                let (_, found, _) = ended.finish_marking(&mut []);
+                let (_, found, _) = self.check.finish(&mut []);
                 if found == root {
                     set_first(good);
                     None
@@ -114,20 +102,12 @@ impl FileCheck {
         requires { 0 < bytes_left self.old }
         ensures verdict { IsShortFile self.old good.old good.new }
         ensures begins { BeginsAnew self.old self.new }
+        ensures size { length good.new ≡ length good.old }
     {
-        let mut ended = self.begin_anew();
-        if ends_with_piece(ended.len(), self.layer) {
-            let _found = ended.finish_marking(good);
+        if ends_with_piece(self.check.len(), self.check.layer()) {
+            let _found = self.check.finish(good);
+        } else {
+            self.check.restart();
         }
-    }
-
-    // Begins anew, and gives what was given so far.
-    fn begin_anew(&mut self) -> PieceCheck<'static>
-        ensures ended { result ≡ self.old.check }
-        ensures begins { BeginsAnew self.old self.new }
-        ensures same { IsSameRow self.old self.new }
-    {
-        let fresh = PieceCheck::of_row(self.shape, self.layer, self.hashes);
-        replace(&mut self.check, fresh)
     }
 }

@@ -6,21 +6,21 @@ ghost use Rattle.btcheck_c.specs.Holds.{Fills, Through};
 
 use crate::handle::Handle;
 use crate::thing::{Kind, Thing};
-use c_layouts::status::{DONE, NO_ROOT, TOO_LONG, WRONG_HANDLE};
-use hashtree::{MAX_LENGTH, RootBuilder};
+use c_layouts::status::{DONE, NO_MEMORY, NO_ROOT, TOO_LONG, WRONG_HANDLE};
+use hashtree::MAX_LENGTH;
+use short_pushes::FileRoot;
 use std::alloc::Global;
-use std::mem::replace;
 
 fn push(thing: &mut Thing, bytes: &[u8]) -> u32
     ensures { Pushed bytes.now thing.old.kind result thing.new.kind }
 {
     match &mut thing.kind {
         Kind::Session(_) | Kind::Check(_) | Kind::Holdings(_) => WRONG_HANDLE,
-        Kind::Root(builder) => {
-            if bytes.len() as u64 > MAX_LENGTH - builder.len() {
+        Kind::Root(file) => {
+            if bytes.len() as u64 > MAX_LENGTH - file.len() {
                 return TOO_LONG;
             }
-            builder.push(bytes);
+            file.push(bytes);
             DONE
         }
     }
@@ -32,19 +32,19 @@ fn finish(thing: &mut Thing, length: &mut u64, root: &mut [u8; 32]) -> u32
 {
     match &mut thing.kind {
         Kind::Session(_) | Kind::Check(_) | Kind::Holdings(_) => WRONG_HANDLE,
-        Kind::Root(builder) => {
-            if builder.is_empty() {
+        Kind::Root(file) => {
+            if file.is_empty() {
                 return NO_ROOT;
             }
-            let ended = replace(builder, RootBuilder::new());
-            (*length, *root) = ended.finish();
+            (*length, *root) = file.finish();
             DONE
         }
     }
 }
 
-/// Makes a builder that was given nothing, in an empty handle. Status 1: the handle is full. Status
-/// 2: memory was refused. Then the handle is as before.
+/// Makes a builder that was given nothing, in an empty handle, with room for the bytes of short
+/// pushes: no later call takes memory. Status 1: the handle is full. Status 2: memory was refused.
+/// Then the handle is as before.
 #[unsafe(no_mangle)]
 pub extern "C" fn btcheck_root_new(alloc: Global, handle: &mut Handle) -> u32
     ensures { Fills RootMade handle.old.slot.held result handle.new.slot.held }
@@ -52,7 +52,10 @@ pub extern "C" fn btcheck_root_new(alloc: Global, handle: &mut Handle) -> u32
     if handle.is_full() {
         return WRONG_HANDLE;
     }
-    handle.fill(alloc, Kind::Root(RootBuilder::new()))
+    match FileRoot::new(alloc) {
+        Err(_) => NO_MEMORY,
+        Ok(file) => handle.fill(alloc, Kind::Root(file)),
+    }
 }
 
 /// Takes the file's next bytes. Status 1: the handle holds no builder. Status 3: the file would be

@@ -2,8 +2,8 @@
 
 use crate::file_check::FileCheck;
 use crate::held::Held;
-use hashtree::RootBuilder;
 use owned_sessions::OwnedSession;
+use short_pushes::FileRoot;
 
 /// What a handle of C may hold. One struct for all kinds, since an export can have no type that is
 /// generic in what a handle holds.
@@ -15,8 +15,8 @@ pub struct Thing {
 /// One of the things.
 #[derive(Drop)]
 pub enum Kind {
-    /// The builder of a file's root.
-    Root(RootBuilder),
+    /// The root of a file, as its bytes come.
+    Root(FileRoot),
     /// A session with its torrent.
     Session(OwnedSession),
     /// The check of one file's bytes.

@@ -6,8 +6,8 @@ use Rattle.btcheck_c.specs.FileChecks.{row_length}
 use Rattle.btcheck_c.proofs.FilePieces.{few_pieces, hashes_row, hashes_whole}
 use Rattle.btcheck_c.proofs.file_check.FileCheck.new.Goals as goal
 
-pub of_row-requires-clause-whole : goal.of_row-requires-clause-whole
-of_row-requires-clause-whole c =
+pub new-requires-clause-whole : goal.new-requires-clause-whole
+new-requires-clause-whole c =
     let p = c.args.piece_length in let n = c.args.tree.now.length in let from = c.args.from in let to = c.args.to in
     let hashes = c.row_hashes-hashes.result.now in
     let shape : c.unwrap-shape.result ≡ row_length p n from to =
@@ -20,48 +20,3 @@ of_row-requires-clause-whole c =
     hashes_whole p n c.unwrap.result c.unwrap-shape.result c.height-layer.result from to hashes legal c.requires.order c.requires.within count piece shape
     c.height-layer.ensures.enough c.height-layer.ensures.least
 
-pub invariant_of-result : goal.invariant_of-result
-invariant_of-result c =
-    let p = c.args.piece_length in let n = c.args.tree.now.length in let from = c.args.from in let to = c.args.to in
-    let hashes = c.row_hashes-hashes.result.now in
-    let shape : c.unwrap-shape.result ≡ c.row_length.result = subst (λ o. IfSome o (λ s. s ≡ c.row_length.result)) c.unwrap-shape.ensures c.of.ensures.value in
-    let piece : c.unwrap.result ≡ p = subst (λ o. IfSome o (λ s. s ≡ c.bytes.result)) c.unwrap.ensures c.of-2.ensures.value ∙ c.bytes.ensures.value in
-    let legal : IsPieceLength p = subst IsPieceLength c.bytes.ensures.value c.bytes.ensures.legal in
-    let bounds = legal_bounds p legal in
-    let few = few_pieces p n (omega (arith, bounds.0)) in
-    let count : length hashes ≡ to - from = hashes_row p n from to c.args.tree.now.layer.now hashes (omega (arith, bounds.0)) c.requires.order
-    c.requires.within c.requires.sound.layer_length c.row_hashes-hashes.ensures.one c.row_hashes-hashes.ensures.many in record {
-      some = omega (arith, shape, c.row_length.ensures.some);
-      low = c.height-layer.ensures.bound;
-      few = omega (arith, count, few, bounds.1, c.requires.order, c.requires.within, c.requires.sound.bound);
-      whole = hashes_whole p n c.unwrap.result c.unwrap-shape.result c.height-layer.result from to hashes legal c.requires.order c.requires.within count
-          piece (shape ∙ c.row_length.ensures.value) c.height-layer.ensures.enough c.height-layer.ensures.least;
-      shape_is = c.of_row.ensures.shape_is;
-      layer_is = c.of_row.ensures.layer_is;
-      hashes_are = c.of_row.ensures.hashes_are;
-      given = omega (arith, c.of_row.ensures.count);
-    }
-
-pub returns : goal.returns
-returns c =
-    let p = c.args.piece_length in let n = c.args.tree.now.length in
-    let shape : c.unwrap-shape.result ≡ row_length p n c.args.from c.args.to =
-    subst (λ o. IfSome o (λ s. s ≡ c.row_length.result)) c.unwrap-shape.ensures c.of.ensures.value ∙ c.row_length.ensures.value in
-    let piece : c.unwrap.result ≡ p = subst (λ o. IfSome o (λ s. s ≡ c.bytes.result)) c.unwrap.ensures c.of-2.ensures.value ∙ c.bytes.ensures.value in
-    record {
-      against = record {
-        order = c.requires.order;
-        within = c.requires.within;
-        first = refl;
-        size = shape;
-        layer = c.height-layer.ensures.value ∙ ap (λ k. height (block_count k)) piece;
-        one = λ short. (c.only_root.ensures.one short, c.row_hashes-hashes.ensures.one short);
-        many = λ longer. record {
-          root = c.only_root.ensures.many longer;
-          listed = c.requires.sound.layer_length longer;
-          hashes = c.row_hashes-hashes.ensures.many longer;
-        };
-      };
-      count = c.of_row.ensures.count;
-      given = c.of_row.ensures.fed;
-    }
