@@ -19,4 +19,3 @@ new-requires-clause-whole c =
     c.requires.within c.requires.sound.layer_length c.row_hashes-hashes.ensures.one c.row_hashes-hashes.ensures.many in
     hashes_whole p n c.unwrap.result c.unwrap-shape.result c.height-layer.result from to hashes legal c.requires.order c.requires.within count piece shape
     c.height-layer.ensures.enough c.height-layer.ensures.least
-
