@@ -41,7 +41,7 @@ def own_folders(size):
 
 
 def names(count):
-    """So many names of four letters, in order."""
+    """This many names of four letters, in order."""
     letters = sorted(string.ascii_letters.encode())
     return map(bytes, itertools.islice(itertools.product(letters, repeat=4), count))
 

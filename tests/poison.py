@@ -27,14 +27,14 @@ class Peers:
         self.trees = [tree["whole"] for tree in self.model.trees.values()]
 
     def verdicts(self, count):
-        """So many frames, and the verdict on each: a list of texts."""
+        """This many frames, and the verdict on each: a list of texts."""
         kinds = [self.hashes, self.hashes, self.hashes, self.piece, self.piece, self.request, self.reject, self.other,
                  self.wrong_size]
         frames = [self.chance.choice(kinds)() for _ in range(count)]
         return [frame for frame, _ in frames], [[text] if isinstance(text, str) else text for _, text in frames]
 
     def messages(self, count):
-        """So many frames, and the lines of each."""
+        """This many frames, and the lines of each."""
         frames, verdicts = self.verdicts(count)
         return frames, numbered(verdicts)
 

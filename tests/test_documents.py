@@ -181,7 +181,9 @@ def test_no_number_that_is_not_there():
     texts = [text.split(definitions.MARK)[0] for _, text in documents()]
     texts += [contracts.text_of(path) for kind in ("tests/*.py", "bench/*", "tools/*", "man/*") for path in glob.glob(f"{TOP}/{kind}")
               if os.path.isfile(path) and path != os.path.abspath(__file__)]
-    assert not [found for text in texts for found in re.findall(r".*\bso many\b.*", text)]
+    texts += [contracts.text_of(path) for kind in ("src/**/*.rt", "specs/**/*.antt")
+              for path in glob.glob(f"{TOP}/crates/*/{kind}", recursive=True)]
+    assert not [found for text in texts for found in re.findall(r".*\b[Ss]o many\b.*", text)]
 
 
 def test_no_line_is_too_wide():

@@ -27,7 +27,7 @@ RATE = 1000
 
 
 def compared(seed, cases):
-    """So many cases of this seed, and how long they took."""
+    """This many cases of this seed, and how long they took."""
     with folder() as place:
         fuzz = Fuzz(place, seed)
         for kind, count in cases.items():

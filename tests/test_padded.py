@@ -89,7 +89,7 @@ class PaddingPeers(Peers):
         return piece(*self.place(first, at), carried[:MOST_BYTES]), None
 
     def record(self, count):
-        """So many frames; what is made of them is asked of another model."""
+        """This many frames; what is made of them is asked of another model."""
         return b"".join(self.chance.choice([self.hashes, self.piece, self.piece])()[0] for _ in range(count))
 
 

@@ -22,7 +22,7 @@ layer_inside p n piece shape layer longer same_piece same_shape is =
     height_least (block_count piece) h (omega (arith, height_enough (block_count shape), longer, same_piece, same_shape)) in
     omega (arith, low, is)
 
--- bytes that have so many pieces have as many nodes in the layer of the pieces
+-- bytes that have this many pieces have as many nodes in the layer of the pieces
 pub layer_whole : (p n piece shape layer count : ℕ) → IsPieceLength p → piece ≡ p → shape ≡ n → block_count piece ≤ 2 ^ layer
     → ((i : ℕ) → block_count piece ≤ 2 ^ i → layer ≤ i) → count ≡ pieces_of p n → count ≡ first_pad (block_count shape) layer
 layer_whole p n piece shape layer count legal same_piece same_shape enough least is =

@@ -35,7 +35,7 @@ use Rattle.btcheck_c.specs.declared.thing.Kind.TheVariants as kind
 abbrev pub all_pieces : ℕ → Pieces
 all_pieces n = record { tree = n; from = 0; end = 2 ^ 64 - 1 }
 
--- nothing is held yet; so many blocks may be, or those of the torrent's longest piece
+-- nothing is held yet; this many blocks may be, or those of the torrent's longest piece
 pub record IsNewHeld (d : Description) (bound : ℕ) (h : Held) : Type 0 where
   pub nothing : h.holdings.pieces ≡ empty
   pub most : h.holdings.most ≡ most_pieces bound (d.piece_length / 16384)

@@ -32,7 +32,7 @@ part_next parts i lt = ap (λ ps. tail_text (texts ps)) (drop_more parts i (reco
 
 -- ---- counting
 
--- so many bytes of a text were counted, all but what is left
+-- this many bytes of a text were counted, all but what is left
 pub record IsCounted (text : List ℕ) (count : ℕ) (left : List ℕ) : Type 0 where
   pub done : List ℕ
   pub whole : text ≡ done ++ left

@@ -42,7 +42,8 @@ wanted_as words which v f = (if is_wanted which (is_good v) then words.file v f 
 abbrev pub verdicts_as : Wording → Lines → List FileVerdict → List FileEntry → List ℕ
 verdicts_as words which [] fs = []
 verdicts_as words which (v ∷ vs) [] = []
-verdicts_as words which (v ∷ vs) (f ∷ fs) = wanted_as words which v f ++ verdicts_as words which vs fs
+verdicts_as words which (v ∷ vs) (f ∷ fs) =
+    wanted_as words which v f ++ verdicts_as words which vs fs
 
 -- the line on the version 1 pieces, for a hybrid alone
 abbrev pub hybrid_line : (V1Verdict → List ℕ) → Option V1Verdict → List ℕ

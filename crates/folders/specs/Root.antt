@@ -70,7 +70,8 @@ pub record BreaksRootLine (line : List ℕ → List ℕ) (source source' : Sourc
 -- 2^46
 abbrev pub EndsRootLine : (List ℕ → List ℕ) → SourceSeen → SourceSeen → SinkSeen → SinkSeen
     → Result Bool RootFault → Type 0
-EndsRootLine line source source' out out' (Ok within) = PrintsRoot line source source' out out' within
+EndsRootLine line source source' out out' (Ok within) =
+    PrintsRoot line source source' out out' within
 EndsRootLine line source source' out out' (Err fault.Read) = source.limit ≤ source'.limit + 2 ^ 46
 EndsRootLine line source source' out out' (Err fault.Write) =
     BreaksRootLine line source source' out out'

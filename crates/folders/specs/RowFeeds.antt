@@ -19,7 +19,7 @@ pub record FeedsBits (old : RowFeed) (bytes : List ℕ) (new : RowFeed) : Type 0
   pub cuts : TakesCuts old.cuts.feed bytes new.cuts.feed
   pub room : vec_capacity new.bits ≡ vec_capacity old.bits
 
--- the row is not full before so many bytes more
+-- the row is not full before this many bytes more
 abbrev pub HasRowRoom : RowFeed → ℕ → Type 0
 HasRowRoom f n = (byte_count f.check + n ≤ chosen_shape f.check) × HasCutRoom f.cuts.feed n
 

@@ -16,7 +16,7 @@ pub record Fills (old new : SourceSeen) (buffer : List ℕ) (count : ℕ) : Type
   pub gave : Gave old new (take count buffer)
   pub ended : count < length buffer → IsAtEnd new.left
 
--- all that the source had, and so many bytes, at most as many as the bound, went to the consumer
+-- all that the source had, and this many bytes, at most as many as the bound, went to the consumer
 pub record TookAll {T : Type 0} (took : T → List ℕ → T → Type 0) (old new : SourceSeen) (bound : ℕ)
     (before after : T) (count : ℕ) : Type 0 where
   pub bytes : List ℕ

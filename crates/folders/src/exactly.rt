@@ -7,7 +7,7 @@ ghost use Rattle.folders.specs.Exactly.{TakesExactly};
 use crate::taking::{Consumer, fill};
 use benc::{DeviceFault, Source};
 
-/// Reads so many bytes of a source, which go to the consumer, a full buffer at a time. False: it
+/// Reads this many bytes of a source, which go to the consumer, a full buffer at a time. False: it
 /// has fewer, all of which went there. Before a fault some bytes went there. No byte behind them is
 /// read, and a fault comes before the last of them is. Conditions: the buffer is not
 /// empty, and the consumer has room for them.

@@ -59,8 +59,8 @@ impl<'t> Consumer for RowFeed<'t> {
 impl<'t> RowFeed<'t> {
     ghost use Rattle.folders.specs.RowFeeds.{IsFresh, JudgesRow};
 
-    /// Reads and judges the row, of so many bytes at this layer. `None`: the source has fewer; the
-    /// bits then tell which pieces it has whole and good. No byte behind the row is read.
+    /// Reads and judges the row, of this many bytes at this layer. `None`: the source has fewer;
+    /// the bits then tell which pieces it has whole and good. No byte behind the row is read.
     /// Conditions: nothing was given yet, no bit is set, and the buffer is not empty.
     pub fn judge<F: Source>(
         &mut self,

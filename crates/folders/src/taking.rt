@@ -10,7 +10,7 @@ use thiserror::Error;
 
 /// What takes the bytes of a reading, part by part.
 pub trait Consumer {
-    // There is room for so many bytes more.
+    // There is room for this many bytes more.
     ghost has_room: { Self → ℕ → Type 0 };
 
     // It was given these bytes.

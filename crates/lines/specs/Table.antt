@@ -65,7 +65,7 @@ bad_frame_row n id len =
 abbrev pub plain_row : List ℕ → List Item → Row
 plain_row kind items = row kind (word kind ∷ items)
 
--- so many blocks are still held
+-- this many blocks are still held
 abbrev pub still_held_row : ℕ → Row
 still_held_row count = plain_row (codes "held") (number (codes "count") count ∷ [])
 

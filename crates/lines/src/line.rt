@@ -18,7 +18,7 @@ use filetree::Refusal;
 /// blocks of a file from 0.
 #[derive(Clone, Copy, Debug, Drop)]
 pub enum Line<'a> {
-    /// So many hashes are newly known by this frame.
+    /// This many hashes are newly known by this frame.
     Stored {
         frame: u64,
         count: u64,
@@ -72,7 +72,7 @@ pub enum Line<'a> {
         first: u64,
         last: u64,
     },
-    /// So many blocks are still held at the end.
+    /// This many blocks are still held at the end.
     StillHeld(u64),
     /// The hashes that are asked for are known.
     Answered(u64),

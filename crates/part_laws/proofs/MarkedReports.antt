@@ -122,7 +122,7 @@ runs_true t contents m told can count are agree n f x there at = by_place (has_p
         let is = off_silent kind.Marked t m.places f x off say (can.marks n f x there at) in
         subst (λ (z : FileVerdict × List Run). AreMarkedRuns t m.places f (contents n) z.0 z.1) (sym is) refl
 
--- what a true report of this one of so many parts tells
+-- what a true report of this one of this many parts tells
 record IsToldBy (t : Description) (contents : Contents) (part count : ℕ) (text : List ℕ) : Type 0 where
   there : part < count
   small : count < 2 ^ 64

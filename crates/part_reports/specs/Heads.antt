@@ -15,7 +15,7 @@ pub record IsHashText (hash : List ℕ) : Type 0 where
   pub count : length hash ≡ 64
   pub digits : list_all is_hash_digit hash ≡ true
 
--- the first line of the report of this one of so many parts, with an info-hash as it is printed
+-- the first line of the report of this one of this many parts, with an info-hash as it is printed
 abbrev pub head_line : ℕ → ℕ → List ℕ → List ℕ
 head_line part count hash =
     codes "part " ++ decimal (part + 1) ++ codes "/" ++ decimal count ++ codes " " ++ hash

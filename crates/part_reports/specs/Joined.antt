@@ -9,7 +9,7 @@ use Rattle.parts.specs.Parts.{AreAllPlaces, PartReport}
 use Rattle.parts.specs.Shares.{share}
 use Rattle.part_reports.specs.Reported.{CanReport}
 
--- one of these texts is the report of this one of so many parts, which can report this
+-- one of these texts is the report of this one of this many parts, which can report this
 pub record IsRead (t : Description) (texts : List (List ℕ)) (part count : ℕ) (p : PartReport)
     : Type 0 where
   pub places : p.places ≡ share t part count
@@ -17,7 +17,7 @@ pub record IsRead (t : Description) (texts : List (List ℕ)) (part count : ℕ)
   pub number : ℕ
   pub there : slice_get texts number ≡ Some (part_text t part count p.files p.v1)
 
--- what these texts report of the first parts of so many, in order
+-- what these texts report of the first parts of this many, in order
 abbrev pub AreRead : Description → List (List ℕ) → ℕ → List PartReport → Type 0
 AreRead t texts count reports =
     (i : ℕ) (p : PartReport) → slice_get reports i ≡ Some p → IsRead t texts i count p

@@ -54,8 +54,8 @@ abbrev pub HasLine : Description → Places → FileEntry → Bool → List ℕ 
 HasLine t r f is_held text =
     (v : FileVerdict) × (more : List ℕ) × ReadsLine t r f is_held text v more
 
--- a part with these places can say this of the version 1 pieces, of which there are so many, beside
--- this worst verdict on its files
+-- a part with these places can say this of the version 1 pieces, of which there are this many,
+-- beside this worst verdict on its files
 abbrev pub SaysEnd : Places → ℕ → FileVerdict → Option V1Verdict → Type 0
 SaysEnd r pieces worst v1 = (v : V1Verdict) → v1 ≡ Some v
     → CanSayV1 r pieces v × (is_checked v ≡ is_whole worst)

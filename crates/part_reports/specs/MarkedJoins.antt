@@ -12,13 +12,13 @@ use Rattle.part_reports.specs.declared.kind.Kind.{Kind}
 use Rattle.part_reports.specs.declared.kind.Kind.TheVariants as kind
 use Rattle.part_reports.specs.declared.marked_report.MarkedReport.{MarkedReport}
 
--- the report of this one of so many parts, of this kind: without the runs of bad pieces, or with
+-- the report of this one of this many parts, of this kind: without the runs of bad pieces, or with
 -- them
 abbrev pub text_of : Kind → Description → ℕ → ℕ → MarkedPart → List ℕ
 text_of kind.Plain t part count m = part_text t part count (verdicts_of m.marked) m.v1
 text_of kind.Marked t part count m = marked_text t part count m.marked m.v1
 
--- one of these texts is the report of this one of so many parts, which can report this
+-- one of these texts is the report of this one of this many parts, which can report this
 pub record IsReadAs (k : Kind) (t : Description) (texts : List (List ℕ)) (part count : ℕ)
     (m : MarkedPart) : Type 0 where
   pub places : m.places ≡ share t part count
@@ -26,7 +26,7 @@ pub record IsReadAs (k : Kind) (t : Description) (texts : List (List ℕ)) (part
   pub number : ℕ
   pub there : slice_get texts number ≡ Some (text_of k t part count m)
 
--- what these texts report of the first parts of so many, in order
+-- what these texts report of the first parts of this many, in order
 abbrev pub AreReadAs : Kind → Description → List (List ℕ) → ℕ → List MarkedPart → Type 0
 AreReadAs k t texts count parts =
     (i : ℕ) (m : MarkedPart) → slice_get parts i ≡ Some m → IsReadAs k t texts i count m
@@ -68,7 +68,7 @@ pub record AreJoinedAs (k : Kind) (t : Description) (texts : List (List ℕ)) (j
   pub marks : AreMarksOf t parts joined
   pub room : HasRoom k (place_count t - 1) joined.bad
 
--- what a text says, as the report of this one of so many parts, was joined to a report
+-- what a text says, as the report of this one of this many parts, was joined to a report
 pub record JoinsText (k : Kind) (t : Description) (part count : ℕ) (text : List ℕ)
     (old new : MarkedReport) : Type 0 where
   pub said : MarkedPart

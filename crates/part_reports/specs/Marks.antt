@@ -71,7 +71,7 @@ pub record MarksMore (Are : ℕ → Type 0) (old new : BadPieces) : Type 0 where
   pub count : length new.marks.items ≡ length old.marks.items
   pub each : (piece : ℕ) → IsMarked new piece ↔ (IsMarked old piece ⊎ Are piece)
 
--- there is a mark for each of so many pieces, if the reports tell of bad ones
+-- there is a mark for each of this many pieces, if the reports tell of bad ones
 abbrev pub HasRoom : Kind → ℕ → BadPieces → Type 0
 HasRoom kind.Plain pieces bad = ⊤
 HasRoom kind.Marked pieces bad = pieces ≤ length bad.marks.items

@@ -15,7 +15,7 @@ use Rattle.part_reports.specs.declared.join_fault.JoinFault.TheVariants as fault
 use Rattle.part_reports.specs.declared.kind.Kind.{Kind}
 use Rattle.part_reports.specs.declared.kind.Kind.TheVariants as kind
 
--- the text is what this one of so many parts prints of verdicts that it can report
+-- the text is what this one of this many parts prints of verdicts that it can report
 pub record IsReport (t : Description) (part count : ℕ) (text : List ℕ) : Type 0 where
   pub there : part < count
   pub small : count < 2 ^ 64
@@ -24,8 +24,8 @@ pub record IsReport (t : Description) (part count : ℕ) (text : List ℕ) : Typ
   pub can : CanReport t (share t part count) files v1
   pub is : text ≡ part_text t part count files v1
 
--- the text is what this one of so many parts prints of verdicts and runs of bad pieces that it can
--- report
+-- the text is what this one of this many parts prints of verdicts and runs of bad pieces that it
+-- can report
 pub record IsMarkedReport (t : Description) (part count : ℕ) (text : List ℕ) : Type 0 where
   pub there : part < count
   pub small : count < 2 ^ 64
@@ -50,7 +50,7 @@ abbrev pub IsOfOther : Kind → List ℕ → List ℕ → Type 0
 IsOfOther k own text =
     (part count : ℕ) × (hash : List ℕ) × IsOfHash k text part count hash × (hash ≢ own)
 
--- a text begins with the first line of a report, of so many parts
+-- a text begins with the first line of a report, of this many parts
 abbrev pub IsOfCount : ℕ → List ℕ → Type 0
 IsOfCount count text = (part : ℕ) × (hash : List ℕ) × HasHead text part count hash
 
@@ -76,12 +76,12 @@ pub record AreTwo (texts : List (List ℕ)) (number : ℕ) : Type 0 where
   pub one : IsOfPart number first
   pub other : IsOfPart number second
 
--- a text begins with the first line of the report of another one of so many parts
+-- a text begins with the first line of the report of another one of this many parts
 abbrev pub IsOfOtherPart : ℕ → ℕ → List ℕ → Type 0
 IsOfOtherPart number count text =
     (part : ℕ) × (hash : List ℕ) × HasHead text part count hash × (part + 1 ≢ number)
 
--- there is such a part of so many, and each text is of as many parts, and of another one
+-- there is such a part of this many, and each text is of as many parts, and of another one
 pub record IsMissing (texts : List (List ℕ)) (number count : ℕ) : Type 0 where
   pub from_one : 0 < number
   pub there : number ≤ count

@@ -26,7 +26,7 @@ CanSay t r f file.Unreadable = has_place t r f ≡ true
 CanSay t r f file.WrongLength = has_place t r f ≡ true
 CanSay t r f (file.Bad p) = (has_place t r f ≡ true) × IsPieceIn t r f p
 
--- the same of the version 1 pieces, of which there are so many: that they are bad only at one of
+-- the same of the version 1 pieces, of which there are this many: that they are bad only at one of
 -- them that is among the places
 abbrev pub CanSayV1 : Places → ℕ → V1Verdict → Type 0
 CanSayV1 r pieces version1.Good = ⊤

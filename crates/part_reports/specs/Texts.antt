@@ -16,7 +16,7 @@ use Rattle.parts.specs.Shares.{share}
 use Rattle.part_reports.specs.Joined.{AreJoined}
 use Rattle.part_reports.specs.Reasons.{IsReport}
 
--- this one of so many parts reports these verdicts
+-- this one of this many parts reports these verdicts
 abbrev pub reported : Description → ℕ → ℕ → List FileVerdict → Option V1Verdict → PartReport
 reported t part count files v1 = record {
   places = share t part count;

@@ -13,7 +13,7 @@ pub struct BadPieces {
 impl BadPieces {
     ghost use Rattle.part_reports.specs.Marks.{AreUnmarked, IsMarked, IsMarkedRun, MarksMore};
 
-    /// None of so many pieces.
+    /// None of this many pieces.
     pub(crate) fn none(alloc: Global, pieces: u64) -> Result<BadPieces, AllocError>
         ensures count { IfOk result (λ b. length b.marks.items ≡ pieces) }
         ensures none { IfOk result (λ b. (piece : ℕ) → IsMarked b piece → ⊥) }
@@ -23,7 +23,7 @@ impl BadPieces {
         Ok(BadPieces { marks })
     }
 
-    /// Marks the pieces from one number up to another. Condition: there are so many.
+    /// Marks the pieces from one number up to another. Condition: there are this many.
     pub(crate) fn mark(&mut self, from: u64, to: u64)
         requires order { from ≤ to }
         requires room { to ≤ length self.old.marks.items }

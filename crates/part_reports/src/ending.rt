@@ -15,7 +15,7 @@ use parts::Places;
 
 /// The verdict on the version 1 pieces of a hybrid, which the last lines of a report say: it is of
 /// a part with these places, and this is the worst of its verdicts on files. `None` if these are
-/// not its last lines. Condition: the torrent has so many pieces.
+/// not its last lines. Condition: the torrent has this many pieces.
 pub(crate) fn read_end(
     torrent: &Torrent<'_>,
     places: Places,

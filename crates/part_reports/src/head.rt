@@ -39,7 +39,7 @@ pub(crate) fn read_head(kind: Kind, text: &[u8]) -> Option<Head<'_>>
     }
 }
 
-/// What stands behind the first line of the report, of this kind, of this one of so many parts of
+/// What stands behind the first line of the report, of this kind, of this one of this many parts of
 /// this torrent, if the text begins with that line. Condition: there is such a part.
 pub(crate) fn behind_head<'a>(
     torrent: &Torrent<'_>,

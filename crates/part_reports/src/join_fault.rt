@@ -12,7 +12,7 @@ pub enum JoinFault {
     OtherCount(usize),
     /// The part with this number is there twice.
     Twice(u64),
-    /// The part with this number is not there, of so many.
+    /// The part with this number is not there, of this many.
     Missing(u64, u64),
     /// Memory was refused.
     NoMemory,

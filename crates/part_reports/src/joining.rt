@@ -158,7 +158,7 @@ fn join_text(
     join_lines(alloc, torrent, kind, places, division.pieces, lines, joined)
 }
 
-// The report that says nothing: all is good, and no piece is marked. The torrent has so many
+// The report that says nothing: all is good, and no piece is marked. The torrent has this many
 // pieces.
 fn all_good(
     alloc: Global,
@@ -184,7 +184,7 @@ fn all_good(
     Ok(MarkedReport { report, bad })
 }
 
-// How many marks reports of this kind need, for so many pieces.
+// How many marks reports of this kind need, for this many pieces.
 fn mark_count(kind: Kind, pieces: u64) -> u64
     ensures { (bad : OfBad) → length bad.marks.items ≡ result → HasRoom kind pieces bad }
 {

@@ -21,8 +21,8 @@ use std::alloc::Global;
 /// own, of this kind. Its verdicts and runs are taken from the words of the lines, and the lines
 /// printed again: only a text that is printed so, to the byte, is a report. A file that has no
 /// place in the part is good. Only the files that may have one are looked at. Conditions: the
-/// torrent has so many pieces, and the report is of it, with a mark for each piece if bad ones are
-/// told of.
+/// torrent has this many pieces, and the report is of it, with a mark for each piece if bad ones
+/// are told of.
 ///
 /// # Errors
 ///

@@ -31,7 +31,7 @@ pub(crate) struct Start {
 impl Division {
     ghost use Rattle.part_reports.specs.Starts.{IsDivision, IsPassed};
 
-    /// The torrent divided into so many parts. Condition: there is one.
+    /// The torrent divided into this many parts. Condition: there is one.
     pub(crate) fn of(torrent: &Torrent<'_>, parts: u64) -> Division
         requires { 0 < parts }
         ensures { IsDivision torrent.now parts result }

@@ -128,7 +128,7 @@ pub record IsRow (t : Description) (f : FileEntry) (from to : ℕ) (own : List �
   pub inside : to ≤ piece_count t f
   pub count : length own ≡ row_bytes t f from to
 
--- so many pieces are these bytes
+-- this many pieces are these bytes
 pub pieces_between : (pl n total : ℕ) → 0 < pl → 0 < n → pl * (n - 1) < total → total ≤ pl * (n - 1) + pl → pieces_of pl total ≡ n
 pieces_between pl n total some positive low high =
     let least = to_pieces pl (n - 1) total some low in

@@ -64,7 +64,7 @@ FindsPieces t f s left bits None = HadBytes left (t.piece_length * s.from) (Foun
 FindsPieces t f s left bits (Some found) =
     HadBytes left (t.piece_length * s.from) (FoundPieces t f s bits found)
 
--- exactly so many bytes were taken of a source for what was found, and else another number
+-- exactly this many bytes were taken of a source for what was found, and else another number
 abbrev pub TakesRow : ℕ → SourceSeen → SourceSeen → Option Found → Type 0
 TakesRow size old new None = new.limit + size ≢ old.limit
 TakesRow size old new (Some found) = new.limit + size ≡ old.limit

@@ -15,7 +15,7 @@ pub record Run : Type 0 where
   pub first : ℕ
   pub last : ℕ
 
--- a maximal run of bad pieces, of so many pieces
+-- a maximal run of bad pieces, of this many pieces
 pub record IsBadRun (count : ℕ) (IsGood : ℕ → Type 0) (r : Run) : Type 0 where
   pub order : r.first ≤ r.last
   pub inside : r.last < count

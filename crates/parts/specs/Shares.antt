@@ -16,9 +16,9 @@ place_in piece_length past (f ∷ fs) byte =
     (if nat_lt byte f.length then f.first_piece + byte / piece_length
     else place_in piece_length past fs (byte - f.length))
 
--- the first place of the part with this number, from 0 on, of so many: the piece that has the first
--- of its bytes. Each part has as many bytes, but for what whole pieces and the last part add. The
--- one after the last would begin after all places.
+-- the first place of the part with this number, from 0 on, of this many: the piece that has the
+-- first of its bytes. Each part has as many bytes, but for what whole pieces and the last part add.
+-- The one after the last would begin after all places.
 abbrev pub start : Description → ℕ → ℕ → ℕ
 start t part parts =
     (if nat_eq part 0 then 0

@@ -44,7 +44,7 @@ abbrev pub IsMostPieces : Description → ℕ → Type 0
 IsMostPieces t most = (n : ℕ) (f : FileEntry) → slice_get t.files n ≡ Some f
     → piece_count t f ≤ most
 
--- if they are, so many bytes have a bit for each piece of any file
+-- if they are, this many bytes have a bit for each piece of any file
 abbrev pub HasBits : Description → Telling → ℕ → Type 0
 HasBits t told bytes = NeedsBits told → IsMostPieces t (8 * bytes)
 

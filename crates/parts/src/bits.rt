@@ -5,7 +5,7 @@ ghost use Rattle.hashtree.specs.Bits.{AreClear};
 
 use std::mem::replace;
 
-/// Makes a bitmap one of so many pieces in which no bit is set, as far as its room goes. It takes
+/// Makes a bitmap one of this many pieces in which no bit is set, as far as its room goes. It takes
 /// no memory.
 pub(crate) fn clear_bits(bits: &mut Vec<u8>, pieces: u64)
     ensures clear { AreClear bits.new.items }

@@ -15,7 +15,7 @@ use opening::Torrent;
 use printing::flush_after;
 use std::alloc::Global;
 
-/// Checks the places of one of so many parts of a torrent on a shelf, numbered from 0, as
+/// Checks the places of one of this many parts of a torrent on a shelf, numbered from 0, as
 /// `check_part` does, and prints what it finds: the line `part I/N INFOHASH bad`, with the part's
 /// number from 1 on; then, as soon as a file is done that has a place in the part, and before the
 /// next is opened, its line as `print_part` writes it; and behind the line of one that is bad or

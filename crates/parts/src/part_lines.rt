@@ -13,7 +13,7 @@ use folders::{FileVerdict, Report, stream_line, write_verdict};
 use opening::{File, Torrent};
 use printing::{Line, flush_after};
 
-/// Writes what the check of one of so many parts found, numbered from 0, and flushes: the line
+/// Writes what the check of one of this many parts found, numbered from 0, and flushes: the line
 /// `part I/N INFOHASH` with the part's number from 1 on, the number of parts and the version 2 info
 /// hash; the line of each file that has a place in the part, as `print_report` writes it; for a
 /// hybrid a line on its version 1 pieces; and `part yes` or `part no`. It takes no memory. After

@@ -8,7 +8,7 @@ use crate::places::{Places, piece_count};
 use opening::Torrent;
 
 impl Places {
-    /// The places of one of so many parts, numbered from 0: from the piece that has the first of
+    /// The places of one of this many parts, numbered from 0: from the piece that has the first of
     /// its bytes up to that of the next part. Each part has about as many bytes, and together they
     /// have each place. Condition: there is such a part.
     pub fn of_part(torrent: &Torrent<'_>, part: u64, parts: u64) -> Places

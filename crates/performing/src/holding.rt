@@ -8,11 +8,11 @@ use real_files::{Noted, System};
 use session::{Paged, Session};
 use std::fs::File;
 
-// So many blocks are held at most, unless one piece has more.
+// This many blocks are held at most, unless one piece has more.
 const MOST_HELD: usize = 1 << 20;
 
 /// Replays the record, holds what cannot be proved yet, and writes the answers to their file, if
-/// they are wanted. The longest piece has so many blocks. Gives the exit status.
+/// they are wanted. The longest piece has this many blocks. Gives the exit status.
 pub(crate) fn hold_onto<'a, L: LineSink>(
     system: &System,
     session: &mut Session<'_, Paged>,

@@ -31,7 +31,7 @@ pub record IsGivenRow (c : RowCheck) (good : List ℕ) (content : List ℕ) : Ty
   pub fed : pieces.IsFedRow c.check [] taken
   pub marked : AreMarked good c.hashes.now (complete_nodes content c.layer)
 
--- nothing was given yet to a check of a row of so many bytes against these hashes of this layer
+-- nothing was given yet to a check of a row of this many bytes against these hashes of this layer
 pub record BeginsRow (size layer : ℕ) (hashes : List (List ℕ)) (c : RowCheck) : Type 0 where
   pub count : byte_count c ≡ 0
   pub shape_is : chosen_shape c ≡ size
@@ -75,7 +75,8 @@ pub record TakesRow (old : RowCheck) (marked : List ℕ) (bytes : List ℕ) (new
 
 -- the bytes that wait complete no piece
 abbrev pub IsSettled : RowCheck → Type 0
-IsSettled c = complete_count c.layer (pieces.byte_count c.check) ≡ complete_count c.layer (byte_count c)
+IsSettled c =
+    complete_count c.layer (pieces.byte_count c.check) ≡ complete_count c.layer (byte_count c)
 
 -- what was given, in a check in which no byte waits
 pub record IsEndedRow (c : RowCheck) (ended : PieceCheck) : Type 0 where

@@ -14,9 +14,9 @@ use std::alloc::Global;
 use std::mem::replace;
 
 /// The check of a file's pieces in a row, as [`PieceCheck::of_row`] makes it. The bytes of short
-/// pushes wait until eight blocks of them can be hashed side by side, or where bits are marked until
-/// they complete a piece; longer pushes are not copied, unless bytes wait. The room is taken by
-/// [`RowCheck::new`].
+/// pushes wait until eight blocks of them can be hashed side by side, or where bits are marked
+/// until they complete a piece; longer pushes are not copied, unless bytes wait. The room is taken
+/// by [`RowCheck::new`].
 #[derive(Drop)]
 pub struct RowCheck<'a> {
     check: PieceCheck<'a>,
@@ -190,7 +190,7 @@ impl<'a> RowCheck<'a> {
     }
 }
 
-// How many nodes of a layer are complete after so many bytes.
+// How many nodes of a layer are complete after this many bytes.
 fn complete(count: u64, layer: u32) -> u64
     requires { layer ≤ 32 }
     ensures { result ≡ complete_count layer count }

@@ -4,7 +4,7 @@ use Rattle.parts.specs.Parts.{place_count}
 use Rattle.parts.specs.Shares.{place_in}
 use Rattle.part_reports.proofs.starts.Division.start_at.Given as goal
 
--- the bytes of the files before this one were passed, and so many are left up to the byte
+-- the bytes of the files before this one were passed, and this many are left up to the byte
 abbrev pub invariant-files : goal.invariant-files
 invariant-files l = record {
   within : l.i ≤ length l.torrent.files;
