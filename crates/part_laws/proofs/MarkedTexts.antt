@@ -19,6 +19,7 @@ use Rattle.parts.specs.Parts.{Holds, IsPartVerdict, IsTruePart, PartReport, piec
 use Rattle.parts.specs.RowBits.{HasGoodPiece}
 use Rattle.parts.specs.Runs.{AreRunsIn, AreRunsOf, IsInOne, Run, runs_text}
 use Rattle.parts.specs.Telling.{AreToldRuns, has_runs}
+use Rattle.parts.specs.Words.{words_in_text}
 use Rattle.parts.specs.declared.places.Places.{Places}
 use Rattle.parts.specs.declared.telling.Telling.TheVariants as telling
 use Rattle.parts.proofs.HeldPieces.{piece_touches}
@@ -258,7 +259,7 @@ told_there t (x ∷ xs) (g ∷ fs) (suc n) f y there at = told_there t xs fs n f
 all_tell : (t : Description) (contents : Contents) (marked : List (FileVerdict × List Run))
     → ((n : ℕ) (f : FileEntry) (x : FileVerdict × List Run) → slice_get t.files n ≡ Some f → slice_get marked n ≡ Some x
     → AreToldRuns (AreRunsOf t f) (has_runs x.0) (contents n) x.1)
-    → AreTold t (telling.LineAndRuns lines.All) contents (told_of t marked t.files)
+    → AreTold words_in_text t (telling.LineAndRuns lines.All) contents (told_of t marked t.files)
 all_tell t contents marked runs n f y there at =
     let x = told_there t marked t.files n f y there at in (
       x.0.1,

@@ -1,5 +1,5 @@
 -- What a part tells of bad pieces that is true of its contents can be read.
-use Rattle.std.proofs.Common.{◌≡◌, ◌⊎◌, inl, inr, ℕ, zero, suc, ◌+◌, ◌<◌, ◌≤◌, Bool, true, false, List, [], ◌∷◌, slice_get, Option, Some}
+use Rattle.std.proofs.Common.{◌≡◌, ◌⊎◌, inl, inr, ℕ, zero, suc, ◌+◌, ◌<◌, ◌≤◌, List, [], ◌∷◌, slice_get, Option, Some}
 use Rattle.std.proofs.Common.{refl, sym, ◌∙◌, subst, arith}
 use Rattle.std.proofs.lemmas.Bool.{cases_lt}
 use Rattle.std.proofs.lemmas.Option.{none-some, same_Some}
@@ -8,8 +8,7 @@ use Rattle.opening.specs.Sound.{IsSound}
 use Rattle.folders.specs.declared.report.FileVerdict.{FileVerdict}
 use Rattle.folders.specs.declared.report.FileVerdict.TheVariants as file
 use Rattle.parts.specs.Parts.{Holds, IsBadIn, IsPartVerdict, piece_count}
-use Rattle.parts.specs.RowBits.{HasGoodPiece}
-use Rattle.parts.specs.Runs.{AreRunsIn, IsBadRun, IsGoodIfIn, IsInOne, Run}
+use Rattle.parts.specs.Runs.{AreRunsIn, IsBadRun, IsGoodIfIn, Run}
 use Rattle.parts.specs.Shares.{share}
 use Rattle.parts.specs.Spans.{end_in, first_in}
 use Rattle.parts.specs.Telling.{AreMarkedRuns, has_runs}

@@ -18,6 +18,7 @@ use Rattle.parts.specs.Parts.{IsTruePart}
 use Rattle.parts.specs.Runs.{AreRunsOf, Run}
 use Rattle.parts.specs.Shares.{share}
 use Rattle.parts.specs.Telling.{AreToldRuns, has_runs}
+use Rattle.parts.specs.Words.{words_in_text}
 use Rattle.parts.specs.declared.telling.Telling.TheVariants as telling
 use Rattle.part_reports.specs.MarkedJoins.{AreJoinedAs}
 use Rattle.part_reports.specs.Reasons.{IsMarkedReport}
@@ -61,7 +62,7 @@ pub record IsCheckText (t : Description) (contents : Contents) (verdicts : List 
   pub report : IsReportOf t contents verdicts v1
   pub told : List (FileVerdict × List ℕ)
   pub verdicts_are : verdicts_in told ≡ verdicts
-  pub tells : AreTold t (telling.LineAndRuns lines.All) contents told
+  pub tells : AreTold words_in_text t (telling.LineAndRuns lines.All) contents told
   pub is : text ≡ all_told told ++ end_text lines.All verdicts v1
 
 -- ---- the laws
