@@ -1,4 +1,4 @@
-use Rattle.std.proofs.Common.{◌∙◌, ap, arith}
+use Rattle.std.proofs.Common.{◌∙◌, ap}
 use Rattle.commands.specs.Outcomes.{answer_status}
 use Rattle.commands.proofs.marked_joins.join_marked.Goals as goal
 
