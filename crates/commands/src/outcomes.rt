@@ -1,8 +1,7 @@
 //! What each command answers over any devices: what goes out, and the exit status that follows.
-ghost use Rattle.std.specs.Prelude.{◌≡◌, ◌≢◌, ◌^◌, ◌+◌, ◌-◌, ◌≤◌, ◌↔◌, ℕ, Bool, IsTrue, List, [], None, Some, Ok, Err, IfErr, IfOk, OnErr, OnOk, String, length, map, not, true, false};
+ghost use Rattle.std.specs.Prelude.{◌≡◌, ◌≢◌, ◌^◌, ◌+◌, ◌≤◌, ◌↔◌, ℕ, Bool, IsTrue, List, [], None, Some, Ok, Err, IfErr, IfOk, OnErr, OnOk, String, length, map, not, true, false};
 ghost use Rattle.std.specs.String.{string_bytes};
 ghost use Rattle.benc.specs.Device.{BrokeOrUnflushed, SentAndFlushed, WroteAndFlushed};
-ghost use Rattle.chains.specs.Chain.{Chain};
 ghost use Rattle.gathering.specs.Gathering.{Gathers};
 ghost use Rattle.lines.specs.Rows.{spell};
 ghost use Rattle.lines.specs.Table.{refusal_row};
@@ -13,27 +12,23 @@ ghost use Rattle.replays.specs.Telling.{plain_as};
 ghost use Rattle.folders.specs.Root.{root_line_as};
 ghost use Rattle.seeding.specs.Seeding.{IsSeededAs, SeedsAs, seed_line_as, shelf_and_session};
 ghost use Rattle.folders.specs.TakeAll.{IsReadWithin};
-ghost use Rattle.folders.specs.Verdicts.{CountsUnreadable};
 ghost use Rattle.session.specs.Fresh.{IsFresh};
 ghost use Rattle.part_reports.specs.Heads.{AreMarked};
-ghost use Rattle.parts.specs.PartVisits.{VisitsPart};
-ghost use Rattle.parts.specs.Shares.{share};
-ghost use Rattle.commands.specs.Outcomes.{BlamesOne, ChecksPart, ConvertsRecord, EndsRoot, IsReplayed, IsListingFault, IsSeedingFault, IsUnprinted, JoinsMarkedParts, JoinsParts, MakesDraft, NamesOutput, NamesSink, WritesTorrent, answer_status, form_2_text, wanted_draft};
+ghost use Rattle.commands.specs.Outcomes.{BlamesOne, ConvertsRecord, EndsRoot, IsReplayed, IsListingFault, IsSeedingFault, IsUnprinted, JoinsMarkedParts, JoinsParts, MakesDraft, NamesOutput, NamesSink, WritesTorrent, answer_status, form_2_text, wanted_draft};
 
 use crate::joins::join_plain;
 use crate::marked_joins::join_marked;
-use actions::{Create, Part};
+use actions::Create;
 use benc::memory::MemSink;
 use benc::{Sink, Source};
 use conversions::ConvertFault;
 use drafts::Draft;
 use filetree::Refusal;
-use folders::{RootFault, SeekShelf, Shelf, ShelfFault, root_line_onto};
+use folders::{RootFault, Shelf, ShelfFault, root_line_onto};
 use gathering::GatherFault;
 use lines::LineSink;
 use opening::Torrent;
 use part_reports::{JoinFault, Kind, kind_of};
-use parts::{Places, print_part};
 use pieces::PieceBuffer;
 use printing::{Fault, OUTPUT, write_line};
 use seeding::SeedFault;
@@ -115,34 +110,6 @@ pub fn refuse_onto<'a, L: LineSink>(
             Ok(()) => Ok(status(false)),
             Err(_) => Err(Fault::Write(OUTPUT)),
         },
-    }
-}
-
-/// Checks one part of the torrent's files on a shelf, and prints what it found: the lines of the
-/// files that have a place in the part. The status is 0 for `part yes` and 1 for `part no`.
-pub fn check_part<'a, S: SeekShelf, W: Sink>(
-    alloc: Global,
-    torrent: &Torrent<'_>,
-    shelf: &mut S,
-    part: Part,
-    out: &mut W,
-) -> Result<u8, Fault<'a>>
-    ensures checks { ChecksPart torrent.now (part.number - 1) part.count
-        (S.Shelf.contents shelf.old).under
-        (λ files. Chain (VisitsPart S.opens_at S.Shelf.closes S.File.seen torrent.now
-        (share torrent.now (part.number - 1) part.count)) shelf.old torrent.now.files files
-        shelf.new × CountsUnreadable (S.Shelf.faults shelf.old) (S.Shelf.faults shelf.new) files)
-        (W.seen out.old) (W.seen out.new) result }
-    ensures no_memory { IfErr result (λ f. f ≡ Fault.NoMemory → shelf.new ≡ shelf.old) }
-{
-    let number = part.number - 1;
-    let places = Places::of_part(torrent, number, part.count);
-    let Ok(report) = parts::check_part(alloc, torrent, shelf, places) else {
-        return Err(Fault::NoMemory);
-    };
-    match print_part(&report, torrent, number, part.count, out) {
-        Ok(()) => Ok(status(report.yes())),
-        Err(_) => Err(Fault::Write(OUTPUT)),
     }
 }
 

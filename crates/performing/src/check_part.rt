@@ -58,5 +58,5 @@ fn judge_part<'a, W: Sink + Drop>(
             &mut out,
         );
     }
-    outcomes::check_part(system.alloc(), torrent, &mut folder, asked.part, &mut out)
+    part_checks::check_part(system.alloc(), torrent, &mut folder, asked.part, &mut out)
 }

@@ -1,6 +1,6 @@
 use Rattle.std.proofs.Common.{◌∙◌, ap, refl, rules}
 use Rattle.commands.specs.Outcomes.{answer_status}
-use Rattle.commands.proofs.outcomes.check_part.Goals as goal
+use Rattle.commands.proofs.part_checks.check_part.Goals as goal
 
 pub returns-in-Ok-print_part-clause-checks : goal.returns-in-Ok-print_part-clause-checks
 returns-in-Ok-print_part-clause-checks g c = (
