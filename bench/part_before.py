@@ -1,8 +1,10 @@
 """With --before PROGRAM: this program beside another build of it, on what is hashed several blocks or pairs at once, and
 on what is not. `root` and `check` of one file; `replay` of 2,048 answers of 512 leaves over 2^20 leaves, and of
-messages of one block each; `show` of a piece layer of 250,000 hashes; and `check` of many files of one block. A row has
-the median of the rounds' ratios of processor time, and the most that it may be for the kind of processor."""
+messages of one block each; `show` of a piece layer of 250,000 hashes; and `check` of many files of one block, and of
+1 to 40 KiB. A row has the median of the rounds' ratios of processor time, and the most that it may be for the kind of
+processor."""
 import os
+import random
 import shutil
 
 from measuring import BLOCK, BTCHECK, CPU, measured, need_program, write_random
@@ -17,7 +19,9 @@ MARKS = {
     "2,048 answers of 512 leaves": (0.65, 0.4),
     "a layer of 250,000 hashes": (0.5, 0.5),
     "messages of one block": (1.02, 1.02),
-    "files of one block": (1.02, 1.02),
+    # These two marks are guesses until they are measured.
+    "files of one block": (0.8, 0.45),
+    "files of 1 to 40 KiB": (0.8, 0.45),
 }
 
 
@@ -76,6 +80,19 @@ def small_files(folder, words):
     content, piece_length, _ = many_files(files, words)
     support.made_by_libtorrent([{"content": content, "torrent": torrent, "piece_length": piece_length, "hybrid": False}])
     missed = compare(words, "files of one block", "check", torrent, files)
+    shutil.rmtree(files)
+    return missed + mixed_files(folder, words)
+
+
+def mixed_files(folder, words):
+    """20,000 files of 1 to 40 KiB."""
+    files, torrent = os.path.join(folder, "files"), os.path.join(folder, "torrent")
+    os.makedirs(files)
+    draw = random.Random(1)
+    for number in range(20_000):
+        write(os.path.join(files, f"{number:05}"), [draw.randbytes(draw.randrange(1 << 10, 40 << 10))])
+    support.made_by_libtorrent([{"content": files, "torrent": torrent, "piece_length": 1 << 16, "hybrid": False}])
+    missed = compare(words, "files of 1 to 40 KiB", "check", torrent, files)
     shutil.rmtree(files)
     return missed
 

@@ -4,15 +4,16 @@ _btcheck_many() {
     local text=${COMP_WORDS[COMP_CWORD]} before=${COMP_WORDS[COMP_CWORD - 1]} options=''
     COMPREPLY=()
     if [ "$COMP_CWORD" -eq 1 ]; then
-        mapfile -t COMPREPLY < <(compgen -W 'check archive slurm --help --version' -- "$text")
+        mapfile -t COMPREPLY < <(compgen -W 'check create archive slurm --help --version' -- "$text")
         return
     fi
     case $before in
-        -j | --jobs | --parts) return ;;
+        -j | --jobs | --parts | --name | --piece-length | --exclude) return ;;
         --keep) mapfile -t COMPREPLY < <(compgen -d -- "$text") ;;
         *)
             case ${COMP_WORDS[1]} in
                 check) options='-j --jobs --parts --hosts --keep --help' ;;
+                create) options='-j --jobs --parts --hosts --keep --name --piece-length --hybrid --exclude --help' ;;
                 archive) options='-j --jobs --hosts --help' ;;
                 slurm) options='--parts --keep --submit --help' ;;
             esac

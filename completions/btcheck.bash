@@ -8,8 +8,9 @@ _btcheck_command() {
         root) options+=' -j --json --reasons' kinds=(file) ;;
         show) options+=' --long -j --json --reasons' kinds=(torrent) ;;
         check) options+=' -q --quiet --bad --extra --summary --part -j --json --reasons' kinds=(torrent folder) ;;
-        join) options+=' --reasons' kinds=(torrent file) last=more ;;
-        create) options+=' --name --piece-length --hybrid --exclude --no-clobber --reasons' kinds=(folder file) ;;
+        join) options+=' -j --json --reasons' kinds=(torrent file) last=more ;;
+        create) options+=' --name --piece-length --hybrid --exclude --no-clobber --part --reasons' kinds=(folder file) ;;
+        assemble) options+=' --reasons' kinds=(file file) last=more ;;
         convert) options+=' --reasons' kinds=(file file) ;;
         replay) options+=' --info-only --seed -o --answers --padded --pieces -j --json --reasons' kinds=(torrent file) ;;
         help) options='' kinds=(command) ;;
@@ -31,7 +32,7 @@ _btcheck_value() {
 _btcheck_argument() {
     local text=$2
     case $1 in
-        command) mapfile -t COMPREPLY < <(compgen -W 'root show check join create replay convert help' -- "$text") ;;
+        command) mapfile -t COMPREPLY < <(compgen -W 'root show check join create assemble replay convert help' -- "$text") ;;
         folder) mapfile -t COMPREPLY < <(compgen -d -- "$text") ;;
         file) mapfile -t COMPREPLY < <(compgen -f -- "$text") ;;
         torrent)

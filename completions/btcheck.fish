@@ -1,6 +1,6 @@
 # Completion of btcheck for fish.
 
-set -l commands root show check join create replay convert help
+set -l commands root show check join create assemble replay convert help
 set -l none "not __fish_seen_subcommand_from $commands"
 
 # How many arguments stand after the command.
@@ -39,9 +39,9 @@ complete -c btcheck -n '__fish_seen_subcommand_from join; and test (__btcheck_ar
     -k -a '(__fish_complete_suffix .torrent)'
 complete -c btcheck -n '__fish_seen_subcommand_from join; and test (__btcheck_arguments) -gt 0' -F
 
-complete -c btcheck -n '__fish_seen_subcommand_from root show check replay' -s j -l json -d 'Print each line as a JSON object'
+complete -c btcheck -n '__fish_seen_subcommand_from root show check join replay' -s j -l json -d 'Print each line as a JSON object'
 
-complete -c btcheck -n '__fish_seen_subcommand_from root show check join create convert replay' -l reasons \
+complete -c btcheck -n '__fish_seen_subcommand_from root show check join create assemble convert replay' -l reasons \
     -d 'Print the reasons of the system'
 
 complete -c btcheck -n $none -a create -d 'Make a torrent of all files in a folder'
@@ -53,6 +53,11 @@ complete -c btcheck -n '__fish_seen_subcommand_from create' -l piece-length -x -
 complete -c btcheck -n '__fish_seen_subcommand_from create' -l hybrid -d 'Make a hybrid'
 complete -c btcheck -n '__fish_seen_subcommand_from create' -l no-clobber -d 'Do not write a file that is there'
 complete -c btcheck -n '__fish_seen_subcommand_from create' -l exclude -x -d 'Leave out what matches'
+
+complete -c btcheck -n '__fish_seen_subcommand_from create' -l part -x -d 'Hash one part alone, as 1/4'
+
+complete -c btcheck -n $none -a assemble -d 'Assemble a torrent of what all parts hashed'
+complete -c btcheck -n '__fish_seen_subcommand_from assemble' -F
 
 complete -c btcheck -n $none -a convert -d 'Add directions to a record that has none'
 complete -c btcheck -n '__fish_seen_subcommand_from convert; and test (__btcheck_arguments) -lt 2' -F

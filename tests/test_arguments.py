@@ -12,7 +12,7 @@ PARTS = ["", "/", "1", "1/", "/1", "0/1", "2/1", "0/0", "1/0", "-1/2", "1/-2", "
          "1/18446744073709551616", "18446744073709551616/18446744073709551616", "\u0661/2"]
 
 # What a part of a check has not.
-NOT_OF_PARTS = ["--quiet", "-q", "--json", "-j", "--extra", "--summary"]
+NOT_OF_PARTS = ["--quiet", "-q", "--extra", "--summary"]
 
 REFUSED = [
     [],
@@ -47,7 +47,6 @@ REFUSED = [
     ["show", "a", "--long", "--long"],
     ["show", "a", "--reasons", "--reasons"],
     ["root", "a", "-q"],
-    ["join", "a", "b", "-j"],
     ["create", "a", "b", "-o", "c", "--name", "x", "--piece-length", "16384"],
     ["create", "a", "b", "--name", "x", "--piece-length", "16384", "--no-clobber", "--no-clobber"],
     ["convert", "a", "b", "--no-clobber"],
@@ -55,7 +54,7 @@ REFUSED = [
     ["root", "a", "--part", "1/2"],
     ["join"],
     ["join", "a"],
-    ["join", "a", "b", "--json"],
+    ["join", "a", "b", "--json", "--json"],
     ["root", "a", "--quiet"],
     ["root", "a", "--json", "--json"],
     ["show", "a", "--json=yes"],

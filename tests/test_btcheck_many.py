@@ -215,3 +215,52 @@ def test_a_job_array():
         cluster.wait_for_jobs()
         with open(f"{place}/kept/report", encoding="utf-8") as report:
             assert sorted(report.read().splitlines()) == many.archive.whole[1]
+
+
+def created(many, words, **options):
+    """How `btcheck-many create` ends with these words, as a list."""
+    bare = {**os.environ, "PATH": f"{many.place}/bin:{os.environ['PATH']}"}
+    return subprocess.run(["btcheck-many", "create", *words], cwd=many.place, env=bare, stdout=subprocess.PIPE,
+        stderr=subprocess.PIPE, timeout=120, check=False, **options)
+
+
+def test_a_torrent_is_made_in_parts_whatever_the_names():
+    with folder() as place:
+        many = Many(Archive(place))
+        names = [name for name in HOSTILE if isinstance(name, str)]
+        os.makedirs(f"{place}/some")
+        for at, name in enumerate(names):
+            write(f"{place}/some/{name}", bytes([at]) * (at * 9000))
+        write(f"{place}/some/left.tmp", b"x")
+        for at, name in enumerate(names):
+            options = ["--name", name, "--piece-length", "16384", "--exclude", "*.tmp", *["--hybrid"] * (at % 2)]
+            options = [f"{option}={value}" for option, value in zip(options[:6:2], options[1:6:2])] + options[6:]
+            whole = subprocess.run([BTCHECK, "create", f"{place}/some", f"{place}/whole", *options], stdout=subprocess.PIPE,
+                check=False)
+            assert whole.returncode == 0, (name, whole)
+            out = f"./{name}.torrent"
+            words = ["--name", name, "--piece-length", "16384", "--exclude", "*.tmp", *["--hybrid"] * (at % 2)]
+            done = created(many, ["--parts", "5", "-j", "3", *words, "--", f"{place}/some", out])
+            assert (done.returncode, done.stdout) == (0, b""), (name, done)
+            assert written(f"{place}/{out}") == written(f"{place}/whole") and not many.left(), name
+        assert not os.path.exists(f"{place}/hit")
+
+
+def test_a_torrent_in_parts_is_refused_as_one():
+    with folder() as place:
+        many = Many(Archive(place))
+        os.makedirs(f"{place}/some")
+        done = created(many, ["some", "out", "--name", "x", "--piece-length", "5"])
+        assert (done.returncode, done.stdout) == (1, b"refused 6 PieceLength\n") and not many.left(), done
+        done = created(many, ["some", "out", "--name", "x", "--piece-length", "16384", "--parts", "3"])
+        assert (done.returncode, done.stdout) == (1, b"refused 13 NoFiles\n") and not many.left(), done
+        os.symlink("nowhere", f"{place}/some/link")
+        done = created(many, ["some", "out", "--name", "x", "--piece-length", "16384", "--parts", "3"])
+        assert done.returncode == 2 and b"not all parts are done" in done.stderr, done
+        os.remove(f"{place}/some/link")
+        write(f"{place}/some/a", b"x" * 70000)
+        done = created(many, ["some", "out", "--name", "x", "--piece-length", "16384", "--parts", "3"])
+        assert (done.returncode, done.stdout) == (0, b"") and not many.left(), done
+        for words in ([], ["some"], ["some", "a", "b"], ["some", "out", "--nothing"], ["some", "out", "--name"]):
+            done = created(many, words)
+            assert done.returncode == 2 and b"Try btcheck-many --help." in done.stderr, (words, done)

@@ -246,6 +246,27 @@ def test_several_damages():
                     write(f"{content}/{name}", FILES[name])
 
 
+def test_many_small_files():
+    """Batches of small files: more than fit into one, with empty and larger files among them."""
+    draw = random.Random(7)
+    files = {f"{number:03}": draw.randbytes(draw.choice([0, 1, 16383, 16384, 16385, draw.randrange(50_000)]))
+             for number in range(300)}
+    for number, size in [(40, 131072), (41, 131073), (150, 600_000), (299, 131072)]:
+        files[f"{number:03}"] = draw.randbytes(size)
+    with folder() as place:
+        content = make_folder(f"{place}/content", files)
+        for path, torrent in made_torrents(place, content, [16384, 1 << 20]):
+            for share in [0, 0.02, 0.5, 1]:
+                names = [name for name in sorted(files) if draw.random() < share]
+                states = {name: draw.choice(DAMAGES_OF_BYTES if files[name] else DAMAGES)(f"{content}/{name}", files[name])
+                          for name in names}
+                expect_report(path, torrent, content, states)
+                for name in names:
+                    clear(f"{content}/{name}")
+                    clear(f"{content}/{name}.copy")
+                    write(f"{content}/{name}", files[name])
+
+
 def test_what_is_no_regular_file():
     with folder() as place:
         content = make_folder(f"{place}/content", FILES)

@@ -168,7 +168,7 @@ def test_keep_refuses():
         keep = program(place)
         pair, there = f"{TOP}/examples/pair.torrent", f"{place}/there"
         expect(run(program=keep), 2, b"", None)
-        expect(run(f"{TOP}/examples/abc.txt", there, "1", "127.0.0.1:1", program=keep), 2, b"", "fault: refused: The bytes are not canonical bencoding.\n")
+        expect(run(f"{TOP}/examples/abc.txt", there, "1", "127.0.0.1:1", program=keep), 2, b"", "fault: refused: The bytes are not canonical bencoding: BadStart at byte 0.\n")
         done = run(pair, there, "0", "127.0.0.1:1", program=keep)
         assert done.returncode == 1 and b"written 0 of 3," in done.stdout and done.stderr == b"", done
         expect(run(pair, there, "0", "127.0.0.1:1", program=keep), 2, b"", f"fault: {there}/a: File exists\n")

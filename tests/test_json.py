@@ -1,4 +1,4 @@
-"""`--json` of `root`, `show`, `check` and `replay`: each object says what its line says."""
+"""`--json` of `root`, `show`, `check`, `join` and `replay`: each object says what its line says."""
 import json
 import os
 import random
@@ -22,7 +22,7 @@ LINES = {
              r"total: (?P<bytes>\d+) (?P<size>.*)", r"pieces: (?P<count>\d+) of (?P<size>.*)", r"layers: (?P<count>\d+)"],
     "check": [*REFUSED, r"(?:extra|good|missing|unreadable|wrong length) (?P<path>.*)", r"bad (?P<piece>\d+) (?P<path>.*)", r"v1 good|v1 not checked",
               r"bad pieces (?P<first>\d+) (?P<last>\d+) bytes (?P<from>\d+)-(?P<to>\d+)",
-              r"v1 bad (?P<piece>\d+)", r"yes|no"],
+              r"v1 bad (?P<piece>\d+)", r"yes|no", r"part (?P<part>\d+)/(?P<parts>\d+) (?P<hash>[0-9a-f]{64})(?: bad)?", r"part yes|part no"],
     "replay": [*REFUSED, r"(?P<frame>\d+) stored (?P<count>\d+)", r"(?P<frame>\d+) verified (?P<file>\d+) (?P<block>\d+)",
                r"(?P<frame>\d+) held (?P<file>\d+) (?P<block>\d+)", r"held (?P<count>\d+)",
                r"(?P<frame>\d+) (?:proved|false|dropped) (?P<file>\d+) (?P<first>\d+) (?P<last>\d+)",
@@ -30,8 +30,8 @@ LINES = {
                r"(?P<frame>\d+) (?:answered|rejected|reject noted|keep-alive|sent request|sent)", r"(?P<frame>\d+) skipped (?P<id>\d+)",
                r"(?P<frame>\d+) bad frame (?P<id>\d+) (?P<length>\d+)", r"(?:not )?seeded (?P<path>.*)", r"fault (?P<name>\w+)", r"end"],
 }
-NUMBERS = {"length", "number", "offset", "bytes", "count", "piece", "frame", "file", "block", "id", "first", "last", "from", "to"}
-KIND = re.compile(r"not checked|not seeded|wrong length|bad pieces|reject noted|sent request|bad frame|keep-alive|piece length|info hash v[12]|v1 \w+|[a-z]+")
+NUMBERS = {"length", "number", "offset", "bytes", "count", "piece", "frame", "file", "block", "id", "first", "last", "from", "to", "part", "parts"}
+KIND = re.compile(r"not checked|not seeded|wrong length|bad pieces|reject noted|sent request|bad frame|keep-alive|part yes|part no|piece length|info hash v[12]|v1 \w+|[a-z]+")
 
 
 def unescaped(text):
@@ -39,8 +39,8 @@ def unescaped(text):
 
 
 def facts(command, line):
-    """What a line says, and its kind."""
-    for pattern in LINES[command]:
+    """What a line says, and its kind. `join` has the lines of `check`."""
+    for pattern in LINES["check" if command == "join" else command]:
         found = re.fullmatch(pattern, line)
         if found:
             said = {key: int(value) if key in NUMBERS else unescaped(value) for key, value in found.groupdict().items() if value is not None}
@@ -52,7 +52,7 @@ def facts(command, line):
     if command == "show" and "path" in said:
         return {"kind": "file", **said}
     words = line[len(str(said["frame"])) + 1:] if "frame" in said else line
-    kind = "v1 not checked" if words == "v1 not checked" else KIND.match(words)[0]
+    kind = "part bad" if "parts" in said and line.endswith(" bad") else "v1 not checked" if words == "v1 not checked" else KIND.match(words)[0]
     return {"kind": kind, **said}
 
 
@@ -102,6 +102,35 @@ def test_show_and_check():
         for text in (b"abc", b"", b"d4:info", b"de", b"d4:info0:e", b"d4:infod9:file treed1:a0:eee", ABC + b" "):
             for command in (["show", write(f"{place}/w", text)], ["check", f"{place}/w", place]):
                 assert agree(1, *command) == {"refused"}, text
+
+
+def test_parts_and_joins():
+    """Reports of parts and what they say together, with and without bad pieces, and of a hybrid."""
+    with folder() as place:
+        contents = [(name, random.Random(name).randbytes(40000 * at)) for at, name in enumerate(sorted(NAMES))]
+        path = write(f"{place}/t", torrent_of(contents, 16384))
+        for name, content in contents:
+            write(f"{place}/{name}", content)
+        write(f"{place}/{NAMES[4]}", bytes(len(dict(contents)[NAMES[4]])))
+        for options, first in (([], "part"), (["--bad"], "part bad")):
+            kinds, reports = set(), []
+            for number in (1, 2, 3):
+                asked = [path, place, "--part", f"{number}/3", *options]
+                done = run("check", *asked)
+                reports.append(write(f"{place}/report{number}", done.stdout))
+                kinds |= agree(done.returncode, "check", *asked)
+            assert kinds == {first, "good", "bad", "part yes", "part no", *(["bad pieces"] if options else [])}, kinds
+            assert agree(1, "join", path, *reports) == {"good", "bad", "no", *(["bad pieces"] if options else [])}
+            expect(run("join", path, *reports, "--json"), 1, run("check", path, place, *options, "--json").stdout)
+            expect(run("join", path, *reports[:2], "--json"), 2, "", "fault: part 3 of 3 is missing\n")
+        path = write(f"{place}/h", torrent(hybrid()))
+        report = run("check", path, f"{place}/none", "--part", "1/1")
+        assert agree(1, "check", path, f"{place}/none", "--part", "1/1") == {"part", "missing", "v1 not checked", "part no"}
+        assert agree(1, "join", path, write(f"{place}/report", report.stdout)) == {"missing", "v1 not checked", "no"}
+        objects = run("check", path, f"{place}/none", "--part", "1/1", "--json").stdout
+        expect(run("join", path, write(f"{place}/report", objects)), 2, "", f"fault: no whole report of a part: {place}/report\n")
+        for command in (["check", write(f"{place}/w", b"abc"), place, "--part", "1/1"], ["join", f"{place}/w", f"{place}/report"]):
+            assert agree(1, *command) == {"refused"}
 
 
 def test_replay_that_holds():

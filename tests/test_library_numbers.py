@@ -9,7 +9,7 @@ from test_library_c import module
 
 SIZES = {"u8": 1, "u32": 4, "u64": 8}
 STRUCTS = {"Asked": "btcheck_ask", "FileInfo": "btcheck_file", "BlocksInfo": "btcheck_blocks", "VerdictInfo": "btcheck_verdict",
-           "RunInfo": "btcheck_run", "HeldInfo": "btcheck_held"}
+           "RunInfo": "btcheck_run", "HeldInfo": "btcheck_held", "RefusalInfo": "btcheck_refusal", "CursorInfo": "btcheck_cursor"}
 
 
 def text_of(path):
@@ -21,7 +21,7 @@ def proved_structs():
     """Each struct of crates/c_layouts: its fields with offset and size as C lays them out, and its own size."""
     found = {}
     for name, path in (("Asked", "asked"), ("FileInfo", "file_info"), ("BlocksInfo", "blocks_info"), ("VerdictInfo", "verdict_info"),
-                       ("RunInfo", "held_info"), ("HeldInfo", "held_info")):
+                       ("RunInfo", "held_info"), ("HeldInfo", "held_info"), ("RefusalInfo", "refusal_info"), ("CursorInfo", "cursor_info")):
         text = text_of(f"crates/c_layouts/src/{path}.rt")
         body = re.search(r"#\[repr\(C\)\]\n(?:#.*\n)*pub struct " + name + r" \{\n(.*?)\n\}", text, re.S)[1]
         fields, end, widest = {}, 0, 1
@@ -39,7 +39,7 @@ def proved_structs():
 def proved_numbers():
     """The constants of crates/c_layouts, by the names that the header gives them."""
     numbers = {}
-    for path in ("status", "verdict_info"):
+    for path in ("status", "verdict_info", "refusal_info"):
         for name, number in re.findall(r"^(?:pub )?const (\w+): u32 = (\d+);", text_of(f"crates/c_layouts/src/{path}.rt"), re.M):
             numbers[name] = int(number)
     return numbers
@@ -65,7 +65,7 @@ def test_numbers():
     """Statuses, kinds and refusals have one number each: in the proved crates, the header and Rust. (test_names.py has the
     other languages.)"""
     header, proved = header_numbers(), proved_numbers()
-    wanted = {"OK": proved["DONE"], **{name: proved[name] for name in (
+    wanted = {"OK": proved["DONE"], **{name: number for name, number in proved.items() if name.startswith(("FAULT_", "KEY_"))}, **{name: proved[name] for name in (
         "WRONG_HANDLE", "NO_MEMORY", "TOO_LONG", "NO_ROOT", "NO_SUCH", "NOTHING", "TOO_SMALL", "BAD_SIZE", "TOO_SHORT", "BAD_PIECE", "HELD",
         "STORED", "BLOCKS", "ANSWERED", "REJECTED", "REJECT_NOTED", "KEEP_ALIVE", "SKIPPED")}}
     torrent = refusals("crates/filetree/src/refusal.rt", "pub fn number")

@@ -95,7 +95,9 @@ PRINTED = {
                                  "fault: not a file or folder: PATH", "fault: record is truncated: PATH",
                                  "fault: part I of N is missing", "fault: part I is there twice",
                                  "fault: no whole report of a part: PATH", "fault: a part of another torrent: PATH",
-                                 "fault: a report of another number of parts: PATH", "fault: no memory", "error: ..."],
+                                 "fault: a report of another number of parts: PATH", "fault: no whole part: PATH",
+                                 "fault: part I is of another folder", "fault: a part of another number of parts: PATH",
+                                 "fault: no memory", "error: ..."],
     "Refused torrents": ["refused 1 TooLarge", "refused 2 NotBencode KIND OFFSET", "refused 3 Missing KEY",
                          "refused 4 WrongType KEY", "refused 5 Version", "refused 6 PieceLength", "refused 7 Shape",
                          "refused 8 Path", "refused 9 Symlink", "refused 10 Length", "refused 11 Root",
@@ -279,6 +281,7 @@ FILES_FOR = {
     "RECORD": {"t.torrent", "two words", "folder"},
     "OUT": {"t.torrent", "two words", "folder"},
     "REPORT": {"t.torrent", "two words", "folder"},
+    "PART": {"t.torrent", "two words", "folder"},
 }
 
 # The options that take a value, and what it can be.
@@ -303,7 +306,7 @@ def test_completion_by_bash():
                 assert completed(place, *given, "f") == {"folder"} & FILES_FOR[name]
                 given += ["t.torrent"]
             # the last argument of `join` may be there many times
-            assert completed(place, *given, "") == (FILES_FOR["REPORT"] if command == "join" else set()), command
+            assert completed(place, *given, "") == (FILES_FOR["REPORT"] if command in ("join", "assemble") else set()), command
             assert completed(place, "btcheck", "-h", command, "") == FILES_FOR[help_of.arguments[0]]
         for option, name in VALUES.items():
             assert completed(place, "btcheck", "replay", option, "") == FILES_FOR[name], option

@@ -116,9 +116,9 @@ def errors_of_rust():
     for name in re.findall(r"^            sys::BTCHECK_\w+ => Error::(\w+),$", text, re.M):
         [sentence] = re.findall(rf"Error::{name} => (?:\{{\s*)?\"(.*?)\"", text)
         found[name] = (of_header[name][1], sentence)
-    for kind, body in re.findall(r"^    (\w+) \{\n(.*?)^    \}", text_of("bindings/rust/btcheck/src/refusals.rs"), re.M | re.S):
+    for kind, body in re.findall(r"^    (\w+Refusal) \{\n(.*?)^    \}", text_of("bindings/rust/btcheck/src/refusals.rs"), re.M | re.S):
         base, letter = {"TorrentRefusal": (100, "Torrent"), "HashRefusal": (200, "H"), "BlockRefusal": (300, "P")}[kind]
-        for name, number, sentence in re.findall(r"(\w+) = (\d+), *\s*\"(.*?)\";", body):
+        for name, number, sentence in re.findall(r"(\w+)(?:\(\w+: \w+\))? = (\d+), *\s*\"(.*?)\";", body):
             full = f"{letter}{name}" if base == 100 else f"{letter}{number}{name}"
             found[full] = (base + int(number), sentence)
     return found
@@ -126,7 +126,7 @@ def errors_of_rust():
 
 def sentences_of_the_header():
     text = text_of("bindings/c/btcheck.h")
-    return dict(re.findall(r'case BTCHECK_(\w+):\s*return "(.*?)";', text))
+    return dict(re.findall(r'case BTCHECK_((?!FAULT_|KEY_)\w+):\s*return "(.*?)";', text))
 
 
 def test_each_status_has_one_name_and_one_sentence():
@@ -180,3 +180,18 @@ def test_the_manual_has_each_call():
     assert shown == wanted, [(name, shown.get(name), wanted.get(name)) for name in shown.keys() | wanted if shown.get(name) != wanted.get(name)]
     explained = re.findall(r"^\.It Fn btcheck_(\w+)\n[^.\n]", rest, re.M)
     assert sorted(explained) == sorted(wanted), set(explained) ^ set(wanted)
+
+
+def test_faults_and_keys_have_one_text():
+    """What the header says of a fault and a key is what the proved crates print, and what Python and Rust say."""
+    header = text_of("bindings/c/btcheck.h")
+    rust, python = text_of("bindings/rust/btcheck/src/refusals.rs"), text_of("bindings/python/btcheck/_refusals.py")
+    for kind, names, source in (("FAULT", "_FAULTS", "crates/benc/src/fault.rt"), ("KEY", "_KEYS", "crates/filetree/src/refusal.rt")):
+        numbers = {name: int(number) for name, number in re.findall(rf"BTCHECK_{kind}_(\w+) = (\d+)", header)}
+        texts = dict(re.findall(rf'case BTCHECK_{kind}_(\w+): return "(.*?)";', header))
+        assert set(texts) == set(numbers) and sorted(numbers.values()) == list(range(1, len(numbers) + 1)), kind
+        found = dict(re.findall(r'(?:FaultKind|Key)::(\w+) => "(.*?)"', text_of(source)))
+        assert {camel(name): text for name, text in texts.items()} == {name: text for name, text in found.items() if name != "NoMemory"}, kind
+        assert dict((number, text) for number, text in re.findall(rf'= sys::BTCHECK_{kind}_(\w+), "(.*?)";', rust)) == texts, kind
+        listed = ast.literal_eval(re.search(rf"^{names} = (\(.*?\))$", python, re.M)[1])
+        assert listed == (None, *(texts[name] for name in sorted(numbers, key=numbers.get))), kind

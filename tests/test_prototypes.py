@@ -5,7 +5,7 @@ from test_names import text_of
 
 # A parameter of the header without its name, and what it is in Python's and in Rust's declarations.
 HANDLES = ("root", "session", "check", "holdings")
-STRUCTS = {"ask": "Asked", "file": "FileInfo", "blocks": "BlocksInfo", "held": "HeldInfo", "run": "RunInfo", "verdict": "VerdictInfo"}
+STRUCTS = {"ask": "Asked", "refusal": "RefusalInfo", "cursor": "CursorInfo", "file": "FileInfo", "blocks": "BlocksInfo", "held": "HeldInfo", "run": "RunInfo", "verdict": "VerdictInfo"}
 TYPES = {
     "uint32_t": ("u32", "u32"), "uint64_t": ("u64", "u64"), "size_t": ("size", "usize"), "bool": ("c.c_bool", "bool"),
     "uint64_t *": ("_to_u64", "*mut u64"), "const uint8_t *": ("c.c_char_p", "*const u8"), "uint8_t *": ("c.c_char_p", "*mut u8"),

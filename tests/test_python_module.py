@@ -1,9 +1,10 @@
 """The Python module over the C library: what it takes and refuses, what it says, and what it exports."""
 import pickle
+from random import Random
 
 from support import TOP
 from test_library_c import BLOCKS, CONTENT, LEAVES, ROOT, SMALL, TORRENT, module
-from torrents import file, info, torrent
+from torrents import file, info, torrent, torrent_of
 from trees import BLOCK, layer, root_of
 
 
@@ -127,6 +128,69 @@ def test_exceptions():
     for kind in (kinds.NoMemory, kinds.TorrentNoMemory, kinds.H7NoMemory):
         assert issubclass(kind, MemoryError)
     assert issubclass(kinds.NoSuch, LookupError)
+
+
+def test_a_refused_torrent_says_what_it_has():
+    """The fault of bencoding and its offset, or the key: as fields, and in the sentence. So it does in another process."""
+    kinds = module()
+    for content, kind, fields, sentence in (
+            (b"d1:a1:be!", kinds.TorrentNotBencode, {"fault": "Trailing", "offset": 8}, "canonical bencoding: Trailing at byte 8."),
+            (b"", kinds.TorrentNotBencode, {"fault": "Truncated", "offset": 0}, "canonical bencoding: Truncated at byte 0."),
+            (b"d4:infodee", kinds.TorrentMissing, {"key": "meta version"}, "missing: meta version."),
+            (b"de", kinds.TorrentMissing, {"key": "info"}, "missing: info."),
+            (b"i1e", kinds.TorrentWrongType, {"key": "top"}, "of another kind: top."),
+            (b"d4:infod12:meta versioni1eee", kinds.TorrentVersion, {}, "The meta version is not 2.")):
+        try:
+            kinds.Session(content)
+        except kinds.TorrentRefused as refused:
+            for one in (refused, pickle.loads(pickle.dumps(refused))):
+                assert type(one) is kind and vars(one) == fields and str(one).endswith(sentence), (content, vars(one), str(one))
+        else:
+            raise AssertionError(content)
+
+
+def test_what_is_known_goes_to_another_session():
+    """An export is taken by a session that knows the roots alone; one with a changed byte, or of another torrent, is not."""
+    kinds = module()
+    with kinds.Session(TORRENT) as session, kinds.Session(TORRENT, layers=False) as other, kinds.Session(TORRENT) as third:
+        assert list(session.export()) == []
+        session.take_hashes((ROOT, 0, 0, 8, 0), LEAVES)
+        messages = list(session.export())
+        assert [len(message) for message in messages] == [4 + 49 + 8 * 32], messages
+        for at in (*range(45), *range(49, 49 + 8 * 32)):  # all but how many proof layers were asked for
+            changed = bytearray(messages[0][4:])
+            changed[at] ^= 1
+            verdict = raised(other.frame, bytes(changed))
+            assert issubclass(verdict, kinds.BadSize if at == 0 else kinds.HashesRefused) and other.counts(0) == (1, 0), (at, verdict)
+        assert other.frame(messages[0][4:]) == kinds.Stored(14) and other.counts(0) == session.counts(0)
+        blocks = [block for block in LEAVES if block != bytes(32)]
+        assert raised(third.fill, 0, 0, blocks[:-1]) is kinds.H3BadCount and raised(third.fill, 9, 0, blocks) is kinds.NoSuch
+        assert raised(third.fill, 0, 9, blocks) is kinds.H2BadRange and raised(third.fill, 0, 0, blocks[::-1]) is kinds.H6Mismatch
+        assert third.fill(0, 0, blocks) > 0 and third.counts(0) == session.counts(0)
+        assert not third.is_marked(0, 0) and list(third.export()) == messages
+
+
+def test_each_known_leaf_is_exported():
+    """Sessions that know some pieces of three files, by chance: one that knows the roots alone learns each of their leaves, and
+    no others, also where a range is cut by what is not known or the export begins in its middle."""
+    kinds, random = module(), Random(29)
+    contents = [random.randbytes(size) for size in (700 * BLOCK + 5, BLOCK, 37 * BLOCK)]
+    described = torrent_of([(name, content) for name, content in zip("abc", contents)], 4 * BLOCK)
+    places = [(tree, block) for tree, content in enumerate(contents) for block in range(-(-len(content) // BLOCK))]
+    for share in (0, 0.02, 0.5, 0.97, 1):
+        with kinds.Session(described) as session, kinds.Session(described, layers=False) as other:
+            for file in session.files():
+                content = contents["abc".index(file.path)]
+                for piece in range(-(-len(content) // (4 * BLOCK))):
+                    if random.random() < share:
+                        session.take_piece(file.first_piece + piece, content[4 * BLOCK * piece:4 * BLOCK * (piece + 1)])
+            messages = list(session.export())
+            for message in random.sample(messages, len(messages)):
+                assert isinstance(other.frame(message[4:]), kinds.Stored), (share, len(message))
+            known = [place for place in places if session.want(*place) is None]
+            assert known == [place for place in places if other.want(*place) is None], share
+            assert (len(known) == len(places)) == (share == 1) and max(map(len, messages), default=0) <= 4 + 49 + 32 * 544
+        print(f"exports of {len(known)} of {len(places)} leaves: {len(messages)} messages")
 
 
 def test_what_is_exported():

@@ -52,7 +52,7 @@ enum {
   BTCHECK_TOO_LONG = 3,  /* more than 2^46 bytes, or than the file has; or a body of 2^32 or more */
   BTCHECK_NO_ROOT = 4,   /* an empty file has none */
   BTCHECK_NO_SUCH = 5,   /* no such tree, block or file */
-  BTCHECK_NOTHING = 6,   /* nothing to ask for, nothing to answer with, or not marked */
+  BTCHECK_NOTHING = 6,   /* nothing to ask for, to answer with or to export, or not marked */
   BTCHECK_TOO_SMALL = 7, /* the caller's room has too few places */
   BTCHECK_BAD_SIZE = 8,  /* a message of id 7, 21, 22 or 23 has a wrong size */
   BTCHECK_TOO_SHORT = 9, /* bytes of the file are still to come */
@@ -211,6 +211,71 @@ void btcheck_root_free(btcheck_root *root);
 btcheck_status btcheck_session_open(btcheck_session *session, const uint8_t *torrent, size_t len,
                                     bool layers);
 
+/* What the first fault of bytes is that are no canonical bencoding (BEP 3). */
+enum {
+  BTCHECK_FAULT_TRUNCATED = 1,     /* the bytes end inside an item, or where one is due */
+  BTCHECK_FAULT_BAD_START = 2,     /* no value begins with this byte, or no key does */
+  BTCHECK_FAULT_BAD_INTEGER = 3,   /* an integer is not in its one form */
+  BTCHECK_FAULT_INTEGER_RANGE = 4, /* an integer does not fit 64 bits */
+  BTCHECK_FAULT_BAD_LENGTH = 5,    /* the length of a byte string is not in its one form */
+  BTCHECK_FAULT_KEY_ORDER = 6,     /* a key is not above the key before it */
+  BTCHECK_FAULT_TRAILING = 7,      /* bytes follow the top value */
+  BTCHECK_FAULT_TOO_DEEP = 8       /* a list or dictionary begins while 128 are open */
+};
+
+/* A key of a torrent file, which a refusal is about. */
+enum {
+  BTCHECK_KEY_TOP = 1, /* no key: the top value itself */
+  BTCHECK_KEY_INFO = 2,
+  BTCHECK_KEY_META_VERSION = 3,
+  BTCHECK_KEY_FILE_TREE = 4,
+  BTCHECK_KEY_NAME = 5,
+  BTCHECK_KEY_PIECE_LENGTH = 6,
+  BTCHECK_KEY_PIECE_LAYERS = 7
+};
+
+/* What a refusal of a torrent has beside its status. */
+typedef struct btcheck_refusal {
+  uint64_t offset; /* of a fault: where the failing item begins, in bytes */
+  uint32_t fault;  /* of BTCHECK_TORRENT_NOT_BENCODE: the kind of the fault; else 0 */
+  uint32_t key;    /* of BTCHECK_TORRENT_MISSING and _WRONG_TYPE: the key; else 0 */
+} btcheck_refusal;
+
+/* As btcheck_session_open, and writes what a refusal has: at each status, zeros where there is
+   neither a fault nor a key. */
+btcheck_status btcheck_session_open_explained(btcheck_session *session, const uint8_t *torrent,
+                                              size_t len, bool layers, btcheck_refusal *refusal);
+
+/* The name of a kind of fault, as `btcheck show` prints it; never null. As btcheck_status_text, it is
+   in this header alone. */
+static inline const char *btcheck_fault_text(uint32_t fault) {
+  switch (fault) {
+    case BTCHECK_FAULT_TRUNCATED: return "Truncated";
+    case BTCHECK_FAULT_BAD_START: return "BadStart";
+    case BTCHECK_FAULT_BAD_INTEGER: return "BadInteger";
+    case BTCHECK_FAULT_INTEGER_RANGE: return "IntegerRange";
+    case BTCHECK_FAULT_BAD_LENGTH: return "BadLength";
+    case BTCHECK_FAULT_KEY_ORDER: return "KeyOrder";
+    case BTCHECK_FAULT_TRAILING: return "Trailing";
+    case BTCHECK_FAULT_TOO_DEEP: return "TooDeep";
+    default: return "no fault";
+  }
+}
+
+/* A key as a torrent file spells it, and `top` for the top value; never null. */
+static inline const char *btcheck_key_text(uint32_t key) {
+  switch (key) {
+    case BTCHECK_KEY_TOP: return "top";
+    case BTCHECK_KEY_INFO: return "info";
+    case BTCHECK_KEY_META_VERSION: return "meta version";
+    case BTCHECK_KEY_FILE_TREE: return "file tree";
+    case BTCHECK_KEY_NAME: return "name";
+    case BTCHECK_KEY_PIECE_LENGTH: return "piece length";
+    case BTCHECK_KEY_PIECE_LAYERS: return "piece layers";
+    default: return "no key";
+  }
+}
+
 void btcheck_session_free(btcheck_session *session);
 
 /* How many files and how many trees the torrent has. Trees are its distinct roots, numbered from 0
@@ -348,7 +413,8 @@ btcheck_status btcheck_session_take_piece(btcheck_session *session, uint32_t ind
 
 /* Holdings beside a session, in an empty handle. They hold `bound` blocks at most, but never fewer
    than the longest piece has. Free them before or after the session; use them with sessions of the
-   same torrent alone. */
+   same torrent alone. All memory for what they hold is asked for here, and is not written before
+   blocks come. BTCHECK_NO_MEMORY: it was refused. */
 btcheck_status btcheck_holdings_new(btcheck_holdings *holdings, btcheck_session *session,
                                     size_t bound);
 
@@ -448,6 +514,38 @@ btcheck_status btcheck_session_answer(btcheck_session *session, const btcheck_as
 /* BTCHECK_OK if answer would give hashes for this request. BTCHECK_NOTHING: it has to be
    rejected. */
 btcheck_status btcheck_session_can_answer(btcheck_session *session, const btcheck_ask *ask);
+
+/* ---- what is known, kept between two runs of a program
+
+   A session that was ended knows its leaves again when it takes them back: as messages that another
+   session wrote, or as a whole layer. Both prove themselves when they are taken, so a file that was
+   changed does no harm: it is refused. What is marked is not kept, since only bytes make marks. */
+
+/* A block of a tree, from which an export goes on. Zeros are the beginning. */
+typedef struct btcheck_cursor {
+  uint64_t tree, block;
+} btcheck_cursor;
+
+/* The most bytes that one message of an export has. */
+#define BTCHECK_MOST_EXPORTED 17461
+
+/* Writes the leaves that are known first from the cursor on, at most 512 of them in one hashes
+   message with its proof up to the root (BEP 52): the whole frame, its four bytes of length and its
+   body of id 22, at the front of the room; `length` is how many bytes it has. The cursor then stands
+   behind them. Each body is taken by btcheck_session_frame of any session of the torrent, also one
+   that was opened without layers. From a cursor of zeros on until BTCHECK_NOTHING, each known leaf is
+   in a message, but for that of a file of one block, which is its root. BTCHECK_TOO_SMALL: `length`
+   is how many bytes the room must have, never more than BTCHECK_MOST_EXPORTED; the cursor stays.
+   BTCHECK_NOTHING: no leaf is known from the cursor on. BTCHECK_NO_MEMORY: the cursor stays. */
+btcheck_status btcheck_session_export(btcheck_session *session, btcheck_cursor *cursor,
+                                      uint8_t *room, size_t size, uint64_t *length);
+
+/* Takes a whole layer of a tree, 0 for the leaves, without the pads past the file's end, and writes
+   how many places are newly known. BTCHECK_NO_SUCH: there is no such tree. 202: the layer is above
+   the root. 203: the layer has another number of hashes. 206: a hash, or one that follows from them,
+   differs from a known one. 207: memory was refused. */
+btcheck_status btcheck_session_fill(btcheck_session *session, size_t tree, uint32_t layer,
+                                    const uint8_t (*hashes)[32], size_t count, uint64_t *places);
 
 #ifdef __cplusplus
 }

@@ -25,6 +25,7 @@ using Blocks = btcheck_blocks;
 using Verdict = btcheck_verdict;
 using HeldBlocks = btcheck_held;
 using Run = btcheck_run;
+using Cursor = btcheck_cursor;
 
 // A call was refused, and nothing has changed.
 class Refused : public std::exception {
@@ -35,6 +36,25 @@ public:
 
 private:
   btcheck_status status_;
+};
+
+// Bytes are no torrent that can be checked: with the fault of bencoding and where it is, or the key, if it has them.
+class TorrentRefused : public Refused {
+public:
+  TorrentRefused(btcheck_status status, const btcheck_refusal &more)
+      : Refused(status), more_(more), sentence_(btcheck_status_text(status)) {
+    if (more.fault || more.key) sentence_.back() = ':';
+    if (more.fault) sentence_ += " " + std::string(btcheck_fault_text(more.fault)) + " at byte " + std::to_string(more.offset) + ".";
+    if (more.key) sentence_ += " " + std::string(btcheck_key_text(more.key)) + ".";
+  }
+  uint32_t fault() const { return more_.fault; }
+  uint64_t offset() const { return more_.offset; }
+  uint32_t key() const { return more_.key; }
+  const char *what() const noexcept override { return sentence_.c_str(); }
+
+private:
+  btcheck_refusal more_;
+  std::string sentence_;
 };
 
 // Throws what a status says.
@@ -149,7 +169,10 @@ public:
   explicit Session(std::string torrent, bool layers = true)
       : torrent_(std::make_shared<const std::string>(std::move(torrent))) {
     Bytes bytes = *torrent_;
-    see(btcheck_session_open(&handle_, bytes.data(), bytes.size(), layers));
+    btcheck_refusal more;
+    btcheck_status status = btcheck_session_open_explained(&handle_, bytes.data(), bytes.size(), layers, &more);
+    if (status / 100 == 1) throw TorrentRefused(status, more);
+    see(status);
   }
 
   // Bytes of a piece, and how many pieces all files have together.
@@ -278,6 +301,25 @@ public:
       room.resize(size_t(count));
       if (status == BTCHECK_OK) return room;
     }
+  }
+
+  // The leaves that are known first from the cursor on, as the whole frame of a hashes message, and moves the cursor
+  // behind them; nothing if no leaf is known. Begin with `Cursor{}`. `frame` of any session of the torrent takes it
+  // without its first four bytes.
+  std::optional<std::string> export_leaves(Cursor &cursor) {
+    std::string room(BTCHECK_MOST_EXPORTED, '\0');
+    uint64_t length;
+    if (!is(btcheck_session_export(&handle_, &cursor, reinterpret_cast<uint8_t *>(room.data()), room.size(), &length)))
+      return {};
+    room.resize(size_t(length));
+    return room;
+  }
+
+  // Takes a whole layer of a tree, 0 for the leaves, without the pads past the file's end.
+  uint64_t fill(size_t tree, uint32_t layer, const std::vector<Hash> &hashes) {
+    uint64_t places;
+    see(btcheck_session_fill(&handle_, tree, layer, rows(hashes), hashes.size(), &places));
+    return places;
   }
 
   bool can_answer(const Ask &ask) { return is(btcheck_session_can_answer(&handle_, &ask)); }

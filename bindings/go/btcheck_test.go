@@ -71,9 +71,44 @@ func TestRoot(t *testing.T) {
 func TestRefusedTorrent(t *testing.T) {
 	for _, torrent := range [][]byte{example(t, "abc.txt"), nil} {
 		_, err := Open(torrent, true)
-		see(t, err, TorrentNotBencode)
+		see(t, errors.Is(err, TorrentNotBencode) && !errors.Is(err, TorrentMissing), true)
 		see(t, errors.Is(err, TorrentRefused) && !errors.Is(err, BlockRefused), true)
 	}
+	var refused *NotTorrent
+	_, err := Open([]byte("d4:infodee"), true)
+	see(t, errors.As(err, &refused) && refused.Key == "meta version", true)
+	see(t, err.Error(), "A key of the torrent is missing: meta version.")
+	_, err = Open([]byte("d1:a1:be!"), true)
+	see(t, errors.As(err, &refused) && refused.Fault == "Trailing" && refused.Offset == 8, true)
+	see(t, err.Error(), "The bytes are not canonical bencoding: Trailing at byte 8.")
+	_, err = Open([]byte("d4:infod12:meta versioni1eee"), true)
+	see(t, err, TorrentVersion)
+}
+
+func TestKeeping(t *testing.T) {
+	session, content := opened(t), example(t, "pair/a")
+	defer session.Close()
+	ask, right := leaves(t, content)
+	_, err := session.TakeHashes(ask, right)
+	see(t, err, nil)
+	other, third := opened(t), opened(t)
+	defer other.Close()
+	defer third.Close()
+	var cursor Cursor
+	frame, err := session.Export(&cursor)
+	see(t, []any{len(frame), err}, []any{4 + 49 + 64, nil})
+	_, err = session.Export(&cursor)
+	see(t, err, Nothing)
+	_, err = other.Frame(frame[4:])
+	see(t, err, nil)
+	known, _, err := session.Counts(0)
+	see(t, err, nil)
+	found, _, err := other.Counts(0)
+	see(t, []any{found, err}, []any{known, nil})
+	places, err := third.Fill(0, 0, right)
+	see(t, []any{places, err}, []any{known - 1, nil})
+	_, err = third.Fill(99, 0, right)
+	see(t, err, NoSuch)
 }
 
 func TestBlocks(t *testing.T) {

@@ -71,3 +71,29 @@ func (session *Session) Want(tree int, block uint64) (Ask, error) {
 func (session *Session) CanAnswer(ask Ask) (bool, error) {
 	return yesOrNo(C.btcheck_session_can_answer(&session.handle, ask.fields()))
 }
+
+// Cursor is where an export goes on. Its zero value is the beginning.
+type Cursor struct{ tree, block uint64 }
+
+// Export gives the leaves that are known first from the cursor on, as the whole frame of a hashes message with the proof up
+// to the root, and moves the cursor behind them. Nothing: no leaf is known from there on. Frame of any session of the
+// torrent takes it without its first four bytes.
+func (session *Session) Export(cursor *Cursor) ([]byte, error) {
+	at := C.btcheck_cursor{tree: C.uint64_t(cursor.tree), block: C.uint64_t(cursor.block)}
+	room := make([]byte, C.BTCHECK_MOST_EXPORTED)
+	var length C.uint64_t
+	if err := asError(C.btcheck_session_export(&session.handle, &at, pointer(room), C.size_t(len(room)), &length)); err != nil {
+		return nil, err
+	}
+	cursor.tree, cursor.block = uint64(at.tree), uint64(at.block)
+	return room[:length], nil
+}
+
+// Fill takes a whole layer of a tree, 0 for the leaves, without the pads past the file's end, and gives how many places are
+// newly known.
+func (session *Session) Fill(tree int, layer uint32, hashes []Hash) (uint64, error) {
+	var places C.uint64_t
+	err := asError(C.btcheck_session_fill(&session.handle, C.size_t(tree), C.uint32_t(layer), rows(hashes),
+		C.size_t(len(hashes)), &places))
+	return uint64(places), err
+}

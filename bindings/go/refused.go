@@ -5,7 +5,10 @@ package btcheck
 */
 import "C"
 
-import "fmt"
+import (
+	"fmt"
+	"strings"
+)
 
 // Refused is the status of a call that was refused, by the numbers of btcheck.h. Its values are compared by errors.Is, also
 // with TorrentRefused, HashesRefused and BlockRefused.
@@ -132,6 +135,43 @@ func (status Refused) Error() string {
 		return sentence
 	}
 	return fmt.Sprintf("An unknown status: %d.", uint32(status))
+}
+
+// NotTorrent says why bytes are no torrent that can be checked, where there is more to say than the status. errors.Is
+// compares it as that status, and errors.As finds it.
+type NotTorrent struct {
+	Refused
+	// Fault is what the first fault of bencoding is, as `btcheck show` prints it, and Offset where the item begins that has
+	// it: of TorrentNotBencode alone.
+	Fault  string
+	Offset uint64
+	// Key is the key, as a torrent spells it, and "top" for the top value: of TorrentMissing and TorrentWrongType alone.
+	Key string
+}
+
+// Unwrap gives the status.
+func (refused *NotTorrent) Unwrap() error { return refused.Refused }
+
+func (refused *NotTorrent) Error() string {
+	sentence := strings.TrimSuffix(refused.Refused.Error(), ".")
+	if refused.Fault != "" {
+		return fmt.Sprintf("%s: %s at byte %d.", sentence, refused.Fault, refused.Offset)
+	}
+	return fmt.Sprintf("%s: %s.", sentence, refused.Key)
+}
+
+// The error of a torrent that was not opened.
+func notOpened(status C.btcheck_status, more *C.btcheck_refusal) error {
+	refused := &NotTorrent{Refused: Refused(status), Offset: uint64(more.offset)}
+	if more.fault != 0 {
+		refused.Fault = C.GoString(C.btcheck_fault_text(more.fault))
+		return refused
+	}
+	if more.key != 0 {
+		refused.Key = C.GoString(C.btcheck_key_text(more.key))
+		return refused
+	}
+	return asError(status)
 }
 
 func asError(status C.btcheck_status) error {

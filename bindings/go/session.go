@@ -36,11 +36,13 @@ type Session struct {
 }
 
 // Open opens a torrent file of version 2. With layers the session begins with the torrent's piece layers, else with the
-// roots alone. Close it when it is done with.
+// roots alone. Close it when it is done with. The error of bytes with a fault or with a wrong key is a *NotTorrent.
 func Open(content []byte, layers bool) (*Session, error) {
 	of := &torrent{bytes: C.CBytes(append(content[:len(content):len(content)], 0))}
 	session := &Session{torrent: of.taken()}
-	err := asError(C.btcheck_session_open(&session.handle, (*C.uint8_t)(of.bytes), C.size_t(len(content)), C.bool(layers)))
+	var more C.btcheck_refusal
+	err := notOpened(C.btcheck_session_open_explained(&session.handle, (*C.uint8_t)(of.bytes), C.size_t(len(content)),
+		C.bool(layers), &more), &more)
 	if err != nil {
 		of.release()
 		return nil, err

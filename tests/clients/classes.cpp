@@ -95,6 +95,36 @@ void asks(btcheck::Session &session, const std::string &content) {
   MUST(session.counts(0).second == 2 && session.frame(std::string()).kind == BTCHECK_KEEP_ALIVE);
 }
 
+// What one session knows goes to another one, and a whole layer does.
+void keeps(btcheck::Session &session, const std::string &torrent) {
+  btcheck::Session other(torrent, false), third(torrent, false);
+  btcheck::Cursor cursor{};
+  std::optional<std::string> message = session.export_leaves(cursor);
+  MUST(message && message->size() == 4 + 49 + 2 * 32 && !session.export_leaves(cursor));
+  MUST(other.frame(btcheck::Bytes(message->data() + 4, message->size() - 4)).places == 2);
+  MUST(other.counts(0).first == session.counts(0).first && other.counts(0).second == 0);
+  std::vector<btcheck::Hash> leaves = *session.answer(btcheck::Ask(*third.want(0, 0)));
+  MUST(refused([&] { third.fill(0, 0, {}); }) == BTCHECK_H3_BAD_COUNT && third.fill(0, 0, leaves) == 2);
+}
+
+// A refusal has its fault or its key, and so has its sentence.
+void explains() {
+  try {
+    btcheck::Session(std::string("d1:a1:be!"));
+    MUST(false);
+  } catch (const btcheck::TorrentRefused &refused) {
+    MUST(refused.fault() == BTCHECK_FAULT_TRAILING && refused.offset() == 8 && refused.key() == 0);
+    MUST(refused.what() == std::string("The bytes are not canonical bencoding: Trailing at byte 8."));
+  }
+  try {
+    btcheck::Session(std::string("d4:infodee"));
+    MUST(false);
+  } catch (const btcheck::TorrentRefused &refused) {
+    MUST(refused.key() == BTCHECK_KEY_META_VERSION && refused.fault() == 0);
+    MUST(refused.what() == std::string("A key of the torrent is missing: meta version."));
+  }
+}
+
 } // namespace
 
 int main(int, char **words) {
@@ -106,4 +136,6 @@ int main(int, char **words) {
   checks(session, content);
   holds(session, content);
   asks(other, content);
+  keeps(other, torrent);
+  explains();
 }

@@ -72,6 +72,38 @@ static void checks(btcheck_session *session) {
   WANT(btcheck_check_new_pieces(&check, session, 0, 1, 1), BTCHECK_NO_SUCH);
 }
 
+/* What is known goes to a session that knows the roots alone, but not where a byte was changed; and a whole layer is taken. */
+static void keeps(btcheck_session *session, const uint8_t (*leaves)[32]) {
+  static uint8_t room[BTCHECK_MOST_EXPORTED], none[1][32];
+  static btcheck_verdict verdict;
+  btcheck_session other = BTCHECK_INIT;
+  btcheck_cursor cursor = {0, 0};
+  uint64_t length, known, found, marked, leaf_count = (size + BTCHECK_BLOCK - 1) / BTCHECK_BLOCK;
+  WANT(btcheck_session_counts(session, 0, &known, &marked), BTCHECK_OK);
+  WANT(btcheck_session_open(&other, torrent, len, false), BTCHECK_OK);
+  WANT(btcheck_session_export(&other, &cursor, room, sizeof room, &length), BTCHECK_NOTHING);
+  WANT(btcheck_session_export(session, &cursor, room, 1, &length), BTCHECK_TOO_SMALL);
+  CHECK(cursor.tree == 0 && cursor.block == 0 && length <= sizeof room);
+  WANT(btcheck_session_export(session, &cursor, room, sizeof room, &length), BTCHECK_OK);
+  CHECK(cursor.block == 8 && length == 4 + 49 + 8 * 32 && room[4] == 22);
+  room[4 + 49] ^= 1;
+  WANT(btcheck_session_frame(&other, room + 4, length - 4, &verdict), BTCHECK_H6_MISMATCH);
+  room[4 + 49] ^= 1;
+  WANT(btcheck_session_frame(&other, room + 4, length - 4, &verdict), BTCHECK_OK);
+  WANT(btcheck_session_counts(&other, 0, &found, &marked), BTCHECK_OK);
+  CHECK(found == known && marked == 0);
+  WANT(btcheck_session_export(session, &cursor, room, sizeof room, &length), BTCHECK_NOTHING);
+  btcheck_session_free(&other);
+  WANT(btcheck_session_open(&other, torrent, len, false), BTCHECK_OK);
+  WANT(btcheck_session_fill(&other, SIZE_MAX, 0, leaves, leaf_count, &found), BTCHECK_NO_SUCH);
+  WANT(btcheck_session_fill(&other, 0, 99, leaves, leaf_count, &found), BTCHECK_H2_BAD_RANGE);
+  WANT(btcheck_session_fill(&other, 0, 0, leaves, 1, &found), BTCHECK_H3_BAD_COUNT);
+  WANT(btcheck_session_fill(&other, 0, 3, (const uint8_t(*)[32])none, 1, &found), BTCHECK_H6_MISMATCH);
+  WANT(btcheck_session_fill(&other, 0, 0, leaves, leaf_count, &found), BTCHECK_OK);
+  CHECK(found == known - 1);
+  btcheck_session_free(&other);
+}
+
 /* Hashes and blocks of the first file, false ones first. */
 static void messages(btcheck_session *session, const btcheck_file *file) {
   static uint8_t leaves[8][32], room[16][32];
@@ -98,6 +130,7 @@ static void messages(btcheck_session *session, const btcheck_file *file) {
   WANT(btcheck_session_take_blocks(session, 77, 0, content, BTCHECK_BLOCK, &blocks), BTCHECK_P1_BAD_PLACE);
   WANT(btcheck_session_take_piece(session, 0, content + 1, 2 * BTCHECK_BLOCK, &one, &other), BTCHECK_P4_BAD_BLOCK);
   WANT(btcheck_session_take_piece(session, 0, content, 2 * BTCHECK_BLOCK, &one, &other), BTCHECK_OK);
+  keeps(session, (const uint8_t(*)[32])leaves);
 }
 
 /* Blocks that are held until their piece is whole: a false one, then all of it; and what a bound drops. The piece has 2 blocks. */
@@ -137,7 +170,13 @@ static void *calls(void *is_first) {
   uint64_t one, other;
   btcheck_ask ask;
   btcheck_session session = BTCHECK_INIT;
-  if (btcheck_session_open(&session, torrent, len, true) != BTCHECK_OK) return is_first;
+  btcheck_refusal refusal;
+  btcheck_status status = btcheck_session_open_explained(&session, torrent, len, true, &refusal);
+  CHECK((status == BTCHECK_TORRENT_NOT_BENCODE) == (refusal.fault != 0));
+  CHECK((status == BTCHECK_TORRENT_MISSING || status == BTCHECK_TORRENT_WRONG_TYPE) == (refusal.key != 0));
+  if (status != BTCHECK_OK) return is_first;
+  btcheck_session_free(&session);
+  WANT(btcheck_session_open(&session, torrent, len, true), BTCHECK_OK);
   WANT(btcheck_session_files(&session, &one, &other), BTCHECK_OK);
   WANT(btcheck_session_file(&session, 0, &file), BTCHECK_OK);
   WANT(btcheck_session_file(&session, SIZE_MAX, &file), BTCHECK_NO_SUCH);

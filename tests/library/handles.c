@@ -11,6 +11,8 @@ static btcheck_blocks blocks;
 static btcheck_verdict verdict;
 static btcheck_held held;
 static btcheck_run run;
+static btcheck_cursor cursor;
+static btcheck_refusal refusal;
 static uint8_t hash[1][32], small[20], bytes[1 << 20];
 static uint64_t one, other;
 
@@ -37,6 +39,8 @@ static void want_of_session(btcheck_session *session, btcheck_status status) {
   WANT(btcheck_session_take_blocks(session, 0, 0, hash[0], 32, &blocks), status);
   WANT(btcheck_session_take_piece(session, 0, hash[0], 32, &one, &other), status);
   WANT(btcheck_session_frame(session, hash[0], 32, &verdict), status);
+  WANT(btcheck_session_export(session, &cursor, hash[0], 32, &one), status);
+  WANT(btcheck_session_fill(session, 0, 0, (const uint8_t(*)[32])hash, 1, &one), status);
   CHECK(one == 7 && other == 7 && ask.length == 0 && file.length == 0 && blocks.count == 0 && verdict.kind == 0);
   CHECK(hash[0][0] == 0 && small[0] == 0);
 }
@@ -90,7 +94,17 @@ int main(int argc, char **argv) {
     WANT(btcheck_root_push(&root, hash[0], 0), BTCHECK_OK);
     WANT(btcheck_root_finish(&root, &one, hash[0]), BTCHECK_NO_ROOT);
     WANT(btcheck_session_open(&session, hash[0], 1, true), BTCHECK_TORRENT_NOT_BENCODE);
-    WANT(btcheck_session_open(&session, torrent, len, true), BTCHECK_OK);
+    WANT(btcheck_session_open_explained(&session, hash[0], 1, true, &refusal), BTCHECK_TORRENT_NOT_BENCODE);
+    CHECK(refusal.fault == BTCHECK_FAULT_BAD_START && refusal.offset == 0 && refusal.key == 0);
+    CHECK(!strcmp(btcheck_fault_text(refusal.fault), "BadStart") && !strcmp(btcheck_fault_text(0), "no fault"));
+    WANT(btcheck_session_open_explained(&session, (const uint8_t *)"d4:infodee", 10, true, &refusal), BTCHECK_TORRENT_MISSING);
+    CHECK(refusal.key == BTCHECK_KEY_META_VERSION && refusal.fault == 0 && refusal.offset == 0);
+    CHECK(!strcmp(btcheck_key_text(refusal.key), "meta version") && !strcmp(btcheck_key_text(0), "no key"));
+    WANT(btcheck_session_open_explained(&session, torrent, len, true, &refusal), BTCHECK_OK);
+    CHECK(refusal.key == 0 && refusal.fault == 0);
+    refusal.key = 1;
+    WANT(btcheck_session_open_explained(&session, torrent, len, true, &refusal), BTCHECK_WRONG_HANDLE);
+    CHECK(refusal.key == 0);
     WANT(btcheck_session_open(&session, torrent, len, true), BTCHECK_WRONG_HANDLE);
     WANT(btcheck_session_open(&second, torrent, len, false), BTCHECK_OK);
     WANT(btcheck_session_counts(&session, 0, &one, &other), BTCHECK_OK);

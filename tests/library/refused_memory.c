@@ -101,6 +101,10 @@ int main(int argc, char **argv) {
     WANT(btcheck_session_counts(&session, 0, &known, &marked), BTCHECK_WRONG_HANDLE);
   }
   CHECK(of_torrent > 0 && of_session > 0);
+  btcheck_refusal refusal = {7, 7, 7};
+  btcheck_session second = BTCHECK_INIT;
+  WANT(WITH(0, btcheck_session_open_explained(&second, torrent, len, false, &refusal)), BTCHECK_TORRENT_NO_MEMORY);
+  CHECK(refusal.offset == 0 && refusal.fault == 0 && refusal.key == 0);
 
   for (long blocks = 0; WITH(blocks, btcheck_check_new(&check, &session, 0)) != BTCHECK_OK; blocks++, refused++) {
     WANT(status, BTCHECK_NO_MEMORY);
@@ -131,25 +135,37 @@ int main(int argc, char **argv) {
   WANT(btcheck_session_answer(&session, &ask, room, 8, &count), BTCHECK_OK);
   CHECK(count == 8 && !memcmp(room, hashes + 1, sizeof room));
 
+  /* What is exported, and a whole layer. */
+  static uint8_t frame[BTCHECK_MOST_EXPORTED];
+  btcheck_cursor cursor = {0, 0};
+  btcheck_file first;
+  count = 7;
+  WANT(WITH(0, btcheck_session_export(&session, &cursor, frame, sizeof frame, &count)), BTCHECK_NO_MEMORY);
+  CHECK(count == 7 && cursor.block == 0 && frame[4] == 0);
+  WANT(btcheck_session_export(&session, &cursor, frame, sizeof frame, &count), BTCHECK_OK);
+  CHECK(count == 4 + sizeof body && !memcmp(frame + 4 + 49, hashes + 1, sizeof room) && cursor.block == 8);
+  WANT(WITH(0, btcheck_session_export(&session, &cursor, frame, sizeof frame, &count)), BTCHECK_NOTHING);
+  WANT(btcheck_session_file(&session, 0, &first), BTCHECK_OK);
+  reopen();
+  WANT_EACH(btcheck_session_fill(&session, 0, 0, given, (first.length + BTCHECK_BLOCK - 1) / BTCHECK_BLOCK, &count), BTCHECK_H7_NO_MEMORY);
+  CHECK(count == 14);
+
   /* What is held stays as it is too. A file's blocks are the bytes 0 of each here, so they are false. */
   static uint8_t zeros[2 * BTCHECK_BLOCK];
   static btcheck_held held;
   btcheck_holdings holdings = BTCHECK_INIT;
   btcheck_run run;
   reopen();
-  WANT(WITH(0, btcheck_holdings_new(&holdings, &session, 100)), BTCHECK_NO_MEMORY);
-  WANT(btcheck_session_held(&holdings, &count), BTCHECK_WRONG_HANDLE);
-  WANT(btcheck_holdings_new(&holdings, &session, 100), BTCHECK_OK);
-  for (long blocks = 0; WITH(blocks, btcheck_session_hold(&session, &holdings, 0, 0, zeros, sizeof zeros, &held)) == BTCHECK_OK; blocks++) {
-    if (held.blocks.statuses[0] == BTCHECK_HELD && held.blocks.statuses[1] == BTCHECK_HELD) break;
-    CHECK(held.blocks.statuses[1] == BTCHECK_NO_MEMORY && held.dropped[0].tree == UINT64_MAX);
-    WANT(btcheck_session_held(&holdings, &count), BTCHECK_OK);
-    CHECK(count == (held.blocks.statuses[0] == BTCHECK_HELD));
-    want_unchanged();
-    refused++;
-  }
-  CHECK(refused > 0);
   refused = 0;
+  for (long blocks = 0; WITH(blocks, btcheck_holdings_new(&holdings, &session, 100)) != BTCHECK_OK; blocks++, refused++) {
+    WANT(status, BTCHECK_NO_MEMORY);
+    WANT(btcheck_session_held(&holdings, &count), BTCHECK_WRONG_HANDLE);
+    want_unchanged();
+  }
+  CHECK(refused > 1);
+  refused = 0;
+  WANT(WITH(0, btcheck_session_hold(&session, &holdings, 0, 0, zeros, sizeof zeros, &held)), BTCHECK_OK);
+  CHECK(held.blocks.statuses[0] == BTCHECK_HELD && held.blocks.statuses[1] == BTCHECK_HELD);
   WANT(WITH(0, btcheck_session_settle(&session, &holdings, &run)), BTCHECK_NOTHING);
   WANT(WITH(0, btcheck_session_held(&holdings, &count)), BTCHECK_OK);
   CHECK(count == 2);

@@ -27,6 +27,14 @@ class Asked(c.Structure):
         return Ask(bytes(self.root), self.base, self.index, self.length, self.proof)
 
 
+class RefusalInfo(c.Structure):
+    _fields_ = [("offset", c.c_uint64), ("fault", c.c_uint32), ("key", c.c_uint32)]
+
+
+class CursorInfo(c.Structure):
+    _fields_ = [("tree", c.c_uint64), ("block", c.c_uint64)]
+
+
 class FileInfo(c.Structure):
     _fields_ = [("length", c.c_uint64), ("first_piece", c.c_uint64), ("tree", c.c_uint64), ("root", c.c_ubyte * 32)]
 
@@ -98,6 +106,7 @@ check_finish = _call("check_finish", _to_u64)
 check_finish_bits = _call("check_finish_bits", _to_u64, c.c_char_p, size)
 check_free = _call("check_free", result=None)
 session_open = _call("session_open", c.c_char_p, size, c.c_bool)
+session_open_explained = _call("session_open_explained", c.c_char_p, size, c.c_bool, c.POINTER(RefusalInfo))
 session_free = _call("session_free", result=None)
 session_files = _call("session_files", _to_u64, _to_u64)
 session_file = _call("session_file", size, c.POINTER(FileInfo))
@@ -125,6 +134,8 @@ session_note = _call("session_note", _to_ask)
 session_take_answer = _call("session_take_answer", _to_ask, c.c_char_p, size, _to_u64)
 session_answer = _call("session_answer", _to_ask, c.c_char_p, size, _to_u64)
 session_can_answer = _call("session_can_answer", _to_ask)
+session_export = _call("session_export", c.POINTER(CursorInfo), c.c_char_p, size, _to_u64)
+session_fill = _call("session_fill", size, u32, c.c_char_p, size, _to_u64)
 
 
 def content_of(given: Content) -> bytes:

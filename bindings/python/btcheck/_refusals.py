@@ -103,10 +103,23 @@ class TorrentTooLarge(TorrentRefused):
     status = 101
 
 
+def _with_key(sentence: str, key: str | None) -> str:
+    return sentence if key is None else f"{sentence[:-1]}: {key}."
+
+
 class TorrentNotBencode(TorrentRefused):
     """The bytes are not canonical bencoding."""
 
     status = 102
+
+    fault: str | None = None
+    """What the first fault is, by the name that `btcheck show` prints: `Trailing`, say."""
+    offset: int | None = None
+    """Where the item begins that has it, in bytes."""
+
+    def __str__(self) -> str:
+        sentence = super().__str__()
+        return sentence if self.fault is None else f"{sentence[:-1]}: {self.fault} at byte {self.offset}."
 
 
 class TorrentMissing(TorrentRefused):
@@ -114,11 +127,23 @@ class TorrentMissing(TorrentRefused):
 
     status = 103
 
+    key: str | None = None
+    """Which key it is, as a torrent spells it; `top` is the top value itself."""
+
+    def __str__(self) -> str:
+        return _with_key(super().__str__(), self.key)
+
 
 class TorrentWrongType(TorrentRefused):
     """A value of the torrent is of another kind."""
 
     status = 104
+
+    key: str | None = None
+    """Which key it is, as a torrent spells it; `top` is the top value itself."""
+
+    def __str__(self) -> str:
+        return _with_key(super().__str__(), self.key)
 
 
 class TorrentVersion(TorrentRefused):
@@ -312,3 +337,15 @@ def refusal(status: int) -> Refused:
     other = Refused()
     other.status = status
     return other
+
+
+_FAULTS = (None, "Truncated", "BadStart", "BadInteger", "IntegerRange", "BadLength", "KeyOrder", "Trailing", "TooDeep")
+_KEYS = (None, "top", "info", "meta version", "file tree", "name", "piece length", "piece layers")
+
+
+def explain(refused: Refused, offset: int, fault: int, key: int) -> None:
+    """Gives a refusal of a torrent what it has beside its number."""
+    if isinstance(refused, TorrentNotBencode) and fault < len(_FAULTS):
+        refused.fault, refused.offset = _FAULTS[fault], offset
+    elif isinstance(refused, (TorrentMissing, TorrentWrongType)) and key < len(_KEYS):
+        refused.key = _KEYS[key]

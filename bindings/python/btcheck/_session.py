@@ -2,13 +2,16 @@
 from __future__ import annotations
 
 import ctypes as c
-from collections.abc import Callable, Iterable
+from collections.abc import Callable, Iterable, Iterator
 from typing import Any
 
 from . import _library as lib
 from ._library import AskLike, Content, Owner, content_of, digests, fields, holds, laid_out, number, u64
-from ._refusals import BadPiece, TooSmall
+from ._refusals import BadPiece, Nothing, TooSmall, TorrentRefused, explain
 from ._values import Ask, Blocks, File, HeldBlocks, Run, Settled, Verdict
+
+# The most bytes of one message of an export.
+MOST_EXPORTED = 17461
 
 
 class Session(Owner):
@@ -20,7 +23,12 @@ class Session(Owner):
         if not isinstance(layers, bool):
             raise TypeError("layers is True or False")
         self._torrent = content_of(torrent)  # lent to the library until close
-        lib.session_open(self._handle, self._torrent, len(self._torrent), layers)
+        more = lib.RefusalInfo()
+        try:
+            lib.session_open_explained(self._handle, self._torrent, len(self._torrent), layers, more)
+        except TorrentRefused as refused:
+            explain(refused, more.offset, more.fault, more.key)
+            raise
 
     def take_hashes(self, ask: AskLike, hashes: Iterable[Content]) -> int:
         """Takes a hashes message: its five fields and its hashes. Returns how many places are newly known."""
@@ -167,6 +175,26 @@ class Session(Owner):
                 continue
             return [space.raw[at:at + 32] for at in range(0, 32 * count.value, 32)]
         raise TooSmall
+
+    def export(self) -> Iterator[bytes]:
+        """What is known beyond the torrent's own layers, as whole frames of hashes messages: each known leaf is in one
+        of them, with the proof up to its root. The frames can be kept one after the other in a file; `frame` of any
+        session of the torrent takes `message[4:]`. They prove themselves then, so a changed file does no harm."""
+        cursor, room, length = lib.CursorInfo(), c.create_string_buffer(MOST_EXPORTED), u64()
+        while True:
+            try:
+                lib.session_export(self._handle, cursor, room, len(room), length)
+            except Nothing:
+                return
+            yield room.raw[:length.value]
+
+    def fill(self, tree: int, layer: int, hashes: Iterable[Content]) -> int:
+        """Takes a whole layer of a tree, 0 for the leaves, without the pads past the file's end. Returns how many places
+        are newly known. Raises NoSuch if there is no such tree, and H2BadRange, H3BadCount, H6Mismatch or H7NoMemory if
+        the layer is refused."""
+        given, places = digests(hashes), u64()
+        lib.session_fill(self._handle, number(tree, 64), number(layer), given, len(given) // 32, places)
+        return places.value
 
     def can_answer(self, ask: AskLike) -> bool:
         """Whether `answer` would give hashes for this request."""

@@ -39,6 +39,10 @@ pub enum Action<'a> {
     Join(Join<'a>),
     /// Make a torrent of a folder.
     Create(NewTorrent<'a>),
+    /// Hash one part of the files for that.
+    CreatePart(NewTorrent<'a>, Part),
+    /// Make a torrent of what all parts hashed.
+    Assemble(Assemble<'a>),
     /// Replay the messages that peers sent.
     Replay(Replay<'a>),
     /// Make a record of form 2 of one of form 1.
@@ -75,9 +79,12 @@ pub struct CheckPart<'a> {
     pub part: Part,
     /// Whether the runs of bad pieces of a file are printed after its line.
     pub bad: bool,
+    /// Whether its lines are printed as JSON objects.
+    pub json: bool,
 }
 
-/// One of this many parts of a check. The number is at least 1 and at most the count.
+/// One of this many parts of a check, or of the making of a torrent. The number is at least 1 and
+/// at most the count.
 #[derive(Clone, Copy)]
 pub struct Part {
     /// Its number, from 1.
@@ -95,6 +102,17 @@ pub struct Join<'a> {
     pub torrent: &'a str,
     /// The paths of the reports.
     pub reports: Vec<&'a str>,
+    /// Whether its lines are printed as JSON objects.
+    pub json: bool,
+}
+
+/// What is assembled, and where it goes.
+#[derive(Drop)]
+pub struct Assemble<'a> {
+    /// The path of the file that takes the torrent.
+    pub out: &'a str,
+    /// The paths of the parts.
+    pub parts: Vec<&'a str>,
 }
 
 /// Of what a torrent is made once its piece length is known.

@@ -4,5 +4,5 @@
 mod command;
 mod creation;
 
-pub use command::{Action, Asked, Check, CheckPart, Convert, Create, Join, Part, Replay};
+pub use command::{Action, Asked, Assemble, Check, CheckPart, Convert, Create, Join, Part, Replay};
 pub use creation::{NewTorrent, PieceLength, auto_length};

@@ -8,3 +8,4 @@ pub mod FileVerdicts
 pub mod EarlyEnds
 pub mod Starting
 pub mod Moving
+pub mod Exporting

@@ -39,13 +39,14 @@ all_pieces n = record { tree = n; from = 0; end = 2 ^ 64 - 1 }
 pub record IsNewHeld (d : Description) (bound : ℕ) (h : Held) : Type 0 where
   pub nothing : h.holdings.pieces ≡ empty
   pub most : h.holdings.most ≡ most_pieces bound (d.piece_length / 16384)
+  pub longest : h.holdings.longest ≡ d.piece_length / 16384
   pub clock : h.holdings.clock ≡ 0
   pub looks : h.cursor.pieces ≡ all_pieces 0
 
--- so the session's torrent has it, and the session stays as it is
+-- so the session's torrent has it, or memory is refused; and the session stays as it is
 abbrev pub StartsHolding : ℕ → Kind → Result Held ℕ → Kind → Type 0
 StartsHolding bound (kind.Session S) made k' = (k' ≡ kind.Session S)
-    × ((h : Held) × ((made ≡ Ok h) × IsNewHeld S.torrent bound h))
+    × ((made ≡ Err 2) ⊎ ((h : Held) × (made ≡ Ok h) × IsNewHeld S.torrent bound h))
 StartsHolding bound k made k' = (made ≡ Err 1) × (k' ≡ k)
 
 -- such holdings are in the empty handle, or are not; one that is full stays as it is, and so does

@@ -2,6 +2,7 @@
 pub mod Owning
 pub mod Holds
 pub mod RootCalls
+pub mod Openings
 pub mod SessionCalls
 pub mod AskCalls
 pub mod Files
@@ -11,4 +12,5 @@ pub mod Frames
 pub mod FileChecks
 pub mod CheckCalls
 pub mod Held
+pub mod Keeping
 pub mod Version

@@ -1,48 +1,19 @@
 -- What the calls on a session do.
-use Rattle.std.specs.Prelude.{◌≡◌, ◌≢◌, ◌⊎◌, ℕ, ◌+◌, ◌≤◌, Bool, List, length, Option, Some, None, Result, Ok, Err}
+use Rattle.std.specs.Prelude.{◌≡◌, ◌⊎◌, ℕ, ◌≤◌, Bool, List, length, Result}
 use Rattle.std.specs.FinMap as finite
 use Rattle.std.specs.FinSet as set
-use Rattle.filetree.specs.Names.{refusal_number}
-use Rattle.filetree.specs.declared.refusal.Refusal.{Refusal}
-use Rattle.filetree.specs.declared.refusal.Refusal.TheVariants as refusal
-use Rattle.opening.specs.Description.{Description}
-use Rattle.opening.specs.Describes.{Describes}
-use Rattle.opening.specs.Refusals.{RefusesTorrent}
 use Rattle.node_maps.specs.Digest.{Hash}
 use Rattle.partial_tree.specs.declared.refusal.HashRefusal.{HashRefusal}
 use Rattle.partial_tree.specs.declared.refusal.BlockRefusal.{BlockRefusal}
 use Rattle.partial_tree.specs.declared.refusal.PieceRefusal.{PieceRefusal}
 use Rattle.session.specs.Session.{SessionSeen}
-use Rattle.session.specs.Fresh.{IsFresh}
 use Rattle.wire.specs.declared.message.Ask.{Ask}
 use Rattle.owned_sessions.specs.Taken.{HashesTaken, BlockTaken, HasTreeBlock, PieceTaken}
 use Rattle.owned_sessions.specs.TreeStates.{HasState}
 use Rattle.btcheck_c.specs.Holds.{IsWrongKind}
 use Rattle.c_layouts.specs.Statuses.{HasHashes, HasBlock, HasPiece, IsAnswer}
-use Rattle.btcheck_c.specs.declared.thing.Thing.{Thing}
 use Rattle.btcheck_c.specs.declared.thing.Kind.{Kind}
 use Rattle.btcheck_c.specs.declared.thing.Kind.TheVariants as kind
-
--- ---- opening
-
--- a session of the torrent that the bytes describe, to which no message came yet
-abbrev pub IsSessionOf : List ℕ → Bool → SessionSeen → Type 0
-IsSessionOf input layers S = (d : Description) × (Describes input d × IsFresh d layers S)
-
--- why there is none, as a status: the torrent's refusal, or memory was refused for the session
-abbrev pub IsNoSession : List ℕ → ℕ → Type 0
-IsNoSession input status = ((r : Refusal) × ((status ≡ 100 + refusal_number r)
-    × (r ≢ refusal.NoMemory → RefusesTorrent input r))) ⊎ (status ≡ 2)
-
-abbrev pub OpensAs : List ℕ → Bool → Result SessionSeen ℕ → Type 0
-OpensAs input layers (Ok S) = IsSessionOf input layers S
-OpensAs input layers (Err status) = IsNoSession input status
-
--- a session of the torrent is in the handle; or there is none, and nothing is
-abbrev pub SessionOpened : List ℕ → Bool → ℕ → Option Thing → Type 0
-SessionOpened input layers status o' =
-    ((status ≡ 0) × ((S : SessionSeen) × ((o' ≡ Some (record { kind = kind.Session S }))
-    × IsSessionOf input layers S))) ⊎ ((o' ≡ None) × IsNoSession input status)
 
 -- ---- what is known
 

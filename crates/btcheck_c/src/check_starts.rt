@@ -21,7 +21,7 @@ pub(crate) fn begun(
 ) -> Result<FileCheck, u32>
     ensures { ChecksFile torrent.now number result }
 {
-    torrent.sound();
+    torrent.recall_sound();
     match tree_of(torrent, number) {
         Err(status) => Err(status),
         Ok(tree) => {
@@ -43,7 +43,7 @@ pub(crate) fn pieces_check_of(
 ) -> Result<FileCheck, u32>
     ensures { ChecksPieces torrent.now number from to result }
 {
-    torrent.sound();
+    torrent.recall_sound();
     match tree_of(torrent, number) {
         Err(status) => Err(status),
         Ok(tree) => {
@@ -60,7 +60,7 @@ pub(crate) fn pieces_check_of(
 fn tree_of<'s>(torrent: &'s Torrent<'static>, number: usize) -> Result<&'s TreeInfo<'static>, u32>
     ensures { FindsTree torrent.now number result }
 {
-    torrent.sound();
+    torrent.recall_sound();
     match torrent.files().get(number) {
         None => Err(NO_SUCH),
         Some(file) => match file.tree {

@@ -1,7 +1,8 @@
 //! What a handle of holdings has.
 
-ghost use Rattle.std.specs.Prelude.{◌≡◌};
+ghost use Rattle.std.specs.Prelude.{◌≡◌, IfOk};
 
+use hashtree::NoMemory;
 use holdings::{Holdings, Pieces};
 use std::alloc::Global;
 
@@ -47,15 +48,16 @@ impl Held {
     ghost use Rattle.btcheck_c.specs.Held.{all_pieces};
 
     /// As [`Holdings::new`]. The pieces of the first tree are looked at.
-    pub(crate) fn new(alloc: Global, bound: usize, longest: usize) -> Held
-        ensures empty { result.holdings.pieces ≡ empty }
-        ensures most { result.holdings.most ≡ most_pieces bound longest }
-        ensures clock { result.holdings.clock ≡ 0 }
-        ensures looks { result.cursor.pieces ≡ all_pieces 0 }
+    pub(crate) fn new(alloc: Global, bound: usize, longest: usize) -> Result<Held, NoMemory>
+        ensures empty { IfOk result (λ h. h.holdings.pieces ≡ empty) }
+        ensures most { IfOk result (λ h. h.holdings.most ≡ most_pieces bound longest) }
+        ensures longest { IfOk result (λ h. h.holdings.longest ≡ longest) }
+        ensures clock { IfOk result (λ h. h.holdings.clock ≡ 0) }
+        ensures looks { IfOk result (λ h. h.cursor.pieces ≡ all_pieces 0) }
     {
-        Held {
-            holdings: Holdings::new(alloc, bound, longest),
+        Ok(Held {
+            holdings: Holdings::new(alloc, bound, longest)?,
             cursor: Cursor::of_tree(0),
-        }
+        })
     }
 }

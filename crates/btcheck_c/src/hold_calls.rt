@@ -9,7 +9,7 @@ use crate::held::{Cursor, Held};
 use crate::holding::{hold_blocks, settle_held};
 use crate::thing::{Kind, Thing};
 use c_layouts::held_info::{HeldInfo, RunInfo};
-use c_layouts::status::{DONE, WRONG_HANDLE};
+use c_layouts::status::{DONE, NO_MEMORY, WRONG_HANDLE};
 use hashtree::BLOCK_LENGTH;
 use std::alloc::Global;
 
@@ -20,7 +20,10 @@ fn start_holdings(alloc: Global, thing: &mut Thing, bound: usize) -> Result<Held
         Kind::Root(_) | Kind::Check(_) | Kind::Holdings(_) => Err(WRONG_HANDLE),
         Kind::Session(session) => {
             let longest = session.torrent().piece_length() / BLOCK_LENGTH;
-            Ok(Held::new(alloc, bound, longest as usize))
+            match Held::new(alloc, bound, longest as usize) {
+                Ok(held) => Ok(held),
+                Err(_) => Err(NO_MEMORY),
+            }
         }
     }
 }
@@ -115,7 +118,8 @@ pub extern "C" fn btcheck_holdings_new(
 
 /// Takes the blocks of a piece message, and writes which they are and what is made of each. Of a
 /// block that cannot be proved yet the digest is held, in place of an older one: status 11, or 2 if
-/// memory was refused for it. If there was no room for its piece, another piece gave way, whose
+/// none can be held for it, which takes no memory: 2^64 - 1 were held, or the holdings are those
+/// of another torrent. If there was no room for its piece, another piece gave way, whose
 /// blocks are written. What can be settled then is settled by [`btcheck_session_settle`]. Status 1:
 /// a handle holds something else. Status 301 or 302: the whole message is refused. Then session and
 /// holdings are as before.

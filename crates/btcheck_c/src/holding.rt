@@ -46,7 +46,7 @@ fn hold_unproved(
     ensures held { HeldBlocks session.old blocks.now bytes.now held.old result held.new }
     ensures same { session.new ≡ session.old }
 {
-    session.torrent().sound();
+    session.torrent().recall_sound();
     let (file, first) = blocks.place(0);
     let tree = session.torrent().tree_of(file).unwrap();
     let mut out = lay_out_unheld(blocks);

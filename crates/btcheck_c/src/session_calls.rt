@@ -1,17 +1,14 @@
-//! The calls on a session: opening it, and taking hashes and blocks.
+//! The calls on a session: taking hashes and blocks, and what is known.
 
 ghost use Rattle.std.specs.Prelude.{◌≡◌, ◌≢◌, None};
-ghost use Rattle.btcheck_c.specs.SessionCalls.{TakesHashes, TakesBlock, OpensAs, SessionOpened, Counted, AnswersIfMarked};
-ghost use Rattle.btcheck_c.specs.Holds.{Fills, Through};
+ghost use Rattle.btcheck_c.specs.SessionCalls.{TakesHashes, TakesBlock, Counted, AnswersIfMarked};
+ghost use Rattle.btcheck_c.specs.Holds.{Through};
 
 use crate::handle::Handle;
 use crate::thing::{Kind, Thing};
 use c_layouts::status::{
-    DONE, NO_MEMORY, NO_SUCH, TORRENT, WRONG_HANDLE, status_of_answer, status_of_block,
-    status_of_hashes,
+    DONE, NO_SUCH, WRONG_HANDLE, status_of_answer, status_of_block, status_of_hashes,
 };
-use opening::Torrent;
-use owned_sessions::OwnedSession;
 use std::alloc::Global;
 use wire::{Ask, Hash};
 
@@ -74,42 +71,6 @@ fn take_block(
         Kind::Session(session) => {
             status_of_block(session.take_block(index, begin, bytes), file, block)
         }
-    }
-}
-
-// A session of the torrent, or the status.
-fn open_session(alloc: Global, input: &'static [u8], with_layers: bool) -> Result<OwnedSession, u32>
-    ensures { OpensAs input.now with_layers result }
-{
-    let torrent = match Torrent::open(alloc, input) {
-        Err(refusal) => return Err(TORRENT + u32::from(refusal.number())),
-        Ok(torrent) => torrent,
-    };
-    match OwnedSession::new(alloc, torrent, with_layers) {
-        Err(_) => Err(NO_MEMORY),
-        Ok(session) => Ok(session),
-    }
-}
-
-/// Opens a torrent, and makes a session of it in an empty handle. The bytes must stay as they are
-/// until the handle is freed. Status 1: the handle is full. Status 2: memory was refused. Status
-/// 100 + n: refusal n of the torrent. Then the handle is as before.
-#[unsafe(no_mangle)]
-pub extern "C" fn btcheck_session_open(
-    alloc: Global,
-    handle: &mut Handle,
-    input: &'static [u8],
-    with_layers: bool,
-) -> u32
-    ensures { Fills (SessionOpened input.now with_layers) handle.old.slot.held result
-        handle.new.slot.held }
-{
-    if handle.is_full() {
-        return WRONG_HANDLE;
-    }
-    match open_session(alloc, input, with_layers) {
-        Err(status) => status,
-        Ok(session) => handle.fill(alloc, Kind::Session(session)),
     }
 }
 

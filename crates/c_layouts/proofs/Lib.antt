@@ -2,3 +2,4 @@
 pub mod Joining
 pub mod Entries
 pub mod Counting
+pub mod PartsPut

@@ -2,8 +2,11 @@
 pub mod Statuses
 pub mod Asks
 pub mod Blocks
+pub mod Cursors
 pub mod Files
+pub mod HashesFrames
 pub mod Held
 pub mod Paths
+pub mod Refusals
 pub mod Torrents
 pub mod Verdicts

@@ -22,7 +22,7 @@ pub fn file_info(torrent: &Torrent<'_>, number: usize) -> Option<FileInfo>
     ensures { MatchOption result (length torrent.now.files ≤ number)
         (IsFileInfo torrent.now number) }
 {
-    torrent.sound();
+    torrent.recall_sound();
     match torrent.files().get(number) {
         None => None,
         Some(file) => {

@@ -4,9 +4,13 @@
 
 pub mod asked;
 pub mod blocks_info;
+pub mod cursor_info;
 pub mod file_info;
+pub mod hashes_frame;
 pub mod held_info;
 pub mod path_text;
+mod putting;
+pub mod refusal_info;
 pub mod status;
 pub mod torrent_info;
 pub mod verdict_info;

@@ -3,6 +3,7 @@
 ghost use Rattle.std.specs.Prelude.{◌≡◌, ◌≢◌, ◌-◌, ◌^◌, ◌≤◌, ◌+◌, ◌++◌, drop, length, map, min, take};
 ghost use Rattle.c_layouts.specs.Paths.{path_text, HasPath};
 
+use crate::putting::put;
 use crate::status::{DONE, TOO_SMALL};
 
 /// The status of a path, which goes to the front of the room, and how many bytes it has. If the
@@ -50,15 +51,4 @@ fn write_text(parts: &[&str], room: &mut [u8])
         end = put(room, end, b"/");
         end = put(room, end, part.as_bytes());
     }
-}
-
-// Writes these bytes from a place on, and returns where they end.
-fn put(room: &mut [u8], place: usize, bytes: &[u8]) -> usize
-    requires { place + length bytes.now ≤ length room.old }
-    ensures end { result ≡ place + length bytes.now }
-    ensures room { room.new ≡ take place room.old ++ (bytes.now ++ drop result room.old) }
-{
-    let end = place + bytes.len();
-    room[place..end].copy_from_slice(bytes);
-    end
 }

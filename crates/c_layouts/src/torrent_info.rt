@@ -10,7 +10,7 @@ use pieces::PieceLength;
 pub fn count_pieces(torrent: &Torrent<'_>) -> u64
     ensures { result ≡ piece_count torrent.now }
 {
-    torrent.sound();
+    torrent.recall_sound();
     let piece_length = PieceLength::new(torrent.piece_length()).unwrap();
     match torrent.files().last() {
         None => 0,

@@ -25,4 +25,4 @@ pub use Rattle.replays.specs.Replay
 pub use Rattle.replays.specs.ReplayLines
 pub use Rattle.replays.specs.Outcome
 pub use Rattle.seeding.specs.Seeding
-pub use Rattle.seeding.specs.declared.seed_fault.SeedFault
+pub use Rattle.lines.specs.declared.out_fault.OutFault

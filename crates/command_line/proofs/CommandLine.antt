@@ -64,6 +64,7 @@ needed_texts name = beside name ((codes "root", codes "FILE" ∷ [])
     ∷ (codes "check", codes "TORRENT" ∷ codes "DIR" ∷ [])
     ∷ (codes "join", codes "TORRENT" ∷ [])
     ∷ (codes "create", codes "DIR" ∷ codes "OUT" ∷ codes "name" ∷ [])
+    ∷ (codes "assemble", codes "OUT" ∷ [])
     ∷ (codes "replay", codes "TORRENT" ∷ codes "RECORD" ∷ [])
     ∷ (codes "convert", codes "RECORD" ∷ codes "OUT" ∷ []) ∷ [])
 
@@ -84,7 +85,10 @@ has_texts rows (action.CheckPart asked) found =
     ((asked.torrent.now, found.0), ((asked.dir.now, found.1), tt))
 has_texts rows (action.Join asked) found = ((asked.torrent.now, found.0), tt)
 has_texts rows (action.Create asked) found =
-    ((asked.dir.now, found.0), ((asked.out.now, found.1), ((asked.name.now, found.2), tt)))
+    ((asked.dir.now, found.0.0), ((asked.out.now, found.0.1), ((asked.name.now, found.0.2), tt)))
+has_texts rows (action.CreatePart asked part) found =
+    ((asked.dir.now, found.0.0), ((asked.out.now, found.0.1), ((asked.name.now, found.0.2), tt)))
+has_texts rows (action.Assemble asked) found = ((asked.out.now, found.0), tt)
 has_texts rows (action.Replay asked) found =
     ((asked.torrent.now, found.0), ((asked.record.now, found.1), tt))
 has_texts rows (action.Convert asked) found =
@@ -120,7 +124,9 @@ needs_piece_length rows none (action.Show torrent json long) asks = differs _ _ 
 needs_piece_length rows none (action.Check asked) asks = differs _ _ refl asks.0
 needs_piece_length rows none (action.CheckPart asked) asks = differs _ _ refl asks.0
 needs_piece_length rows none (action.Join asked) asks = differs _ _ refl asks.0
-needs_piece_length rows none (action.Create asked) asks = none asked.piece_length asks.1.3
+needs_piece_length rows none (action.Create asked) asks = none asked.piece_length asks.1.0.3
+needs_piece_length rows none (action.CreatePart asked part) asks = none asked.piece_length asks.1.0.3
+needs_piece_length rows none (action.Assemble asked) asks = differs _ _ refl asks.0
 needs_piece_length rows none (action.Replay asked) asks = differs _ _ refl asks.0
 needs_piece_length rows none (action.Convert asked) asks = differs _ _ refl asks.0
 
@@ -136,8 +142,30 @@ needs_part rows text found none (action.Check asked) asks =
 needs_part rows text found none (action.CheckPart asked) asks =
     let is = asks.1.2 in
     let same : text ≡ is.0 = ap (λ (o : Option Text). unwrap_or o text) (sym found ∙ is.1) in
-    none asked.part (subst (λ t. IsPartText t asked.part) (sym same) is.2) asks.1.4
+    none asked.part (subst (λ t. IsPartText t asked.part) (sym same) is.2) asks.1.5
 needs_part rows text found none (action.Join asked) asks = differs _ _ refl asks.0
 needs_part rows text found none (action.Create asked) asks = differs _ _ refl asks.0
+needs_part rows text found none (action.CreatePart asked part) asks = differs _ _ refl asks.0
+needs_part rows text found none (action.Assemble asked) asks = differs _ _ refl asks.0
 needs_part rows text found none (action.Replay asked) asks = differs _ _ refl asks.0
 needs_part rows text found none (action.Convert asked) asks = differs _ _ refl asks.0
+
+-- with a part, `create` asks for nothing but that part
+pub needs_created_part : (rows : List Row) (text : Text) → first_of (codes "part") rows ≡ Some text
+    → ((part : Part) → IsPartText text part → ⊥)
+    → (a : Action) → Asks (codes "create") rows a → ⊥
+needs_created_part rows text found none (action.Root file json) asks = differs _ _ refl asks.0
+needs_created_part rows text found none (action.Show torrent json long) asks = differs _ _ refl asks.0
+needs_created_part rows text found none (action.Check asked) asks = differs _ _ refl asks.0
+needs_created_part rows text found none (action.CheckPart asked) asks = differs _ _ refl asks.0
+needs_created_part rows text found none (action.Join asked) asks = differs _ _ refl asks.0
+needs_created_part rows text found none (action.Create asked) asks =
+    let bad : Some text ≡ None = sym found ∙ asks.1.1 in
+    cc
+needs_created_part rows text found none (action.CreatePart asked part) asks =
+    let is = asks.1.1 in
+    let same : text ≡ is.0 = ap (λ (o : Option Text). unwrap_or o text) (sym found ∙ is.1) in
+    none part (subst (λ t. IsPartText t part) (sym same) is.2)
+needs_created_part rows text found none (action.Assemble asked) asks = differs _ _ refl asks.0
+needs_created_part rows text found none (action.Replay asked) asks = differs _ _ refl asks.0
+needs_created_part rows text found none (action.Convert asked) asks = differs _ _ refl asks.0

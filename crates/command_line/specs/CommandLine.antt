@@ -12,12 +12,14 @@ use Rattle.clap.specs.declared.builder.arg.Arg.{Arg}
 use Rattle.clap.specs.declared.builder.command.Command.{Command}
 use Rattle.clap.specs.declared.builder.command.Command.TheViews.{out-Command}
 use Rattle.clap.specs.declared.error.kind.ErrorKind.{ErrorKind}
-use Rattle.clap.specs.declared.error.kind.ErrorKind.TheVariants.{ArgumentConflict, DisplayHelp, DisplayVersion, MissingSubcommand, OutOfMemory, ValueValidation}
+use Rattle.clap.specs.declared.error.kind.ErrorKind.TheVariants.{OutOfMemory}
+pub use Rattle.command_line.specs.ErrorKinds.{IsShown, IsUnaskedKind}
 use Rattle.clap.specs.declared.builder.action.ArgAction.TheVariants.{Append, Set, SetTrue}
 use Rattle.actions.specs.declared.command.Action.{Action}
 use Rattle.actions.specs.declared.command.Action.TheVariants as action
 use Rattle.actions.specs.declared.command.Asked.{Asked}
 use Rattle.actions.specs.declared.command.Part.{Part}
+use Rattle.actions.specs.declared.creation.NewTorrent.{NewTorrent}
 use Rattle.actions.specs.declared.creation.PieceLength.{PieceLength}
 use Rattle.command_line.specs.Lengths.{IsPieceLengthText}
 use Rattle.command_line.specs.PartTexts.{IsPartText}
@@ -80,13 +82,18 @@ check_command = command (codes "check")
 
 abbrev pub join_command : Shape
 join_command = command (codes "join")
-    (needed (codes "TORRENT") ∷ needed_list (codes "REPORT") ∷ reasons_flag ∷ [])
+    (needed (codes "TORRENT") ∷ needed_list (codes "REPORT") ∷ json_flag ∷ reasons_flag ∷ [])
 
 abbrev pub create_command : Shape
 create_command = command (codes "create")
     (needed (codes "DIR") ∷ needed (codes "OUT") ∷ needed_option (codes "name")
     ∷ needed_option (codes "piece-length") ∷ flag (codes "hybrid")
-    ∷ list_option (codes "exclude") ∷ flag (codes "no-clobber") ∷ reasons_flag ∷ [])
+    ∷ list_option (codes "exclude") ∷ flag (codes "no-clobber") ∷ option (codes "part")
+    ∷ reasons_flag ∷ [])
+
+abbrev pub assemble_command : Shape
+assemble_command = command (codes "assemble")
+    (needed (codes "OUT") ∷ needed_list (codes "PART") ∷ reasons_flag ∷ [])
 
 abbrev pub convert_command : Shape
 convert_command = command (codes "convert")
@@ -107,7 +114,7 @@ program = record {
     subcommand_required = true;
   };
   subs = root_command ∷ show_command ∷ check_command ∷ join_command ∷ create_command
-      ∷ replay_command ∷ convert_command ∷ [];
+      ∷ assemble_command ∷ replay_command ∷ convert_command ∷ [];
 }
 
 -- what clap reads of this command
@@ -172,8 +179,8 @@ IsNotGiven name rows = first_of name rows ≢ Some (codes "true")
 
 -- none of the options is given that a part of a check has not
 abbrev pub IsPlain : List Row → Type 0
-IsPlain rows = IsNotGiven (codes "quiet") rows × IsNotGiven (codes "json") rows
-    × IsNotGiven (codes "extra") rows × IsNotGiven (codes "summary") rows
+IsPlain rows = IsNotGiven (codes "quiet") rows × IsNotGiven (codes "extra") rows
+    × IsNotGiven (codes "summary") rows
 
 -- the name of the command that does this
 abbrev pub command_of : Action → Text
@@ -183,8 +190,20 @@ command_of (action.Check asked) = codes "check"
 command_of (action.CheckPart asked) = codes "check"
 command_of (action.Join asked) = codes "join"
 command_of (action.Create asked) = codes "create"
+command_of (action.CreatePart asked part) = codes "create"
+command_of (action.Assemble asked) = codes "assemble"
 command_of (action.Replay asked) = codes "replay"
 command_of (action.Convert asked) = codes "convert"
+
+-- the texts and flags of a torrent that is to be made are what is found in the arguments
+abbrev pub FindsTorrent : List Row → NewTorrent → Type 0
+FindsTorrent rows asked =
+    IsText (codes "DIR") rows asked.dir × IsText (codes "OUT") rows asked.out
+    × IsText (codes "name") rows asked.name
+    × IsPieceLength (codes "piece-length") rows asked.piece_length
+    × IsFlag (codes "hybrid") rows asked.hybrid
+    × AreTexts (codes "exclude") rows asked.exclude.items
+    × IsFlag (codes "no-clobber") rows asked.no_clobber
 
 -- the texts and flags of this action are what is found in the arguments of its command
 abbrev pub FindsArguments : List Row → Action → Type 0
@@ -200,17 +219,17 @@ FindsArguments rows (action.Check asked) =
     × IsFlag (codes "extra") rows asked.extra × IsFlag (codes "summary") rows asked.summary
 FindsArguments rows (action.CheckPart asked) =
     IsText (codes "TORRENT") rows asked.torrent × IsText (codes "DIR") rows asked.dir
-    × IsPart (codes "part") rows asked.part × IsFlag (codes "bad") rows asked.bad × IsPlain rows
+    × IsPart (codes "part") rows asked.part × IsFlag (codes "bad") rows asked.bad
+    × IsFlag (codes "json") rows asked.json × IsPlain rows
 FindsArguments rows (action.Join asked) =
     IsText (codes "TORRENT") rows asked.torrent
-    × AreTexts (codes "REPORT") rows asked.reports.items
+    × AreTexts (codes "REPORT") rows asked.reports.items × IsFlag (codes "json") rows asked.json
 FindsArguments rows (action.Create asked) =
-    IsText (codes "DIR") rows asked.dir × IsText (codes "OUT") rows asked.out
-    × IsText (codes "name") rows asked.name
-    × IsPieceLength (codes "piece-length") rows asked.piece_length
-    × IsFlag (codes "hybrid") rows asked.hybrid
-    × AreTexts (codes "exclude") rows asked.exclude.items
-    × IsFlag (codes "no-clobber") rows asked.no_clobber
+    FindsTorrent rows asked × (first_of (codes "part") rows ≡ None)
+FindsArguments rows (action.CreatePart asked part) =
+    FindsTorrent rows asked × IsPart (codes "part") rows part
+FindsArguments rows (action.Assemble asked) =
+    IsText (codes "OUT") rows asked.out × AreTexts (codes "PART") rows asked.parts.items
 FindsArguments rows (action.Convert asked) =
     IsText (codes "RECORD") rows asked.record × IsText (codes "OUT") rows asked.out
 FindsArguments rows (action.Replay asked) =
@@ -269,11 +288,6 @@ IsTaken words = fault_of program words ≡ []
 abbrev pub IsAskedBy : List Text → Asked → Type 0
 IsAskedBy words asked = IsTaken words × IsFoundIn words asked
 
--- the kinds of an error that says why no action is found in what clap takes
-abbrev pub IsUnaskedKind : ErrorKind → Type 0
-IsUnaskedKind kind =
-    (kind ≡ ValueValidation) ⊎ (kind ≡ ArgumentConflict) ⊎ (kind ≡ MissingSubcommand)
-
 -- Why these words ask for no action: out of memory; or one of the kinds that clap's definition
 -- gives for their first fault, as that help is asked for; or they are taken, and no action is
 -- found in them: the part of `check` is none, or is given with an option that it has not, or the
@@ -281,9 +295,3 @@ IsUnaskedKind kind =
 abbrev pub IsRefusalOf : List Text → ErrorKind → Type 0
 IsRefusalOf words kind = ((kind ≡ OutOfMemory) ⊎ IsAmong kind (fault_of program words))
     ⊎ (IsTaken words × ((asked : Asked) → IsFoundIn words asked → ⊥) × IsUnaskedKind kind)
-
--- ---- what is printed of arguments that ask for no action
-
--- help or the version, which go to standard output
-abbrev pub IsShown : ErrorKind → Type 0
-IsShown kind = (kind ≡ DisplayHelp) ⊎ (kind ≡ DisplayVersion)

@@ -1,5 +1,6 @@
 -- What contracts of the command line cite.
 pub mod CommandLine
+pub mod ErrorKinds
 pub mod Lengths
 pub mod PartTexts
 pub mod Table

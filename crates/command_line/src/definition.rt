@@ -5,11 +5,12 @@ ghost use Rattle.command_line.specs.CommandLine.{IsApp, IsArgument, IsLeaf, prog
 ghost use Rattle.command_line.specs.Table.{action_for, leaf_of, needs, rule_for};
 
 use crate::help::{
-    ABOUT, ANSWERS_HELP, BAD_HELP, CHECK_ABOUT, CHECK_HELP, CONVERT_ABOUT, CONVERT_HELP,
-    CREATE_ABOUT, CREATE_HELP, EXAMPLES, EXCLUDE_HELP, EXTRA_HELP, HYBRID_HELP, INFO_ONLY_HELP,
-    JOIN_ABOUT, JOIN_HELP, JSON_HELP, LONG_HELP, NAME_HELP, NO_CLOBBER_HELP, PADDED_HELP,
-    PART_HELP, PIECE_LENGTH_HELP, PIECES_HELP, QUIET_HELP, REASONS_HELP, REPLAY_ABOUT, REPLAY_HELP,
-    ROOT_ABOUT, ROOT_HELP, SEED_HELP, SHOW_ABOUT, SHOW_HELP, STATUSES, SUMMARY_HELP, VERSION,
+    ABOUT, ANSWERS_HELP, ASSEMBLE_ABOUT, ASSEMBLE_HELP, BAD_HELP, CHECK_ABOUT, CHECK_HELP,
+    CONVERT_ABOUT, CONVERT_HELP, CREATE_ABOUT, CREATE_HELP, CREATE_PART_HELP, EXAMPLES,
+    EXCLUDE_HELP, EXTRA_HELP, HYBRID_HELP, INFO_ONLY_HELP, JOIN_ABOUT, JOIN_HELP, JSON_HELP,
+    LONG_HELP, NAME_HELP, NO_CLOBBER_HELP, PADDED_HELP, PART_HELP, PIECE_LENGTH_HELP, PIECES_HELP,
+    QUIET_HELP, REASONS_HELP, REPLAY_ABOUT, REPLAY_HELP, ROOT_ABOUT, ROOT_HELP, SEED_HELP,
+    SHOW_ABOUT, SHOW_HELP, STATUSES, SUMMARY_HELP, VERSION,
 };
 use Kind::{Flag, ShortFlag, ShortText, Text, Word};
 use Times::{Any, AtLeastOnce, AtMostOnce, Once};
@@ -105,6 +106,7 @@ const COMMANDS: &[Subcommand<'static>] = &[
                 AtLeastOnce,
                 "What each part of the check printed",
             ),
+            ("json", ShortFlag('j'), AtMostOnce, JSON_HELP),
             ("reasons", Flag, AtMostOnce, REASONS_HELP),
         ],
     },
@@ -120,6 +122,17 @@ const COMMANDS: &[Subcommand<'static>] = &[
             ("hybrid", Flag, AtMostOnce, HYBRID_HELP),
             ("exclude", Text("GLOB"), Any, EXCLUDE_HELP),
             ("no-clobber", Flag, AtMostOnce, NO_CLOBBER_HELP),
+            ("part", Text("I/N"), AtMostOnce, CREATE_PART_HELP),
+            ("reasons", Flag, AtMostOnce, REASONS_HELP),
+        ],
+    },
+    Subcommand {
+        name: "assemble",
+        about: ASSEMBLE_ABOUT,
+        help: ASSEMBLE_HELP,
+        arguments: &[
+            ("OUT", Word, Once, "The torrent file that is written"),
+            ("PART", Word, AtLeastOnce, "What each `create --part` wrote"),
             ("reasons", Flag, AtMostOnce, REASONS_HELP),
         ],
     },

@@ -8,11 +8,15 @@ ghost use Rattle.command_line.specs.PartTexts.{IsPartIfThere};
 
 use crate::sizes::piece_length_in;
 use actions::{
-    Action, Asked, Check, CheckPart, Convert, Join, NewTorrent, Part, PieceLength, Replay,
+    Action, Asked, Assemble, Check, CheckPart, Convert, Join, NewTorrent, Part, PieceLength, Replay,
 };
 use clap::ArgMatches;
 use clap::error::ErrorKind;
 use std::alloc::{AllocError, Global};
+
+// What is said of a part that is none.
+const NO_PART: &str = "invalid value for '--part <I/N>': it is not the number of a part, at least \
+                       1, and how many there are, as in 1/4";
 
 /// What the command that was found asks for.
 pub(crate) fn asked_in<'a>(
@@ -33,11 +37,7 @@ pub(crate) fn unasked(matches: &ArgMatches<'_>) -> (ErrorKind, &'static str)
 {
     match matches.subcommand() {
         Some(("check", found)) => unasked_part(found),
-        Some(("create", _)) => (
-            ErrorKind::ValueValidation,
-            "invalid value for '--piece-length <K>': it is not a number of bytes, as 65536, 64K or \
-             1M, nor `auto`",
-        ),
+        Some(("create", found)) => unasked_torrent(found),
         _ => (ErrorKind::MissingSubcommand, "a command is missing"),
     }
 }
@@ -47,18 +47,27 @@ fn unasked_part(found: &ArgMatches<'_>) -> (ErrorKind, &'static str)
     ensures { IsUnaskedKind result.0 }
 {
     if is_plain(found) {
-        (
-            ErrorKind::ValueValidation,
-            "invalid value for '--part <I/N>': it is not the number of a part, at least 1, and how \
-             many there are, as in 1/4",
-        )
+        (ErrorKind::ValueValidation, NO_PART)
     } else {
         (
             ErrorKind::ArgumentConflict,
-            "the argument '--part <I/N>' cannot be used with '--quiet', '--extra', '--summary' or \
-             '--json'",
+            "the argument '--part <I/N>' cannot be used with '--quiet', '--extra' or '--summary'",
         )
     }
+}
+
+// Why no torrent is asked for.
+fn unasked_torrent(found: &ArgMatches<'_>) -> (ErrorKind, &'static str)
+    ensures { IsUnaskedKind result.0 }
+{
+    if piece_length(found).is_some() {
+        return (ErrorKind::ValueValidation, NO_PART);
+    }
+    (
+        ErrorKind::ValueValidation,
+        "invalid value for '--piece-length <K>': it is not a number of bytes, as 65536, 64K or \
+         1M, nor `auto`",
+    )
 }
 
 // What the command of this name asks for, and whether reasons are printed.
@@ -90,6 +99,7 @@ fn action_of<'a>(
         "check" => Ok(whole_or_part_of(found)),
         "join" => Ok(join_of(found, texts(alloc, found, "REPORT")?)),
         "create" => Ok(create_of(found, texts(alloc, found, "exclude")?)),
+        "assemble" => Ok(assemble_of(found, texts(alloc, found, "PART")?)),
         "replay" => Ok(replay_of(found)),
         "convert" => Ok(convert_of(found)),
         _ => Ok(None),
@@ -142,6 +152,7 @@ fn whole_or_part_of<'a>(found: &ArgMatches<'a>) -> Option<Action<'a>>
                 dir,
                 part,
                 bad: is_given(found, "bad"),
+                json: is_given(found, "json"),
             }))
         }
         Some(_) => None,
@@ -152,10 +163,7 @@ fn whole_or_part_of<'a>(found: &ArgMatches<'a>) -> Option<Action<'a>>
 fn is_plain(found: &ArgMatches<'_>) -> bool
     ensures { IsTrue result ↔ IsPlain (rows_of (found_of found.now)) }
 {
-    !(is_true(found, "quiet")
-        || is_true(found, "json")
-        || is_true(found, "extra")
-        || is_true(found, "summary"))
+    !(is_true(found, "quiet") || is_true(found, "extra") || is_true(found, "summary"))
 }
 
 // Whether the option with this name is given.
@@ -187,7 +195,11 @@ fn join_of<'a>(found: &ArgMatches<'a>, reports: Vec<&'a str>) -> Option<Action<'
     ensures { IsActionOf (codes "join") (rows_of (found_of found.now)) result }
 {
     let torrent = text(found, "TORRENT")?;
-    Some(Action::Join(Join { torrent, reports }))
+    Some(Action::Join(Join {
+        torrent,
+        reports,
+        json: is_given(found, "json"),
+    }))
 }
 
 // What the arguments after `create` ask for.
@@ -199,7 +211,7 @@ fn create_of<'a>(found: &ArgMatches<'a>, exclude: Vec<&'a str>) -> Option<Action
     let out = text(found, "OUT")?;
     let name = text(found, "name")?;
     let piece_length = piece_length(found)?;
-    Some(Action::Create(NewTorrent {
+    let asked = NewTorrent {
         dir,
         out,
         name,
@@ -207,7 +219,20 @@ fn create_of<'a>(found: &ArgMatches<'a>, exclude: Vec<&'a str>) -> Option<Action
         hybrid: is_given(found, "hybrid"),
         exclude,
         no_clobber: is_given(found, "no-clobber"),
-    }))
+    };
+    match text(found, "part") {
+        None => Some(Action::Create(asked)),
+        Some(part) => Some(Action::CreatePart(asked, part_in(part)?)),
+    }
+}
+
+// What the arguments after `assemble` ask for.
+fn assemble_of<'a>(found: &ArgMatches<'a>, parts: Vec<&'a str>) -> Option<Action<'a>>
+    requires { AreTexts (codes "PART") (rows_of (found_of found.now)) parts.items }
+    ensures { IsActionOf (codes "assemble") (rows_of (found_of found.now)) result }
+{
+    let out = text(found, "OUT")?;
+    Some(Action::Assemble(Assemble { out, parts }))
 }
 
 // The piece length that was found.

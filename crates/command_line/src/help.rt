@@ -19,6 +19,10 @@ Examples:
                                              whether all parts together hold it
   btcheck create some some.torrent --name some --piece-length 1048576
                                              makes a torrent of a folder
+  btcheck create some part1 --name some --piece-length 1048576 --part 1/4
+                                             hashes the first of four parts for that
+  btcheck assemble some.torrent part1 part2 part3 part4
+                                             makes the torrent of all parts
   btcheck convert record directed            gives each frame of a record its direction
   btcheck replay some.torrent record         which blocks of recorded messages are right
 
@@ -37,6 +41,10 @@ Faults, and what to do:
   fault: part I is there twice        give one of the two reports
   fault: no whole report of a part: PATH
                                       it was cut or changed: run the part again
+  fault: no whole part: PATH          it was cut or changed: hash the part again
+  fault: part I is of another folder  a file came, went or grew between the parts: hash them again
+  fault: a part of another number of parts: PATH
+                                      give the parts of one division alone
   fault: a part of another torrent: PATH
                                       give the torrent that was checked
   fault: a report of another number of parts: PATH
@@ -90,6 +98,16 @@ A folder that cannot be a torrent prints `refused NUMBER NAME`, and the path of 
 Symbolic links, pipes and devices in DIR are a fault.
 In a GLOB `*` and `?` match no `/`, `**` does, `[a-z]` and `[!a-z]` are one character, and `\\`
 makes the next one plain. Without a `/`, or with one at its end alone, it matches at any depth.";
+
+pub(crate) const CREATE_PART_HELP: &str =
+    "Hash part I of N alone, and write to OUT what `assemble` needs of it; 1 is the first";
+
+pub(crate) const ASSEMBLE_ABOUT: &str = "Assembles a torrent of what all parts hashed";
+
+pub(crate) const ASSEMBLE_HELP: &str = "\
+A PART is what `btcheck create DIR PART --part I/N` wrote; the files of all N parts are needed, in
+any order. Writes to OUT the torrent that `btcheck create` writes without `--part`, or prints what
+that prints, with its status. OUT cannot be a PART.";
 
 pub(crate) const CONVERT_ABOUT: &str = "Adds directions to a record that has none";
 

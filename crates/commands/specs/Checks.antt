@@ -16,7 +16,7 @@ use Rattle.printing.specs.declared.fault.Fault.{Fault}
 use Rattle.printing.specs.declared.fault.Fault.TheVariants as faults
 
 module _ {S F : Type 0} (shelf : Ghosts S F) (seen : F → SourceSeen) where
-  -- What a check did, by its answer: each file was checked and told of before the next, and the
+  -- What a check did, by its answer: each file was checked and told of, in order, and the
   -- status is that of the last line; or the report broke off at a file or behind the last one; or
   -- memory was refused before the first.
   abbrev pub ChecksInTurn : Words → Description → Telling → Lines → S × SinkSeen

@@ -10,8 +10,8 @@ use Rattle.gathering.specs.declared.gather_fault.GatherFault.{GatherFault}
 use Rattle.gathering.specs.declared.gather_fault.GatherFault.TheVariants as gathering
 use Rattle.folders.specs.Root.{Blames, BreaksRootLine, PrintsRoot}
 use Rattle.folders.specs.declared.root.RootFault.TheVariants as root
-use Rattle.seeding.specs.declared.seed_fault.SeedFault.{SeedFault}
-use Rattle.seeding.specs.declared.seed_fault.SeedFault.TheVariants as seeding
+use Rattle.lines.specs.declared.out_fault.OutFault.{OutFault as SeedFault}
+use Rattle.lines.specs.declared.out_fault.OutFault.TheVariants as seeding
 use Rattle.folders.specs.declared.shelf_fault.ShelfFault.{ShelfFault}
 use Rattle.folders.specs.declared.shelf_fault.ShelfFault.TheVariants as listing
 use Rattle.folders.specs.declared.report_lines.Lines.{Lines}
@@ -28,7 +28,7 @@ use Rattle.filetree.specs.declared.refusal.Refusal.TheVariants as refusals
 use Rattle.filetree.specs.Tests.{First, NoneHolds, TestRow}
 use Rattle.drafts.specs.Written.{value_of}
 use Rattle.replays.specs.Outcome.{status_of}
-use Rattle.folders.specs.Printed.{Wording, report_as, report_text}
+use Rattle.folders.specs.Printed.{Wording, report_as}
 use Rattle.torrent_lines.specs.Refused.{refusal_text}
 use Rattle.replays.specs.Replay.{IsReport, ReplaySeen}
 use Rattle.replays.specs.Telling.{plain_as}
@@ -36,17 +36,20 @@ use Rattle.folders.specs.Shelf.{path_bytes}
 use Rattle.folders.specs.Verdicts.{HasVerdicts, IsTrueOfFolder, is_yes}
 use Rattle.folders.specs.declared.report_lines.Lines.TheVariants as lines
 use Rattle.lines.specs.Rows.{Spelling}
+use Rattle.lines.specs.Table.{already_form_2_row}
+use Rattle.lines.specs.Texts.{text_of}
 use Rattle.part_reports.specs.Joined.{AreJoined}
 use Rattle.part_reports.specs.MarkedJoins.{AreJoinedAs}
 use Rattle.part_reports.specs.Reasons.{HasReason, HasReasonOf}
-use Rattle.part_reports.specs.WholeLines.{PrintsWhole, StopsPrinting}
+use Rattle.part_reports.specs.WholeLines.{SaysWhole, StopsSaying}
 use Rattle.part_reports.specs.declared.join_fault.JoinFault.{JoinFault}
 use Rattle.part_reports.specs.declared.join_fault.JoinFault.TheVariants as joining
 use Rattle.part_reports.specs.declared.kind.Kind.TheVariants as kind
 use Rattle.part_reports.specs.declared.marked_report.MarkedReport.{MarkedReport}
 use Rattle.parts.specs.Finding.{IsTrueOfPlaces}
-use Rattle.parts.specs.PartLines.{part_text}
+use Rattle.parts.specs.PartWords.{PartWords, part_as}
 use Rattle.parts.specs.Shares.{share}
+use Rattle.parts.specs.Words.{Words}
 
 -- ---- statuses
 
@@ -130,53 +133,53 @@ Checks words t under Went Broken lines out out' (Err fault) = ⊥
 -- ---- parts
 
 -- What a part of a check did, by its answer: it went to the shelf so, the report of the part on
--- what stands under the torrent's paths went out, and the status is that of its last line; or that
--- report broke off; or memory was refused before it.
-abbrev pub ChecksPart : Description → ℕ → ℕ → (List (List ℕ) → Option (Option (List ℕ)))
-    → (List FileVerdict → Type 0) → SinkSeen → SinkSeen → Result ℕ Fault → Type 0
-ChecksPart t part count under Went out out' (Ok status) = (files : List FileVerdict)
+-- what stands under the torrent's paths went out, worded so, and the status is that of its last
+-- line; or that report broke off; or memory was refused before it.
+abbrev pub ChecksPart : PartWords → Description → ℕ → ℕ
+    → (List (List ℕ) → Option (Option (List ℕ))) → (List FileVerdict → Type 0) → SinkSeen → SinkSeen → Result ℕ Fault → Type 0
+ChecksPart words t part count under Went out out' (Ok status) = (files : List FileVerdict)
     × (v1 : Option V1Verdict) × HasVerdicts t files v1
     × IsTrueOfPlaces t (share t part count) under files v1 × Went files
-    × SentAndFlushed out out' (part_text t part count files v1)
+    × SentAndFlushed out out' (part_as words t part count files v1)
     × (status ≡ answer_status (is_yes files v1))
-ChecksPart t part count under Went out out' (Err (faults.Write path)) = (path.now ≡ codes "-")
+ChecksPart words t part count under Went out out' (Err (faults.Write path)) = (path.now ≡ codes "-")
     × (files : List FileVerdict) × (v1 : Option V1Verdict) × HasVerdicts t files v1
     × IsTrueOfPlaces t (share t part count) under files v1 × Went files
-    × BrokeOrUnflushed out out' (part_text t part count files v1)
-ChecksPart t part count under Went out out' (Err faults.NoMemory) = out' ≡ out
-ChecksPart t part count under Went out out' (Err fault) = ⊥
+    × BrokeOrUnflushed out out' (part_as words t part count files v1)
+ChecksPart words t part count under Went out out' (Err faults.NoMemory) = out' ≡ out
+ChecksPart words t part count under Went out out' (Err fault) = ⊥
 
 -- What joining reports did, by its answer: what they say together went out as the report of a
--- check, and the status is that of its last line; or they cannot be joined for this reason, and
+-- check, worded so, and the status is that of its last line; or they cannot be joined for this reason, and
 -- nothing was printed; or the report broke off; or memory was refused before it.
-abbrev pub JoinsParts : Description → List (List ℕ) → SinkSeen → SinkSeen
+abbrev pub JoinsParts : Wording → Description → List (List ℕ) → SinkSeen → SinkSeen
     → Result (Result ℕ JoinFault) Fault → Type 0
-JoinsParts t texts out out' (Ok (Ok status)) = (files : List FileVerdict)
+JoinsParts words t texts out out' (Ok (Ok status)) = (files : List FileVerdict)
     × (v1 : Option V1Verdict) × AreJoined t texts files v1
-    × SentAndFlushed out out' (report_text lines.All t.files files v1)
+    × SentAndFlushed out out' (report_as words lines.All t.files files v1)
     × (status ≡ answer_status (is_yes files v1))
-JoinsParts t texts out out' (Ok (Err fault)) =
+JoinsParts words t texts out out' (Ok (Err fault)) =
     (fault ≢ joining.NoMemory) × HasReason t texts fault × (out' ≡ out)
-JoinsParts t texts out out' (Err (faults.Write path)) = (path.now ≡ codes "-")
+JoinsParts words t texts out out' (Err (faults.Write path)) = (path.now ≡ codes "-")
     × (files : List FileVerdict) × (v1 : Option V1Verdict) × AreJoined t texts files v1
-    × BrokeOrUnflushed out out' (report_text lines.All t.files files v1)
-JoinsParts t texts out out' (Err faults.NoMemory) = out' ≡ out
-JoinsParts t texts out out' (Err fault) = ⊥
+    × BrokeOrUnflushed out out' (report_as words lines.All t.files files v1)
+JoinsParts words t texts out out' (Err faults.NoMemory) = out' ≡ out
+JoinsParts words t texts out out' (Err fault) = ⊥
 
 -- The same of marked reports: what they say together went out with the maximal runs of bad pieces
 -- of each file that is bad or has another length.
-abbrev pub JoinsMarkedParts : Description → List (List ℕ) → SinkSeen → SinkSeen
+abbrev pub JoinsMarkedParts : Words → Description → List (List ℕ) → SinkSeen → SinkSeen
     → Result (Result ℕ JoinFault) Fault → Type 0
-JoinsMarkedParts t texts out out' (Ok (Ok status)) = (joined : MarkedReport)
-    × AreJoinedAs kind.Marked t texts joined × PrintsWhole t joined out out'
+JoinsMarkedParts words t texts out out' (Ok (Ok status)) = (joined : MarkedReport)
+    × AreJoinedAs kind.Marked t texts joined × SaysWhole words t joined out out'
     × (status ≡ answer_status (is_yes joined.report.files.items joined.report.v1))
-JoinsMarkedParts t texts out out' (Ok (Err fault)) =
+JoinsMarkedParts words t texts out out' (Ok (Err fault)) =
     (fault ≢ joining.NoMemory) × HasReasonOf kind.Marked t texts fault × (out' ≡ out)
-JoinsMarkedParts t texts out out' (Err (faults.Write path)) = (path.now ≡ codes "-")
+JoinsMarkedParts words t texts out out' (Err (faults.Write path)) = (path.now ≡ codes "-")
     × (joined : MarkedReport) × AreJoinedAs kind.Marked t texts joined
-    × StopsPrinting t joined out out'
-JoinsMarkedParts t texts out out' (Err faults.NoMemory) = out' ≡ out
-JoinsMarkedParts t texts out out' (Err fault) = ⊥
+    × StopsSaying words t joined out out'
+JoinsMarkedParts words t texts out out' (Err faults.NoMemory) = out' ≡ out
+JoinsMarkedParts words t texts out out' (Err fault) = ⊥
 
 -- ---- seeds, new torrents and conversions
 
@@ -253,7 +256,7 @@ WritesTorrent draft path torrent torrent' out out' (Err f) =
 
 -- what is printed of a record that is of form 2 already
 abbrev pub form_2_text : List ℕ
-form_2_text = codes "refused 3 AlreadyForm2\n"
+form_2_text = text_of already_form_2_row
 
 -- the fault is that the record with this path ends inside a frame
 abbrev pub NamesCutRecord : List ℕ → Fault → Type 0

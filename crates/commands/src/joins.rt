@@ -1,31 +1,32 @@
 //! What a join of the reports of parts answers.
 ghost use Rattle.std.specs.Prelude.{map};
 ghost use Rattle.commands.specs.Outcomes.{JoinsParts};
+ghost use Rattle.folders.specs.Said.{worded};
 
 use crate::outcomes::status;
-use benc::Sink;
-use folders::print_report;
+use folders::say_report;
+use lines::LineSink;
 use opening::Torrent;
 use part_reports::{JoinFault, join_reports};
 use printing::{Fault, OUTPUT};
 use std::alloc::Global;
 
-/// Joins plain reports, and prints the verdicts.
-pub(crate) fn join_plain<'a, W: Sink>(
+/// Joins plain reports, and says the verdicts.
+pub(crate) fn join_plain<'a, L: LineSink>(
     alloc: Global,
     torrent: &Torrent<'_>,
     texts: &[&[u8]],
-    out: &mut W,
+    out: &mut L,
 ) -> Result<Result<u8, JoinFault>, Fault<'a>>
-    ensures { JoinsParts torrent.now (map (λ x. x.now) texts.now)
-        (W.seen out.old) (W.seen out.new) result }
+    ensures { JoinsParts (worded L.spelled) torrent.now (map (λ x. x.now) texts.now)
+        (L.seen out.old) (L.seen out.new) result }
 {
     let report = match join_reports(alloc, torrent, texts) {
         Ok(report) => report,
         Err(JoinFault::NoMemory) => return Err(Fault::NoMemory),
         Err(fault) => return Ok(Err(fault)),
     };
-    match print_report(&report, torrent, out) {
+    match say_report(&report, torrent, out) {
         Ok(()) => Ok(Ok(status(report.yes()))),
         Err(_) => Err(Fault::Write(OUTPUT)),
     }

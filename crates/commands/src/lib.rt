@@ -2,6 +2,7 @@
 #![tactic(auto)]
 
 pub mod checks;
+pub mod creations;
 mod joins;
 mod marked_joins;
 pub mod outcomes;

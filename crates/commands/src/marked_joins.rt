@@ -1,30 +1,31 @@
 //! What a join of marked reports of parts answers.
 ghost use Rattle.std.specs.Prelude.{map};
 ghost use Rattle.commands.specs.Outcomes.{JoinsMarkedParts};
+ghost use Rattle.parts.specs.Words.{words_as};
 
 use crate::outcomes::status;
-use benc::Sink;
+use lines::LineSink;
 use opening::Torrent;
-use part_reports::{JoinFault, join_marked_reports, print_marked_report};
+use part_reports::{JoinFault, join_marked_reports, say_marked_report};
 use printing::{Fault, OUTPUT};
 use std::alloc::Global;
 
-/// Joins marked reports, and prints the verdicts and the runs of bad pieces.
-pub(crate) fn join_marked<'a, W: Sink>(
+/// Joins marked reports, and says the verdicts and the runs of bad pieces.
+pub(crate) fn join_marked<'a, L: LineSink>(
     alloc: Global,
     torrent: &Torrent<'_>,
     texts: &[&[u8]],
-    out: &mut W,
+    out: &mut L,
 ) -> Result<Result<u8, JoinFault>, Fault<'a>>
-    ensures { JoinsMarkedParts torrent.now (map (λ x. x.now) texts.now)
-        (W.seen out.old) (W.seen out.new) result }
+    ensures { JoinsMarkedParts (words_as L.spelled) torrent.now (map (λ x. x.now) texts.now)
+        (L.seen out.old) (L.seen out.new) result }
 {
     let joined = match join_marked_reports(alloc, torrent, texts) {
         Ok(joined) => joined,
         Err(JoinFault::NoMemory) => return Err(Fault::NoMemory),
         Err(fault) => return Ok(Err(fault)),
     };
-    match print_marked_report(&joined, torrent, out) {
+    match say_marked_report(&joined, torrent, out) {
         Ok(()) => Ok(Ok(status(joined.report.yes()))),
         Err(_) => Err(Fault::Write(OUTPUT)),
     }

@@ -10,6 +10,8 @@ ghost use Rattle.torrent_lines.specs.Rows.{show_rows};
 ghost use Rattle.replays.specs.Replay.{IsCutReport, replay_seen};
 ghost use Rattle.replays.specs.Telling.{plain_as};
 ghost use Rattle.folders.specs.Root.{root_line_as};
+ghost use Rattle.folders.specs.Said.{worded};
+ghost use Rattle.parts.specs.Words.{words_as};
 ghost use Rattle.seeding.specs.Seeding.{IsSeededAs, SeedsAs, seed_line_as, shelf_and_session};
 ghost use Rattle.folders.specs.TakeAll.{IsReadWithin};
 ghost use Rattle.session.specs.Fresh.{IsFresh};
@@ -19,18 +21,17 @@ ghost use Rattle.commands.specs.Outcomes.{BlamesOne, ConvertsRecord, EndsRoot, I
 use crate::joins::join_plain;
 use crate::marked_joins::join_marked;
 use actions::Create;
-use benc::memory::MemSink;
 use benc::{Sink, Source};
 use conversions::ConvertFault;
 use drafts::Draft;
 use filetree::Refusal;
 use folders::{RootFault, Shelf, ShelfFault, root_line_onto};
 use gathering::GatherFault;
-use lines::LineSink;
+use lines::{Line, LineSink, Nowhere, say_last};
 use opening::Torrent;
 use part_reports::{JoinFault, Kind, kind_of};
 use pieces::PieceBuffer;
-use printing::{Fault, OUTPUT, write_line};
+use printing::{Fault, OUTPUT};
 use seeding::SeedFault;
 use session::{NodeMap, Paged, Session};
 use std::alloc::Global;
@@ -113,20 +114,22 @@ pub fn refuse_onto<'a, L: LineSink>(
     }
 }
 
-/// Joins what all parts of a check of this torrent reported, in any order, and prints it as the
+/// Joins what all parts of a check of this torrent reported, in any order, and says it as the
 /// report of the whole check. If the first report is marked all are to be, and the lines of bad
-/// pieces are printed too. The status is 0 for `yes` and 1 for `no`. If they cannot be joined it
-/// answers why, and prints nothing.
-pub fn join<'a, W: Sink>(
+/// pieces are said too. The status is 0 for `yes` and 1 for `no`. If they cannot be joined it
+/// answers why, and says nothing.
+pub fn join<'a, L: LineSink>(
     alloc: Global,
     torrent: &Torrent<'_>,
     texts: &[&[u8]],
-    out: &mut W,
+    out: &mut L,
 ) -> Result<Result<u8, JoinFault>, Fault<'a>>
     ensures plain { let given = map (λ x. x.now) texts.now in (AreMarked given → ⊥)
-        → JoinsParts torrent.now given (W.seen out.old) (W.seen out.new) result }
+        → JoinsParts (worded L.spelled) torrent.now given
+        (L.seen out.old) (L.seen out.new) result }
     ensures marked { let given = map (λ x. x.now) texts.now in AreMarked given
-        → JoinsMarkedParts torrent.now given (W.seen out.old) (W.seen out.new) result }
+        → JoinsMarkedParts (words_as L.spelled) torrent.now given
+        (L.seen out.old) (L.seen out.new) result }
 {
     match kind_of(texts) {
         Kind::Plain => join_plain(alloc, torrent, texts, out),
@@ -186,8 +189,7 @@ pub fn replay<'a, N: NodeMap, R: Source, L: LineSink>(
         (replay_seen cuts (R.seen source.new) session.new tt (L.seen out.new) None)) }
     ensures fault { IfErr result NamesOutput }
 {
-    // There is no sink for answers, so any type of sink will do.
-    let answers = None::<&mut MemSink>;
+    let answers = None::<&mut Nowhere>;
     let Ok(outcome) = replays::replay_onto(alloc, session, source, out, answers, cuts) else {
         return Err(Fault::Write(OUTPUT));
     };
@@ -289,8 +291,8 @@ pub fn convert<'a, R: Source, W: Sink, O: Sink>(
     }
 }
 
-// Why the folder with this path could not be listed.
-fn fault_of_listing<'a>(fault: ShelfFault, dir: &'a str) -> Fault<'a>
+/// Why the folder with this path could not be listed.
+pub(crate) fn fault_of_listing<'a>(fault: ShelfFault, dir: &'a str) -> Fault<'a>
     ensures { IsListingFault (Fault.Read dir.entry) fault result }
 {
     match fault {
@@ -307,7 +309,7 @@ fn refuse_form_2<'a, W: Sink>(out: &mut W) -> Result<u8, Fault<'a>>
     ensures line { WroteAndFlushed (W.seen out.old) (W.seen out.new) result form_2_text }
     ensures fault { IfErr result NamesOutput }
 {
-    if write_line(out, b"refused 3 AlreadyForm2\n").is_err() {
+    if say_last(&Line::AlreadyForm2, out).is_err() {
         return Err(Fault::Write(OUTPUT));
     }
     Ok(status(false))

@@ -5,10 +5,9 @@ ghost use Rattle.commands.specs.PieceReplays.{IsReplayedByPieces};
 ghost use Rattle.replays.specs.ByPieces.{by_pieces_as};
 ghost use Rattle.replays.specs.Replay.{IsCutReport, replay_seen};
 
-use benc::memory::MemSink;
 use benc::{Sink, Source};
 use holdings::Holdings;
-use lines::LineSink;
+use lines::{LineSink, Nowhere};
 use printing::{Fault, OUTPUT};
 use session::{NodeMap, Session};
 use std::alloc::Global;
@@ -31,8 +30,7 @@ pub fn replay_pieces<'a, N: NodeMap, R: Source, L: LineSink>(
         (replay_seen cuts (R.seen source.new) session.new holdings.new (L.seen out.new) None)) }
     ensures fault { IfErr result NamesOutput }
 {
-    // There is no sink for answers, so any type of sink will do.
-    let answers = None::<&mut MemSink>;
+    let answers = None::<&mut Nowhere>;
     match replays::replay_pieces_onto(alloc, session, holdings, source, out, answers, cuts) {
         Ok(outcome) => Ok(outcome.status()),
         Err(_) => Err(Fault::Write(OUTPUT)),

@@ -98,7 +98,7 @@ pub(crate) fn replay(
     if !by_pieces {
         return Ok(replay_onto(rt.alloc(), &mut session, source, &mut lines, answers, true));
     }
-    let mut held = Holdings::new(rt.alloc(), HELD, HELD);
+    let mut held = Holdings::new(rt.alloc(), HELD, HELD)?;
     Ok(replay_pieces_onto(
         rt.alloc(),
         &mut session,

@@ -18,7 +18,7 @@ file_is file.Unreadable f = refl
 file_is file.WrongLength f = refl
 file_is (file.Bad p) f = ap (λ t. codes "bad " ++ t) (sym (append_assoc (decimal p) (32 ∷ []) (path_text f.path ++ codes "\n")))
 
-version1_is : (v : V1Verdict) → text_of (version1_row v) ≡ version1_words v
+pub version1_is : (v : V1Verdict) → text_of (version1_row v) ≡ version1_words v
 unfolding items_text
 version1_is version1.Good = refl
 version1_is (version1.Bad i) = refl

@@ -7,6 +7,7 @@ ghost use Rattle.opening.specs.Seen.{file_entry};
 
 use crate::report::{FileVerdict, Report, V1Verdict, stream_is_good};
 use crate::report_lines::Lines;
+use crate::verdict_lines::{verdict_line, version1_line};
 use benc::{DeviceFault, WriteFault};
 use lines::{Checked, Line, LineSink, finish_after, say};
 use opening::{File, Torrent};
@@ -87,14 +88,7 @@ pub fn say_verdict<L: LineSink>(
     ensures { Wrote (L.seen out.old) (L.seen out.new) result
         (L.spelled (verdict_row verdict (file_entry file.now))) }
 {
-    let path = file.path.parts();
-    match verdict {
-        FileVerdict::Good => say(&Line::Checked(Checked::Good(&path)), out),
-        FileVerdict::Missing => say(&Line::Checked(Checked::Missing(&path)), out),
-        FileVerdict::Unreadable => say(&Line::Checked(Checked::Unreadable(&path)), out),
-        FileVerdict::WrongLength => say(&Line::Checked(Checked::WrongLength(&path)), out),
-        FileVerdict::Bad(piece) => say(&Line::Checked(Checked::Bad { piece, path: &path }), out),
-    }
+    say(&verdict_line(verdict, &file.path.parts()), out)
 }
 
 // Says the line of the version 1 pieces, if there is one and it is wanted.
@@ -113,15 +107,14 @@ fn say_stream<L: LineSink>(
     }
 }
 
-fn say_version1<L: LineSink>(v1: &Option<V1Verdict>, out: &mut L) -> Result<(), DeviceFault>
+/// Says the line of the version 1 pieces, if there is one. After a fault a prefix of it went out.
+pub fn say_version1<L: LineSink>(v1: &Option<V1Verdict>, out: &mut L) -> Result<(), DeviceFault>
     ensures { Wrote (L.seen out.old) (L.seen out.new) result
         (hybrid_line (worded L.spelled).version1 v1.now) }
 {
     match v1 {
         None => Ok(()),
-        Some(V1Verdict::Good) => say(&Line::Checked(Checked::V1Good), out),
-        Some(V1Verdict::Bad(piece)) => say(&Line::Checked(Checked::V1Bad(*piece)), out),
-        Some(V1Verdict::NotChecked) => say(&Line::Checked(Checked::V1NotChecked), out),
+        Some(verdict) => say(&version1_line(*verdict), out),
     }
 }
 

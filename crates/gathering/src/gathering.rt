@@ -14,7 +14,7 @@ use crate::kind::TorrentKind;
 use crate::visiting::hash_file;
 use drafts::Draft;
 use folders::Shelf;
-use hashtree::are_hashes;
+use hashtree::recall_hashes;
 use std::alloc::Global;
 
 // Why not all files were added: the number of the path at which it stopped, and what happened.
@@ -151,8 +151,8 @@ fn add_file<S: Shelf>(
     ensures buffer { length buffer.new ≡ length buffer.old }
 {
     let hashes = hash_file(alloc, shelf, path, kind, buffer)?;
-    kind.is_legal();
-    are_hashes(&hashes.layer);
+    kind.recall_legal();
+    recall_hashes(&hashes.layer);
     draft.add(path, hashes.length, hashes.root, &hashes.layer, &hashes.v1)?;
     Ok(())
 }

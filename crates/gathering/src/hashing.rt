@@ -12,11 +12,15 @@ use std::alloc::Global;
 
 /// What a draft is given of a file.
 #[derive(Drop)]
-pub(crate) struct FileHashes {
-    pub(crate) length: u64,
-    pub(crate) root: Hash,
-    pub(crate) layer: Vec<Hash>,
-    pub(crate) v1: V1File,
+pub struct FileHashes {
+    /// The length in bytes.
+    pub length: u64,
+    /// The root of its tree.
+    pub root: Hash,
+    /// The layer of its tree in which one hash covers a piece.
+    pub layer: Vec<Hash>,
+    /// A hybrid's digests of its cuts.
+    pub v1: V1File,
 }
 
 impl FileHashes {
@@ -24,7 +28,7 @@ impl FileHashes {
     ghost use Rattle.std.specs.Prelude.{ℕ, Bool};
 
     /// What a draft is given of an empty file. It takes no memory.
-    pub(crate) fn empty(alloc: Global) -> FileHashes
+    pub fn empty(alloc: Global) -> FileHashes
         ensures { (piece_length : ℕ) (hybrid : Bool)
             → AreHashesOf piece_length hybrid [] result }
     {
@@ -39,14 +43,16 @@ impl FileHashes {
 
 /// Hashes the bytes of one file as they come. Once memory was refused, it takes no more.
 #[derive(Drop)]
-pub(crate) struct Hashing {
-    pub(crate) tree: LayerBuilder,
-    pub(crate) cuts: Option<V1Cuts>,
+pub struct Hashing {
+    /// The tree.
+    pub tree: LayerBuilder,
+    /// A hybrid's digests of its cuts.
+    pub cuts: Option<V1Cuts>,
 }
 
 impl Hashing {
     /// Nothing came yet. It takes no memory.
-    pub(crate) fn new(alloc: Global, kind: &TorrentKind) -> Hashing
+    pub fn new(alloc: Global, kind: &TorrentKind) -> Hashing
         ensures { Begins kind.now.piece_length kind.now.hybrid result }
     {
         Hashing {
@@ -57,7 +63,7 @@ impl Hashing {
 
     /// The hashes of the bytes, unless out of memory. Condition: memory was refused to the tree,
     /// or at least one byte came.
-    pub(crate) fn finish(self, alloc: Global) -> Result<FileHashes, NoMemory>
+    pub fn finish(self, alloc: Global) -> Result<FileHashes, NoMemory>
         requires { MayFinish self.tree }
         ensures gives { IfOk result (EndsWithHashes self) }
         ensures memory { OnErr result (MayEndWithout self) }

@@ -9,14 +9,16 @@ use std::alloc::Global;
 
 /// What kind of torrent is made: of this piece length, and whether it is a hybrid.
 #[derive(Drop)]
-pub(crate) struct TorrentKind {
-    pub(crate) piece_length: PieceLength,
-    pub(crate) hybrid: bool,
+pub struct TorrentKind {
+    /// The piece length.
+    pub piece_length: PieceLength,
+    /// Whether it is a hybrid.
+    pub hybrid: bool,
 }
 
 impl TorrentKind {
     /// The kind of this piece length in bytes; `None` unless it is one.
-    pub(crate) fn new(piece_length: u64, hybrid: bool) -> Option<TorrentKind>
+    pub fn new(piece_length: u64, hybrid: bool) -> Option<TorrentKind>
         ensures { SomeIff result (IsPieceLength piece_length)
             (record { piece_length = piece_length; hybrid = hybrid }) }
     {
@@ -28,14 +30,14 @@ impl TorrentKind {
     }
 
     /// Its piece length is one, as its type says.
-    pub(crate) fn is_legal(&self)
+    pub fn recall_legal(&self)
         ensures { IsPieceLength self.now.piece_length }
     {
         self.piece_length.bytes();
     }
 
     /// The buffer through which files are read: of a hybrid, for a piece in each lane.
-    pub(crate) fn buffer(&self, alloc: Global) -> PieceBuffer {
+    pub fn buffer(&self, alloc: Global) -> PieceBuffer {
         if self.hybrid {
             PieceBuffer::of_pieces(alloc, self.piece_length.bytes())
         } else {
@@ -44,7 +46,7 @@ impl TorrentKind {
     }
 
     /// The layer in which one hash covers a piece.
-    pub(crate) fn piece_layer(&self) -> u32
+    pub fn piece_layer(&self) -> u32
         ensures { result ≡ piece_layer self.now.piece_length }
     {
         Shape::of(self.piece_length.bytes()).unwrap().height()

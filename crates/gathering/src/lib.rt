@@ -11,3 +11,5 @@ mod visiting;
 
 pub use gather_fault::GatherFault;
 pub use gathering::gather;
+pub use hashing::{FileHashes, Hashing};
+pub use kind::TorrentKind;

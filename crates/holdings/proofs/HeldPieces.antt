@@ -1,9 +1,6 @@
 -- What a settling of one piece is of all that is held.
 use Rattle.std.proofs.Common.{◌≡◌, ℕ, ◌+◌, ◌^◌, ◌<◌, length, Option, Some, None, Result, Ok, Err, IfOk, IfSome, IfNone, OnErr, refl, sym, ap, ◌∙◌, subst}
 use Rattle.std.proofs.Common.{arith}
-use Rattle.std.specs.Ordering.{nat_cmp}
-use Rattle.std.specs.BTreeMap as tree
-use Rattle.std.specs.BTreeMap.{btree_map_len}
 use Rattle.std.specs.FinMap.{get}
 use Rattle.std.proofs.lemmas.Option.{same_Some}
 use Rattle.session.specs.Pieces.{HasPiece}
@@ -11,76 +8,84 @@ use Rattle.session.specs.Session.{SessionSeen}
 use Rattle.holdings.specs.declared.run.Settled.{Settled}
 use Rattle.holdings.specs.Cells.{IsComplete, IsUnsettled}
 use Rattle.holdings.specs.Holdings.{PieceSeen, HoldingsSeen, KeptPieces, KeptAges, IsKept, seen_at, seen_holdings}
-use Rattle.holdings.specs.Next.{IsPieceUnsettled, IsPieceComplete, SettlesPiece, SettlesIn, SettlesKept, Forgets}
-use Rattle.holdings.proofs.Views.{get-seen, seen-same}
-use Rattle.holdings.proofs.KeptPieces.{recelled, kept-same, kept-written, leaves-cells}
+use Rattle.holdings.specs.Next.{IsPieceUnsettled, IsPieceComplete, SettlesPiece, SettlesIn, Forgets}
+use Rattle.holdings.specs.Rows.{SettlesRow}
+use Rattle.holdings.proofs.KeptPieces.{kept-written, leaves-cells}
 use Rattle.holdings.proofs.Lengths.{settled-length}
 
 module _ (E : Type 0) (S S' : SessionSeen) (m m' : KeptPieces) (a : KeptAges) (most clock : ℕ) (kept : IsKept m a most clock) (h : HoldingsSeen)
     (view : seen_holdings m most clock ≡ h) (q : ℕ × ℕ) (size : ℕ) (x : PieceSeen) (held : get h.pieces q ≡ Some x) (long : length x.cells ≡ size)
     (piece : HasPiece S q.0 q.1 size) where
   pub held-kept : seen_at m q ≡ Some x
-  held-kept = sym (get-seen m q) ∙ subst (λ (v : HoldingsSeen). get v.pieces q ≡ Some x) (sym view) held
+  held-kept = subst (λ (v : HoldingsSeen). get v.pieces q ≡ Some x) (sym view) held
 
   pub low-kept : q.1 + size < 2 ^ 64
   low-kept = let low = (kept.aged.low q x held-kept).0 in omega (arith, low, long)
 
-  is-held : (y : PieceSeen) → get h.pieces q ≡ Some y → x ≡ y
-  is-held y at = same_Some x y (sym held ∙ at)
+  abbrev Row : Result (Option Settled) E → Type 0
+  Row r = (y : PieceSeen) × (seen_at m q ≡ Some y) × SettlesRow S q.0 q.1 y r S' m m'
 
-  pub kept-after : (r : Result (Option Settled) E) → IfOk r (λ o. IfSome o (λ e. SettlesKept S m q e S' m'))
-      → IfOk r (λ o. IfNone o ((p : ℕ × ℕ) → seen_at m' p ≡ seen_at m p)) → OnErr r ((p : ℕ × ℕ) → seen_at m' p ≡ seen_at m p)
-      → btree_map_len m' ≡ btree_map_len m → IsKept m' a most clock
-  kept-after (Err e) k same stays count = kept-same m m' a a most clock kept stays (λ t. refl) count
-  kept-after (Ok None) k same stays count = kept-same m m' a a most clock kept same (λ t. refl) count
-  kept-after (Ok (Some e)) k same stays count = kept-written m m' a a most clock kept q k.seen (record { cells = k.cells; newest = k.seen.newest }) k.there refl
-      (settled-length S q.0 q.1 (length k.seen.cells) k.seen.cells e S' k.cells k.settles) k.after (λ t. refl) count
+  is-held : (y : PieceSeen) → seen_at m q ≡ Some y → x ≡ y
+  is-held y at = same_Some x y (sym held-kept ∙ at)
 
-  pub settled-in : (r : Result (Option Settled) E) → IfOk r (λ o. IfSome o (λ e. SettlesKept S m q e S' m'))
-      → IfOk r (λ o. IfSome o (λ e. SettlesIn S h q e S' (seen_holdings m' most clock)))
+  pub kept-after : (r : Result (Option Settled) E) → Row r → IsKept m' a most clock
+  kept-after (Err e) (y, there, row) = subst (λ t. IsKept t a most clock) (sym row.2) kept
+  kept-after (Ok None) (y, there, row) = subst (λ t. IsKept t a most clock) (sym row.2) kept
+  kept-after (Ok (Some e)) (y, there, row) = kept-written m m' a most clock kept q y (record { cells = row.0; newest = y.newest }) there refl
+      (settled-length S q.0 q.1 (length y.cells) y.cells e S' row.0 row.1) row.2
+
+  pub settled-in : (r : Result (Option Settled) E) → Row r → IfOk r (λ o. IfSome o (λ e. SettlesIn S h q e S' (seen_holdings m' most clock)))
   settled-in (Err e) k = tt
   settled-in (Ok None) k = tt
-  settled-in (Ok (Some e)) k =
-      let same : x ≡ k.seen = same_Some x k.seen (sym held-kept ∙ k.there) in
+  settled-in (Ok (Some e)) (y, there, row) =
+      let same : x ≡ y = is-held y there in
       subst (λ (v : HoldingsSeen). SettlesIn S v q e S' (seen_holdings m' most clock)) view (record {
-        seen = k.seen;
-        there = get-seen m q ∙ k.there;
-        piece = subst (HasPiece S q.0 q.1) (sym long ∙ ap (λ (y : PieceSeen). length y.cells) same) piece;
-        cells = k.cells;
-        settles = k.settles;
-        after = recelled m m' most clock q k.seen k.cells k.after;
+        seen = y;
+        there = there;
+        piece = subst (HasPiece S q.0 q.1) (sym long ∙ ap (λ (z : PieceSeen). length z.cells) same) piece;
+        cells = row.0;
+        settles = row.1;
+        after = ap (λ (t : KeptPieces). seen_holdings t most clock) row.2;
       })
 
-  pub unsettled-in : (r : Result (Option Settled) E)
-      → IfOk r (λ o. IfNone o ((y : PieceSeen) → seen_at m q ≡ Some y → IsUnsettled S q.0 q.1 size y.cells))
-      → IfOk r (λ o. IfNone o (IsPieceUnsettled S h q.0 q.1))
+  pub unsettled-in : (r : Result (Option Settled) E) → Row r → IfOk r (λ o. IfNone o (IsPieceUnsettled S h q.0 q.1))
   unsettled-in (Err e) k = tt
   unsettled-in (Ok (Some e)) k = tt
-  unsettled-in (Ok None) k = λ y at fits.
-      let same : x ≡ y = is-held y at in
-      subst (λ (z : PieceSeen). IsUnsettled S q.0 q.1 (length z.cells) z.cells) same
-      (subst (λ n. IsUnsettled S q.0 q.1 n x.cells) (sym long) (k x held-kept))
+  unsettled-in (Ok None) (y, there, row) = λ z at fits.
+      let same : y ≡ z = sym (is-held y there) ∙ same_Some x z (sym held ∙ at) in
+      subst (λ (z : PieceSeen). IsUnsettled S q.0 q.1 (length z.cells) z.cells) same row.0
 
-  pub same-in : (r : Result (Option Settled) E) → IfOk r (λ o. IfNone o ((p : ℕ × ℕ) → seen_at m' p ≡ seen_at m p))
-      → IfOk r (λ o. IfNone o (seen_holdings m' most clock ≡ h))
+  same-row : (m' ≡ m) → seen_holdings m' most clock ≡ h
+  same-row same = ap (λ (t : KeptPieces). seen_holdings t most clock) same ∙ view
+
+  pub same-in : (r : Result (Option Settled) E) → Row r → IfOk r (λ o. IfNone o (seen_holdings m' most clock ≡ h))
   same-in (Err e) k = tt
   same-in (Ok (Some e)) k = tt
-  same-in (Ok None) k = ap (λ ps. record { pieces = ps; most = most; clock = clock }) (seen-same m m' k) ∙ view
+  same-in (Ok None) (y, there, row) = same-row row.2
 
-  pub stays-in : (r : Result (Option Settled) E) → OnErr r ((p : ℕ × ℕ) → seen_at m' p ≡ seen_at m p)
-      → OnErr r (seen_holdings m' most clock ≡ h)
+  pub same-session : (r : Result (Option Settled) E) → Row r → IfOk r (λ o. IfNone o (S' ≡ S))
+  same-session (Err e) k = tt
+  same-session (Ok (Some e)) k = tt
+  same-session (Ok None) (y, there, row) = row.1
+
+  pub stays-in : (r : Result (Option Settled) E) → Row r → OnErr r (seen_holdings m' most clock ≡ h)
   stays-in (Ok o) k = tt
-  stays-in (Err e) k = ap (λ ps. record { pieces = ps; most = most; clock = clock }) (seen-same m m' k) ∙ view
+  stays-in (Err e) (y, there, row) = same-row row.2
 
-  pub complete-in : (r : Result (Option Settled) E) → OnErr r ((y : PieceSeen) → seen_at m q ≡ Some y → IsComplete S q.0 q.1 size y.cells)
-      → OnErr r (IsPieceComplete S h q.0 q.1)
+  pub stays-session : (r : Result (Option Settled) E) → Row r → OnErr r (S' ≡ S)
+  stays-session (Ok o) k = tt
+  stays-session (Err e) (y, there, row) = row.1
+
+  pub complete-in : (r : Result (Option Settled) E) → Row r → OnErr r (IsPieceComplete S h q.0 q.1)
   complete-in (Ok o) k = tt
-  complete-in (Err e) k = record {
-    seen = x;
-    there = held;
-    piece = subst (HasPiece S q.0 q.1) (sym long) piece;
-    complete = subst (λ n. IsComplete S q.0 q.1 n x.cells) (sym long) (k x held-kept);
-  }
+  complete-in (Err e) (y, there, row) =
+      let same : x ≡ y = is-held y there in
+      record {
+        seen = x;
+        there = held;
+        piece = subst (HasPiece S q.0 q.1) (sym long) piece;
+        complete = subst (λ (z : PieceSeen). IsComplete S q.0 q.1 (length z.cells) z.cells) (sym same) row.0;
+      }
 
 -- a piece that is settled, and forgotten if it is bare
 pub settles-piece : (S : SessionSeen) (h : HoldingsSeen) (q : ℕ × ℕ) (S' : SessionSeen) (h1 h2 : HoldingsSeen) (o : Option Settled)

@@ -1,14 +1,16 @@
 -- Lemmas that several proofs share.
-pub mod Views
+pub mod Ranges
 pub mod Aged
+pub mod Rows
+pub mod SettledRows
+pub mod Added
+pub mod LookUps
 pub mod KeptPieces
 pub mod GivingWay
 pub mod PieceRow
 pub mod Cleared
-pub mod Written
-pub mod Ranges
 pub mod Lengths
-pub mod SettledIn
 pub mod Passing
 pub mod HeldPieces
+pub mod Counted
 pub mod Settlements

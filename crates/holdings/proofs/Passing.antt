@@ -9,7 +9,6 @@ use Rattle.holdings.specs.Cells.{IsUnsettled}
 use Rattle.holdings.specs.declared.piece_range.Pieces.{Pieces}
 use Rattle.holdings.specs.Holdings.{HoldingsSeen, KeptPieces, seen_at, seen_holdings}
 use Rattle.holdings.specs.Next.{AreUnsettled, IsPieceUnsettled}
-use Rattle.holdings.proofs.Views.{get-seen}
 
 module _ (S : SessionSeen) (h : HoldingsSeen) (p : Pieces) (m : KeptPieces) (most clock : ℕ) (view : seen_holdings m most clock ≡ h)
     (from first : ℕ) (passed : AreUnsettled S h p from) (none : (q : ℕ) → from ≤ q → q < first → seen_at m (p.tree, q) ≡ None) where
@@ -18,7 +17,7 @@ module _ (S : SessionSeen) (h : HoldingsSeen) (p : Pieces) (m : KeptPieces) (mos
   passed-to q low high x at = by (cases_lt q from)
     where
       there : seen_at m (p.tree, q) ≡ Some x
-      there = sym (get-seen m (p.tree, q)) ∙ subst (λ (v : HoldingsSeen). get v.pieces (p.tree, q) ≡ Some x) (sym view) at
+      there = subst (λ (v : HoldingsSeen). get v.pieces (p.tree, q) ≡ Some x) (sym view) at
 
       by : (q < from) ⊎ (from ≤ q) → HasPiece S p.tree q (length x.cells) → IsUnsettled S p.tree q (length x.cells) x.cells
       by (inl less) fits = passed q low less x at fits

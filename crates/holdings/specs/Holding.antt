@@ -11,7 +11,7 @@ use Rattle.holdings.specs.declared.run.Run.{Run}
 use Rattle.holdings.specs.declared.holding.Hold.{Hold}
 use Rattle.holdings.specs.declared.holding.Hold.TheVariants.{Held, Known, NoMemory}
 use Rattle.holdings.specs.Cells.{known_at}
-use Rattle.holdings.specs.Holdings.{HoldingsSeen, Keeps}
+use Rattle.holdings.specs.Holdings.{HoldingsSeen, Keeps, CannotKeep}
 
 -- the files of tree n have this block
 abbrev pub IsTreeBlock : SessionSeen → ℕ → ℕ → Type 0
@@ -31,8 +31,20 @@ pub record IsHeldNow (h : HoldingsSeen) (S : SessionSeen) (n b : ℕ) (bytes : L
   pub block_is : b ≡ first + at
   pub keeps : Keeps h (n, first) size at (sha256 bytes) dropped h'
 
+-- the leaf of block b of tree n is not known, and no digest can be held for it
+pub record CannotHold (h : HoldingsSeen) (S : SessionSeen) (n b : ℕ) : Type 0 where
+  pub unknown : known_at S n 0 b ≡ None
+  pub tree : TreeRoot
+  pub is_tree : slice_get (roots S) n ≡ Some tree
+  pub first : ℕ
+  pub size : ℕ
+  pub piece : IsLeafRow tree.length first (piece_span S.torrent.piece_length tree.length) size
+  pub at : ℕ
+  pub block_is : b ≡ first + at
+  pub cannot : CannotKeep h (n, first) size at
+
 -- what becomes of a block that is to be held
 abbrev pub IsHeldBy : HoldingsSeen → SessionSeen → ℕ → ℕ → List ℕ → Hold → HoldingsSeen → Type 0
 IsHeldBy h S n b bytes (Held dropped) h' = IsHeldNow h S n b bytes dropped h'
 IsHeldBy h S n b bytes Known h' = IsSome (known_at S n 0 b) × (h' ≡ h)
-IsHeldBy h S n b bytes NoMemory h' = (known_at S n 0 b ≡ None) × (h' ≡ h)
+IsHeldBy h S n b bytes NoMemory h' = CannotHold h S n b × (h' ≡ h)

@@ -2,17 +2,13 @@
 use Rattle.std.specs.Prelude.{◌≡◌, ◌⊎◌, ℕ, ◌+◌, ◌-◌, ◌/◌, ◌^◌, ◌<◌, ◌≤◌, max, min}
 use Rattle.std.specs.Prelude.{is_some, sum_by, count_by, List, map, length, set, replicate, Option, Some, None, refl}
 use Rattle.std.specs.Coded.{Coded, code_by, coded×, coded_list, coded_option, coded_ℕ}
-use Rattle.std.specs.Option.{option_map}
-use Rattle.std.specs.Ordering.{nat_cmp}
-use Rattle.std.specs.BTreeMap as tree
-use Rattle.std.specs.BTreeMap.{BTreeMap, btree_map_len}
 use Rattle.std.specs.FinMap as finite
-use Rattle.std.specs.FinMap.{FinMap, from_entries, get, insert, remove, len}
+use Rattle.std.specs.FinMap.{FinMap, get, insert, remove, len}
 use Rattle.node_maps.specs.Digest.{Hash}
 use Rattle.node_maps.specs.Known.{place_cmp}
+use Rattle.fixed_maps.specs.FixedMaps.{FixedMapSeen, map_of, map_room}
 use Rattle.holdings.specs.Cells.{Cells, digest_in}
 use Rattle.holdings.specs.Settling.{run_of}
-use Rattle.holdings.specs.declared.held_piece.HeldPiece.{HeldPiece}
 use Rattle.holdings.specs.declared.run.Run.{Run}
 
 -- of one piece: its cells, and when its newest block came
@@ -20,11 +16,12 @@ pub record PieceSeen : Type 0 where
   pub cells : Cells
   pub newest : ℕ
 
--- the held pieces, each by its tree and its first block there; how many there may be; and the
--- time, which is how often a digest was held
+-- the held pieces, each by its tree and its first block there; how many there may be, and how many
+-- blocks each may have; and the time, which is how often a digest was held
 pub record HoldingsSeen : Type 0 where
   pub pieces : FinMap place_cmp PieceSeen
   pub most : ℕ
+  pub longest : ℕ
   pub clock : ℕ
 
 -- how many pieces may be held, by the bound on the blocks held and the blocks of the longest piece:
@@ -94,6 +91,13 @@ pub record Begins (h : HoldingsSeen) (q : ℕ × ℕ) (size j : ℕ) (d : Hash) 
   pub room : MakesRoom h dropped between
   pub after : h' ≡ with_piece between q (set (replicate size None) j (Some d))
 
+-- no digest can be held of block j of the piece of `size` blocks: as many were held as a number of
+-- 64 bits says; or the piece is held with fewer blocks, or has more than a piece may have, so that
+-- it is one of another torrent
+abbrev pub CannotKeep : HoldingsSeen → ℕ × ℕ → ℕ → ℕ → Type 0
+CannotKeep h q size j = (h.clock + 1 ≡ 2 ^ 64)
+    ⊎ (((x : PieceSeen) × (get h.pieces q ≡ Some x) × (length x.cells ≤ j)) ⊎ (h.longest < size))
+
 -- the digest is held of block j of the piece, in place of an older one
 abbrev pub Keeps : HoldingsSeen → ℕ × ℕ → ℕ → ℕ → Hash → Option Run → HoldingsSeen → Type 0
 Keeps h q size j d dropped h' = ((dropped ≡ None) × Renews h q j d h')
@@ -101,30 +105,38 @@ Keeps h q size j d dropped h' = ((dropped ≡ None) × Renews h q j d h')
 
 -- ---- as it is kept
 
--- an ordered map from trees and first blocks to what is held of their pieces
-abbrev pub KeptPieces : Type 0
-KeptPieces = BTreeMap (ℕ × ℕ) HeldPiece
+-- the held pieces, for how many there is room, and how many blocks each may have
+pub record KeptPieces : Type 0 where
+  pub pieces : FinMap place_cmp PieceSeen
+  pub room : ℕ
+  pub width : ℕ
 
--- an ordered map from times to the pieces whose newest block came then
+-- an ordered map from times, behind a zero, to the pieces whose newest block came then
 abbrev pub KeptAges : Type 0
-KeptAges = BTreeMap ℕ (ℕ × ℕ)
+KeptAges = FixedMapSeen
 
--- what contracts see of one piece
-abbrev pub seen_piece : HeldPiece → PieceSeen
-seen_piece p = record { cells = p.cells.items; newest = p.newest }
+-- the piece whose newest block came at a time
+abbrev pub age_at : KeptAges → ℕ → Option (ℕ × ℕ)
+age_at ages t = get (map_of ages) (0, t)
 
 -- what contracts see of a piece, if it is there
 abbrev pub seen_at : KeptPieces → ℕ × ℕ → Option PieceSeen
-seen_at m q = option_map seen_piece (tree.get place_cmp m q)
-
--- what contracts see of all
-abbrev pub seen_pieces : List ((ℕ × ℕ) × HeldPiece) → FinMap place_cmp PieceSeen
-seen_pieces es = from_entries (map (λ e. (e.0, seen_piece e.1)) es)
+seen_at m q = get m.pieces q
 
 -- what contracts see of it
 abbrev pub seen_holdings : KeptPieces → ℕ → ℕ → HoldingsSeen
-seen_holdings m most clock =
-    record { pieces = seen_pieces m.entries; most = most; clock = clock }
+seen_holdings m most clock = record { pieces = m.pieces; most = most; longest = m.width; clock = clock }
+
+-- with this of a piece
+abbrev pub with_table_piece : KeptPieces → ℕ × ℕ → PieceSeen → KeptPieces
+with_table_piece m q x = record m { pieces = insert m.pieces q x }
+
+-- the digest of a block of a piece that is there is written
+pub record WritesCell (m : KeptPieces) (q : ℕ × ℕ) (j : ℕ) (d : Hash) (now : ℕ) (m' : KeptPieces) : Type 0 where
+  pub seen : PieceSeen
+  pub there : seen_at m q ≡ Some seen
+  pub inside : j < length seen.cells
+  pub after : m' ≡ with_table_piece m q (record { cells = set seen.cells j (Some d); newest = now })
 
 -- the blocks of a piece are numbers of 64 bits, and it has 2^32 at most
 abbrev pub IsLowPiece : ℕ × ℕ → PieceSeen → Type 0
@@ -140,12 +152,17 @@ pub record IsAged (piece : ℕ × ℕ → Option PieceSeen) (age : ℕ → Optio
   pub past : (t : ℕ) (q : ℕ × ℕ) → age t ≡ Some q → t < clock
   pub low : (q : ℕ × ℕ) (x : PieceSeen) → piece q ≡ Some x → IsLowPiece q x
 
--- the same of the two maps, and there are no more pieces than there may be
+-- the same of the two maps, which have as many entries; each age stands behind a zero; and there are
+-- no more pieces than there may be, and room for one more
 pub record IsKept (pieces : KeptPieces) (ages : KeptAges) (most clock : ℕ) : Type 0 where
-  pub aged : IsAged (seen_at pieces) (tree.get nat_cmp ages) clock
+  pub aged : IsAged (seen_at pieces) (age_at ages) clock
+  pub zero : (k q : ℕ × ℕ) → get (map_of ages) k ≡ Some q → k.0 ≡ 0
+  pub as_many : len (map_of ages) ≡ len pieces.pieces
   pub some : 0 < most
   pub many : most ≤ 2 ^ 31
-  pub few : btree_map_len pieces ≤ most
+  pub few : len pieces.pieces ≤ most
+  pub room : most < pieces.room
+  pub ages_room : most < map_room ages
 
 abbrev cells_code : Coded Cells
 cells_code = coded_list (coded_option (coded_list coded_ℕ))
@@ -155,7 +172,14 @@ piece_code = code_by (Cells × ℕ) (coded× cells_code coded_ℕ) (λ x. (x.cel
     (λ p. record { cells = p.0; newest = p.1 }) (λ _. refl)
 
 abbrev pub holdings_code : Coded HoldingsSeen
-holdings_code = code_by (FinMap place_cmp PieceSeen × (ℕ × ℕ))
+holdings_code = code_by (FinMap place_cmp PieceSeen × (ℕ × (ℕ × ℕ)))
+    (coded× (finite.code (coded× coded_ℕ coded_ℕ) piece_code)
+    (coded× coded_ℕ (coded× coded_ℕ coded_ℕ)))
+    (λ h. (h.pieces, (h.most, (h.longest, h.clock))))
+    (λ p. record { pieces = p.0; most = p.1.0; longest = p.1.1.0; clock = p.1.1.1 }) (λ _. refl)
+
+abbrev pub kept_code : Coded KeptPieces
+kept_code = code_by (FinMap place_cmp PieceSeen × (ℕ × ℕ))
     (coded× (finite.code (coded× coded_ℕ coded_ℕ) piece_code) (coded× coded_ℕ coded_ℕ))
-    (λ h. (h.pieces, (h.most, h.clock)))
-    (λ p. record { pieces = p.0; most = p.1.0; clock = p.1.1 }) (λ _. refl)
+    (λ h. (h.pieces, (h.room, h.width)))
+    (λ p. record { pieces = p.0; room = p.1.0; width = p.1.1 }) (λ _. refl)

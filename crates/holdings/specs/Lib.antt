@@ -2,6 +2,8 @@
 pub mod Cells
 pub mod Settling
 pub mod Holdings
+pub mod Tables
+pub mod Rows
 pub mod Holding
 pub mod Next
 pub mod Runs

@@ -1,7 +1,5 @@
 -- How what is held of several pieces of a tree is settled, one settling at a time.
-use Rattle.std.specs.Prelude.{◌≡◌, ◌⊎◌, ℕ, ◌+◌, ◌<◌, ◌≤◌, cond, length, Some, None, IsSome}
-use Rattle.std.specs.Ordering.{eq_by_cmp}
-use Rattle.node_maps.specs.Known.{place_cmp}
+use Rattle.std.specs.Prelude.{◌≡◌, ◌⊎◌, ℕ, ◌+◌, ◌<◌, ◌≤◌, length, Some, None, IsSome}
 use Rattle.std.specs.FinMap.{get, insert}
 use Rattle.session.specs.Pieces.{HasPiece}
 use Rattle.session.specs.Session.{SessionSeen}
@@ -9,7 +7,7 @@ use Rattle.holdings.specs.declared.piece_range.Pieces.{Pieces}
 use Rattle.holdings.specs.declared.run.Settled.{Settled}
 use Rattle.holdings.specs.Cells.{Cells, digest_in, IsComplete, IsUnsettled}
 use Rattle.holdings.specs.Settling.{Settles}
-use Rattle.holdings.specs.Holdings.{HoldingsSeen, PieceSeen, KeptPieces, seen_at, without_piece}
+use Rattle.holdings.specs.Holdings.{HoldingsSeen, PieceSeen, without_piece}
 
 -- with other cells of a piece, which is as old as before
 abbrev pub with_cells : HoldingsSeen → ℕ × ℕ → PieceSeen → Cells → HoldingsSeen
@@ -92,13 +90,3 @@ pub record SettlesIn (S : SessionSeen) (h : HoldingsSeen) (q : ℕ × ℕ) (e : 
 abbrev pub Forgets : HoldingsSeen → ℕ × ℕ → HoldingsSeen → Type 0
 Forgets h q h' = (((x : PieceSeen) → get h.pieces q ≡ Some x → HoldsSome x.cells) × (h' ≡ h))
     ⊎ ((x : PieceSeen) × (get h.pieces q ≡ Some x) × IsBare x.cells × (h' ≡ without_piece h q))
-
--- the same, as it is kept
-pub record SettlesKept (S : SessionSeen) (m : KeptPieces) (q : ℕ × ℕ) (e : Settled)
-    (S' : SessionSeen) (m' : KeptPieces) : Type 0 where
-  pub seen : PieceSeen
-  pub there : seen_at m q ≡ Some seen
-  pub cells : Cells
-  pub settles : Settles S q.0 q.1 (length seen.cells) seen.cells e S' cells
-  pub after : (r : ℕ × ℕ) → seen_at m' r ≡ cond (eq_by_cmp place_cmp q r)
-      (Some (record { cells = cells; newest = seen.newest })) (seen_at m r)

@@ -24,16 +24,18 @@ pub enum Hold {
     },
     /// Its leaf is known, so nothing is held of it.
     Known,
-    /// Nothing is held of it, and nothing has changed: memory was refused.
+    /// Nothing is held of it, and nothing has changed: 2^64 - 1 digests were held before, or its
+    /// piece is no piece of the torrent of what is held. It takes no memory.
     NoMemory,
 }
 
 impl Holdings {
     /// Holds the digest of a block whose leaf is not known, in place of an older one for its place.
     /// If its piece is new and there is no room, the piece gives way whose newest block came
-    /// longest ago. After a refusal nothing has changed: memory was refused, or 2^64 - 1 digests
-    /// were held before, or a session of another torrent was used. Conditions: there are more than
-    /// `tree` trees, and the files of that one have more than `block` blocks.
+    /// longest ago. Takes no memory. After a refusal nothing has changed: 2^64 - 1 digests were
+    /// held before, or the piece is held with fewer blocks or is longer than the longest, as it may
+    /// be with a session of another torrent. Conditions: there are more than `tree` trees, and the
+    /// files of that one have more than `block` blocks.
     pub fn hold<N: NodeMap>(
         &mut self,
         session: &Session<'_, N>,

@@ -1,16 +1,16 @@
 //! What is held of the pieces of a torrent's trees.
 
-ghost use Rattle.std.specs.Prelude.{◌≡◌, ℕ, ◌+◌, ◌<◌, ◌≤◌, ◌^◌, IfOk, IfSome, IfNone, OnOk, OnErr, Some, None};
-ghost use Rattle.std.specs.FinMap.{get, empty, len};
-ghost use Rattle.holdings.specs.Holdings.{PieceSeen, Keeps, Renews, Begins, held_count, most_pieces};
+ghost use Rattle.std.specs.Prelude.{◌≡◌, ℕ, ◌+◌, ◌<◌, ◌≤◌, ◌^◌, IfOk, IfSome, IfNone, OnOk, OnErr, Some, None, length};
+ghost use Rattle.std.specs.FinMap.{get, empty};
+ghost use Rattle.holdings.specs.Holdings.{PieceSeen, CannotKeep, Keeps, Renews, Begins, held_count, most_pieces};
 
-use crate::held_piece::HeldPiece;
-use crate::kept::{Key, cells_with, enroll, giving_way, held_of, write_cell};
+use crate::kept::{enroll, giving_way, withdraw};
+use crate::piece_table::{Key, PieceTable};
 use crate::run::Run;
 use crate::settling::Piece;
+use fixed_maps::FixedMap;
 use hashtree::{Hash, NoMemory};
 use std::alloc::Global;
-use std::collections::BTreeMap;
 use std::marker::Model;
 
 /// The digests that are held of blocks whose leaves are not known, for each place the newest one.
@@ -19,15 +19,14 @@ use std::marker::Model;
 #[derive(Drop)]
 pub struct Holdings {
     pub(crate) alloc: Global,
-    pub(crate) pieces: BTreeMap<Key, HeldPiece>,
-    pub(crate) ages: BTreeMap<u64, Key>,
+    pub(crate) pieces: PieceTable,
+    pub(crate) ages: FixedMap,
     most: usize,
     clock: u64,
 }
 
 impl Model for Holdings {
     ghost use Rattle.std.specs.Prelude.{◌≤◌};
-    ghost use Rattle.std.specs.BTreeMap.{btree_map_len};
     ghost use Rattle.holdings.specs.Holdings.{HoldingsSeen, holdings_code, seen_holdings, IsKept};
 
     ghost Value = { HoldingsSeen };
@@ -41,25 +40,30 @@ impl Model for Holdings {
 
 impl Holdings {
     /// Nothing is held yet. The bound is how many blocks may be held; it is in no case below
-    /// `longest`, which is how many blocks the torrent's longest piece has. Takes no memory.
-    pub fn new(alloc: Global, bound: usize, longest: usize) -> Holdings
-        ensures empty { result.pieces ≡ empty }
-        ensures most { result.most ≡ most_pieces bound longest }
-        ensures clock { result.clock ≡ 0 }
+    /// `longest`, which is how many blocks the torrent's longest piece has. All memory that is ever
+    /// needed to hold is asked for here, and it fails if that is refused. What is asked for is not
+    /// written before blocks come.
+    pub fn new(alloc: Global, bound: usize, longest: usize) -> Result<Holdings, NoMemory>
+        ensures empty { IfOk result (λ h. h.pieces ≡ empty) }
+        ensures most { IfOk result (λ h. h.most ≡ most_pieces bound longest) }
+        ensures longest { IfOk result (λ h. h.longest ≡ longest) }
+        ensures clock { IfOk result (λ h. h.clock ≡ 0) }
     {
-        Holdings {
+        let most = (bound / longest.max(1)).max(1).min(1 << 31);
+        Ok(Holdings {
             alloc,
-            pieces: BTreeMap::new(alloc),
-            ages: BTreeMap::new(alloc),
-            most: (bound / longest.max(1)).max(1).min(1 << 31),
+            pieces: PieceTable::new(alloc, most + 1, longest)?,
+            ages: FixedMap::new(alloc, most + 1)?,
+            most,
             clock: 0,
-        }
+        })
     }
 
     /// Holds the digest of a block of a piece, in place of an older one. If the piece is new and
-    /// there is no room for it, another one gives way, and its blocks are returned. Fails if memory
-    /// was refused, if 2^64 - 1 digests were held before, or if the piece is held with fewer
-    /// blocks; then nothing has changed. Condition: the piece has more than `block` blocks.
+    /// there is no room for it, another one gives way, and its blocks are returned. Takes no
+    /// memory. Fails if 2^64 - 1 digests were held before, if the piece is held with fewer blocks,
+    /// or if it is longer than the longest; then nothing has changed. Condition: the piece has more
+    /// than `block` blocks.
     pub(crate) fn keep(
         &mut self,
         piece: Piece,
@@ -72,6 +76,8 @@ impl Holdings {
         ensures kept { IfOk result (λ dropped. Keeps self.old (piece.tree, piece.first) piece.size
             block digest dropped self.new) }
         ensures unchanged { OnErr result (self.new ≡ self.old) }
+        ensures refused { OnErr result (CannotKeep self.old (piece.tree, piece.first) piece.size
+            block) }
     {
         if self.clock == u64::MAX {
             return Err(NoMemory);
@@ -89,11 +95,7 @@ impl Holdings {
     pub fn held(&self) -> u64
         ensures { result ≡ held_count self.now }
     {
-        let mut held = 0;
-        'pieces: for (_, piece) in &self.pieces {
-            held += held_of(&piece.cells);
-        }
-        held
+        self.pieces.held()
     }
 
     // When the newest block of a held piece came.
@@ -102,13 +104,7 @@ impl Holdings {
             × (x.newest ≡ t)) }
         ensures none { IfNone result (get self.now.pieces key ≡ None) }
     {
-        match self.pieces.get(&key) {
-            None => None,
-            Some(held) => {
-                let newest = held.newest;
-                Some(newest)
-            }
-        }
+        self.pieces.newest_of(key)
     }
 
     // Holds a digest of a held piece, whose newest block came at `before`.
@@ -118,14 +114,18 @@ impl Holdings {
             × (x.newest ≡ before) }
         ensures kept { OnOk result (Renews self.old key block digest self.new) }
         ensures unchanged { OnErr result (self.new ≡ self.old) }
+        ensures refused { OnErr result ((x : PieceSeen) × (get self.old.pieces key ≡ Some x)
+            × (length x.cells ≤ block)) }
     {
         let now = self.clock;
-        self.ages.insert(now, key)?;
-        if !write_cell(&mut self.pieces, key, block, digest, now) {
-            self.ages.remove(&now);
-            return Err(NoMemory);
+        match self.pieces.size_of(key) {
+            None => unreachable!(),
+            Some(size) if size <= block => return Err(NoMemory),
+            Some(_) => {}
         }
-        self.ages.remove(&before);
+        self.ages.insert((0, now), key);
+        self.pieces.write(key, block, digest, now);
+        self.ages.remove((0, before));
         self.clock = now + 1;
         Ok(())
     }
@@ -140,23 +140,19 @@ impl Holdings {
         ensures kept { IfOk result (λ dropped. Begins self.old (piece.tree, piece.first)
             piece.size block digest dropped self.new) }
         ensures unchanged { OnErr result (self.new ≡ self.old) }
+        ensures refused { OnErr result (self.old.longest < piece.size) }
     {
         let now = self.clock;
-        let cells = cells_with(self.alloc, piece.size, block, digest)?;
+        if self.pieces.width() < piece.size {
+            return Err(NoMemory);
+        }
         let victim = giving_way(&self.pieces, &self.ages, self.most);
-        let held = HeldPiece { cells, newest: now };
-        enroll(
-            &mut self.pieces,
-            &mut self.ages,
-            (piece.tree, piece.first),
-            held,
-        )?;
+        enroll(&mut self.pieces, &mut self.ages, piece, block, digest, now);
         self.clock = now + 1;
         let Some(victim) = victim else {
             return Ok(None);
         };
-        self.ages.remove(&victim.newest);
-        self.pieces.remove(&victim.key);
+        withdraw(&mut self.pieces, &mut self.ages, victim.key, victim.newest);
         Ok(Some(victim.run))
     }
 }

@@ -12,12 +12,12 @@
 //! ```
 #![tactic(auto)]
 
-mod held_piece;
 mod holding;
 mod holdings;
 mod kept;
 mod next;
 mod piece_range;
+mod piece_table;
 mod run;
 mod settling;
 

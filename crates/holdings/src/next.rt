@@ -9,8 +9,9 @@ ghost use Rattle.holdings.specs.Settling.{Settles};
 ghost use Rattle.holdings.specs.Next.{with_cells, IsBare, HoldsSome, IsPieceUnsettled, SettlesPiece, IsPieceComplete, AreUnsettled, SettlesNext, LacksMemoryNext, SettlesIn, Forgets};
 
 use crate::holdings::Holdings;
-use crate::kept::{Key, is_bare, next_key, settle_in};
+use crate::kept::{is_bare, next_key, withdraw};
 use crate::piece_range::Pieces;
+use crate::piece_table::Key;
 use crate::run::Settled;
 use crate::settling::Piece;
 use hashtree::NoMemory;
@@ -110,7 +111,7 @@ impl Holdings {
         ensures no_session { OnErr result (session.new ≡ session.old) }
         ensures no_holdings { OnErr result (self.new ≡ self.old) }
     {
-        settle_in(self.alloc, &mut self.pieces, session, piece)
+        self.pieces.settle_row(self.alloc, session, piece)
     }
 
     // How many blocks a held piece has.
@@ -119,10 +120,7 @@ impl Holdings {
             × (length x.cells ≡ size)) }
         ensures none { IfNone result (get self.now.pieces key ≡ None) }
     {
-        match self.pieces.get(&key) {
-            None => None,
-            Some(held) => Some(held.cells.len()),
-        }
+        self.pieces.size_of(key)
     }
 
     // Forgets a piece of which nothing is held any more.
@@ -132,8 +130,7 @@ impl Holdings {
         match is_bare(&self.pieces, key) {
             None => {}
             Some(newest) => {
-                self.pieces.remove(&key);
-                self.ages.remove(&newest);
+                withdraw(&mut self.pieces, &mut self.ages, key, newest);
             }
         }
     }

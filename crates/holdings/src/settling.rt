@@ -284,8 +284,8 @@ pub(crate) fn first_held(cells: &[Option<Hash>]) -> Option<usize>
     None
 }
 
-// Gives up all that is held of a piece.
-fn clear(cells: &mut [Option<Hash>])
+/// Gives up all that is held of a piece.
+pub(crate) fn clear(cells: &mut [Option<Hash>])
     ensures { cells.new ≡ replicate (length cells.old) None }
 {
     'each: for block in 0..cells.len() {

@@ -1,2 +1,3 @@
 pub mod Orders
 pub mod Spelled
+pub mod Agreeing

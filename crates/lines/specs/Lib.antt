@@ -4,3 +4,4 @@ pub mod Table
 pub mod Texts
 pub mod Strings
 pub mod Objects
+pub mod Reading

@@ -6,12 +6,14 @@ use Rattle.hex.specs.Hex.{encode_lower}
 use Rattle.lines.specs.declared.part.Part.{Part}
 use Rattle.lines.specs.declared.part.Part.TheVariants as part
 
--- an item of a line: a word; under a key a number, a number with a dash behind it, a name that is
--- printed as it is, a letter with a number behind it, or a text that is printed with its escapes
+-- an item of a line: a word; under a key a number, a number with a dash or a slash behind it, a name
+-- that is printed as it is, a letter with a number behind it, or a text that is printed with its
+-- escapes
 pub data Item : Type 0 where
   word : List ℕ → Item
   number : List ℕ → ℕ → Item
   start : List ℕ → ℕ → Item
+  over : List ℕ → ℕ → Item
   name : List ℕ → List ℕ → Item
   code : List ℕ → List ℕ → ℕ → Item
   text : List ℕ → List ℕ → Item
@@ -21,6 +23,7 @@ abbrev pub item_of : Part → Item
 item_of (part.Word w) = word w.now
 item_of (part.Number key n) = number key.now n
 item_of (part.Start key n) = start key.now n
+item_of (part.Over key n) = over key.now n
 item_of (part.Name key t) = name key.now t.now
 item_of (part.Code key letter n) = code key.now letter.now n
 item_of (part.Sha256 key d) = name key.now (encode_lower d.now)

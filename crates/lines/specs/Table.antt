@@ -7,11 +7,13 @@ use Rattle.filetree.specs.Names.{key_text, refusal_name, refusal_number}
 use Rattle.filetree.specs.declared.refusal.Refusal.{Refusal}
 use Rattle.filetree.specs.declared.refusal.Refusal.TheVariants as refusals
 use Rattle.hex.specs.Hex.{encode_lower}
-use Rattle.lines.specs.Rows.{Item, Row, row, word, number, start, name, code, text}
+use Rattle.lines.specs.Rows.{Item, Row, row, word, number, start, over, name, code, text}
 use Rattle.lines.specs.declared.line.Line.{Line}
 use Rattle.lines.specs.declared.line.Line.TheVariants as line
 use Rattle.lines.specs.declared.checked.Checked.{Checked}
 use Rattle.lines.specs.declared.checked.Checked.TheVariants as checked
+use Rattle.lines.specs.declared.parted.Parted.{Parted}
+use Rattle.lines.specs.declared.parted.Parted.TheVariants as parted
 use Rattle.lines.specs.declared.shown.Shown.{Shown}
 use Rattle.lines.specs.declared.shown.Shown.TheVariants as shown
 
@@ -184,6 +186,29 @@ checked_row checked.V1NotChecked = plain_row (codes "v1 not checked") []
 checked_row checked.Yes = plain_row (codes "yes") []
 checked_row checked.No = plain_row (codes "no") []
 
+-- ---- lines that the report of a part has alone
+
+-- which one of how many parts it is, and the version 2 info-hash
+abbrev pub part_items : ℕ → ℕ → List ℕ → List Item
+part_items part parts hash =
+    over (codes "part") part ∷ number (codes "parts") parts
+    ∷ name (codes "hash") (encode_lower hash) ∷ []
+
+abbrev pub part_row : ℕ → ℕ → List ℕ → Row
+part_row part parts hash = plain_row (codes "part") (part_items part parts hash)
+
+-- that of a report that tells of bad pieces
+abbrev pub bad_part_row : ℕ → ℕ → List ℕ → Row
+bad_part_row part parts hash =
+    titled_row (codes "part bad") (codes "part")
+    (part_items part parts hash ++ word (codes "bad") ∷ [])
+
+abbrev pub parted_row : Parted → Row
+parted_row (parted.Part part parts hash) = part_row part parts hash.now
+parted_row (parted.BadPart part parts hash) = bad_part_row part parts hash.now
+parted_row parted.Yes = plain_row (codes "part yes") []
+parted_row parted.No = plain_row (codes "part no") []
+
 -- ---- the line of a torrent that is refused
 
 -- what is said beside the name: of bytes that spell no value the first fault and its offset, of a
@@ -205,6 +230,12 @@ refusal_row r parts =
     plain_row (codes "refused")
     (number (codes "number") (refusal_number r) ∷ name (codes "name") (refusal_name r)
     ∷ (detail_items r ++ path_items parts))
+
+-- a record that is of form 2 already
+abbrev pub already_form_2_row : Row
+already_form_2_row =
+    plain_row (codes "refused")
+    (number (codes "number") 3 ∷ name (codes "name") (codes "AlreadyForm2") ∷ [])
 
 -- ---- the table
 
@@ -234,4 +265,6 @@ row_of (line.Fault called) = fault_row called.now
 row_of (line.Root len root) = root_row len (option_map (λ r. r.now) root)
 row_of (line.Shown s) = shown_row s
 row_of (line.Checked found) = checked_row found
+row_of (line.Parted said) = parted_row said
 row_of (line.Refusal r p) = refusal_row r.now (map string_bytes p.now)
+row_of line.AlreadyForm2 = already_form_2_row

@@ -1,22 +1,25 @@
 -- The text of a line.
 use Rattle.std.specs.Prelude.{ℕ, List, [], ◌∷◌, ◌++◌, decimal}
 use Rattle.printing.specs.Text.{escaped}
-use Rattle.lines.specs.Rows.{Item, Row, Spelling, word, number, start, name, code, text}
+use Rattle.lines.specs.Rows.{Item, Row, Spelling, word, number, start, over, name, code, text}
 
 -- an item as it is printed
 abbrev pub item_text : Item → List ℕ
 item_text (word w) = w
 item_text (number key n) = decimal n
 item_text (start key n) = decimal n
+item_text (over key n) = decimal n
 item_text (name key t) = t
 item_text (code key letter n) = letter ++ decimal n
 item_text (text key t) = escaped t
 
--- what stands between an item and the next: a space, but a dash behind a start
+-- what stands between an item and the next: a space, but a dash behind a start, and a slash behind
+-- what is over another number
 abbrev pub gap_after : Item → List ℕ
 gap_after (word w) = 32 ∷ []
 gap_after (number key n) = 32 ∷ []
 gap_after (start key n) = 45 ∷ []
+gap_after (over key n) = 47 ∷ []
 gap_after (name key t) = 32 ∷ []
 gap_after (code key letter n) = 32 ∷ []
 gap_after (text key t) = 32 ∷ []

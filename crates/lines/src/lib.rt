@@ -3,13 +3,18 @@
 #![tactic(auto)]
 
 mod checked;
+mod compared;
 mod frames;
 mod gathered;
 mod line;
 mod line_sink;
+mod nowhere;
 mod object;
+mod out_fault;
 mod part;
+mod parted;
 mod plain;
+mod reading;
 mod refusal;
 mod shown;
 mod string;
@@ -18,5 +23,9 @@ mod text;
 pub use checked::Checked;
 pub use line::{Line, finish_after, say, say_last};
 pub use line_sink::{LineSink, Objects};
+pub use nowhere::Nowhere;
+pub use out_fault::OutFault;
 pub use part::Part;
+pub use parted::Parted;
+pub use reading::strip_line;
 pub use shown::Shown;

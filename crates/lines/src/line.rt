@@ -8,8 +8,9 @@ use crate::frames::{
     say_bad_frame, say_block, say_frame, say_of, say_refused, say_refused_at, say_run,
 };
 use crate::line_sink::LineSink;
+use crate::parted::{Parted, say_parted};
 use crate::plain::{say_name, say_number, say_path, say_word};
-use crate::refusal::say_refusal;
+use crate::refusal::{say_already_form_2, say_refusal};
 use crate::shown::{Shown, say_root, say_shown};
 use benc::{DeviceFault, WriteFault};
 use filetree::Refusal;
@@ -114,12 +115,16 @@ pub enum Line<'a> {
     Shown(Shown<'a>),
     /// What a check found.
     Checked(Checked<'a>),
+    /// What the report of a part has alone.
+    Parted(Parted<'a>),
     /// Why bytes are no torrent or a draft is none, and the path of the file that it is about, if
     /// there is one.
     Refusal {
         refusal: &'a Refusal,
         path: &'a [String],
     },
+    /// A record is of form 2 already.
+    AlreadyForm2,
 }
 
 /// Says a line: its row of the table goes out. After a fault a prefix of it went out.
@@ -178,7 +183,9 @@ pub fn say<L: LineSink>(line: &Line<'_>, out: &mut L) -> Result<(), DeviceFault>
         Line::Root { length, root } => say_root(length, &root, out),
         Line::Shown(shown) => say_shown(&shown, out),
         Line::Checked(found) => say_checked(&found, out),
+        Line::Parted(said) => say_parted(&said, out),
         Line::Refusal { refusal, path } => say_refusal(refusal, path, out),
+        Line::AlreadyForm2 => say_already_form_2(out),
     }
 }
 

@@ -13,6 +13,8 @@ pub enum Part<'a> {
     Number(&'static str, u64),
     /// A number, under this key. A dash stands behind it in place of the space.
     Start(&'static str, u64),
+    /// A number, under this key. A slash stands behind it in place of the space.
+    Over(&'static str, u64),
     /// A name, under this key.
     Name(&'static str, &'static str),
     /// A letter with a number behind it, under this key.

@@ -2,7 +2,7 @@
 ghost use Rattle.std.specs.Prelude.{◌≡◌, ◌+◌, ◌++◌, ◌≤◌, length, map, string_bytes};
 ghost use Rattle.benc.specs.Device.{Wrote};
 ghost use Rattle.lines.specs.Rows.{item_of};
-ghost use Rattle.lines.specs.Table.{detail_items, path_items, refusal_row};
+ghost use Rattle.lines.specs.Table.{already_form_2_row, detail_items, path_items, refusal_row};
 
 use crate::line_sink::LineSink;
 use crate::part::{Part, ROOM};
@@ -29,6 +29,20 @@ pub(crate) fn say_refusal<L: LineSink>(
     put_detail(refusal, &mut parts);
     put_path(path, &mut parts);
     out.row("refused", &parts)
+}
+
+/// Says the line of a record that is of form 2 already.
+pub(crate) fn say_already_form_2<L: LineSink>(out: &mut L) -> Result<(), DeviceFault>
+    ensures { Wrote (L.seen out.old) (L.seen out.new) result (L.spelled already_form_2_row) }
+{
+    out.row(
+        "refused",
+        &[
+            Part::Word("refused"),
+            Part::Number("number", 3),
+            Part::Name("name", "AlreadyForm2"),
+        ],
+    )
 }
 
 // Puts what is said beside the name at the end.

@@ -47,6 +47,7 @@ fn behind(part: &Part<'_>, others: &[Part<'_>]) -> &'static [u8]
     }
     match part {
         Part::Start(_, _) => b"-",
+        Part::Over(_, _) => b"/",
         _ => b" ",
     }
 }
@@ -56,7 +57,9 @@ fn write_part<W: Sink>(part: &Part<'_>, out: &mut W) -> Result<(), DeviceFault>
 {
     match part {
         Part::Word(word) => write_all(out, word.as_bytes()),
-        Part::Number(_, number) | Part::Start(_, number) => write_number(*number, out),
+        Part::Number(_, number) | Part::Start(_, number) | Part::Over(_, number) => {
+            write_number(*number, out)
+        }
         Part::Name(_, name) => write_all(out, name.as_bytes()),
         Part::Code(_, letter, number) => write_code(letter.as_bytes(), *number, out),
         Part::Sha256(_, digest) => write_hex(*digest, out),

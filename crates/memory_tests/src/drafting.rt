@@ -57,7 +57,7 @@ fn new_draft(
 fn add_files(rt: &HostRuntime, draft: &mut Draft, torrent: &Torrent<'_>) -> io::Result<()>
     requires { draft.old.piece_length ≡ torrent.now.piece_length }
 {
-    torrent.sound();
+    torrent.recall_sound();
     let piece_length = torrent.piece_length();
     'files: for file in torrent.files().iter().rev() {
         let tree = tree_of(torrent, file);
@@ -72,7 +72,7 @@ fn tree_of<'a>(torrent: &Torrent<'a>, file: &File<'_>) -> TreeInfo<'a>
     ensures { torrent.now.piece_length < result.length
         → IsSoundTree torrent.now.piece_length (tree_entry result) }
 {
-    torrent.sound();
+    torrent.recall_sound();
     let trees = torrent.trees();
     match file.tree {
         Some(number) if number < trees.len() => trees[number],

@@ -115,7 +115,7 @@ fn replay_once<N: NodeMap>(
 ) -> io::Result<Replayed> {
     let mut report = Vec::with_capacity(rt.alloc(), ROOM)?;
     let mut answers = MemSink::with_room(rt.alloc(), ROOM)?;
-    let outcome = outcome_of(rt, session, source, &mut report, &mut answers, way);
+    let outcome = outcome_of(rt, session, source, &mut report, &mut answers, way)?;
     Ok(Replayed {
         outcome,
         report,
@@ -131,7 +131,7 @@ fn outcome_of<N: NodeMap>(
     report: &mut Vec<u8>,
     answers: &mut MemSink,
     way: Way,
-) -> Outcome {
+) -> io::Result<Outcome> {
     let mut out = FromWrite::new(report);
     let answers = Some(answers);
     let outcome = match way {
@@ -141,12 +141,12 @@ fn outcome_of<N: NodeMap>(
             replay_onto(rt.alloc(), session, source, &mut lines, answers, true)
         }
         Way::Pieces => {
-            let (mut held, mut lines) = (Holdings::new(rt.alloc(), HELD, HELD), Objects::new(out));
-            let held = &mut held;
+            let held = &mut Holdings::new(rt.alloc(), HELD, HELD)?;
+            let mut lines = Objects::new(out);
             replay_pieces_onto(rt.alloc(), session, held, source, &mut lines, answers, true)
         }
     };
-    outcome.unwrap_or_default()
+    Ok(outcome.unwrap_or_default())
 }
 
 fn name_replay(rt: &HostRuntime, replayed: &Replayed, way: Way) -> io::Result<()> {

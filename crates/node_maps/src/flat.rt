@@ -191,7 +191,7 @@ fn put_cell(rows: &mut Vec<Vec<Option<Hash>>>, layer: u32, index: u64, hash: Has
 fn add_rows(alloc: Global, rows: &mut Vec<Vec<Option<Hash>>>, layer: usize) -> Result<(), NoMemory>
     ensures cells { AreSameFlatCells rows.old.items rows.new.items }
     ensures same { (l : ℕ) → row_cells rows.new.items l ≡ row_cells rows.old.items l }
-    ensures ok { OnOk result (layer < vec_len rows.new) }
+    ensures there { OnOk result (layer < vec_len rows.new) }
     ensures no_memory { layer < vec_len rows.old → IsOk result }
 {
     'rows: while rows.len() <= layer {
@@ -208,7 +208,7 @@ fn lengthen(rows: &mut Vec<Vec<Option<Hash>>>, layer: usize, end: usize) -> Resu
     ensures longer { row_cells rows.old.items layer ≤ row_cells rows.new.items layer }
     ensures most { (row_cells rows.new.items layer ≤ end)
         ⊎ (row_cells rows.new.items layer ≡ row_cells rows.old.items layer) }
-    ensures ok { OnOk result (end ≤ row_cells rows.new.items layer) }
+    ensures reaches { OnOk result (end ≤ row_cells rows.new.items layer) }
     ensures no_memory { end ≤ row_cells rows.old.items layer → IsOk result }
 {
     let row = &mut rows[layer];
@@ -222,7 +222,7 @@ fn lengthen(rows: &mut Vec<Vec<Option<Hash>>>, layer: usize, end: usize) -> Resu
 fn add_marks(marks: &mut Vec<bool>, layer: usize, end: usize) -> Result<(), NoMemory>
     ensures marked { marked_leaves marks.new.items ≡ marked_leaves marks.old.items }
     ensures longer { vec_len marks.old ≤ vec_len marks.new }
-    ensures ok { OnOk result (layer ≡ 0 → end ≤ vec_len marks.new) }
+    ensures reaches { OnOk result (layer ≡ 0 → end ≤ vec_len marks.new) }
     ensures no_memory { (layer ≡ 0 → end ≤ vec_len marks.old) → IsOk result }
 {
     if layer == 0 && marks.len() < end {

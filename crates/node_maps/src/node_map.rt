@@ -66,7 +66,7 @@ pub trait NodeMap: Drop {
         requires range { from + count ≤ 2 ^ (tree_height (seen self.old).length - layer) }
         ensures seen { seen self.new ≡ seen self.old }
         ensures keeps { KeepsRoom (has_room self.old) (has_room self.new) }
-        ensures ok { OnOk result (HasRoomInRow (has_room self.new) layer from count) }
+        ensures room { OnOk result (HasRoomInRow (has_room self.new) layer from count) }
         ensures few { OnOk result (held self.new ≤ held self.old + page_span from count) }
         ensures refused { OnErr result (held self.new ≡ held self.old) }
         ensures no_memory { HasRoomInRow (has_room self.old) layer from count → IsOk result };

@@ -49,8 +49,8 @@ pub(crate) trait PageIndex: Drop {
     /// Adds a page of a number that has none. If memory was refused, nothing has changed.
     fn add(&mut self, number: u64, page: Page) -> Result<(), NoMemory>
         requires { find self.old number ≡ None }
-        ensures ok { OnOk result (IsChanged number (Some page) (find self.old) (find self.new)) }
-        ensures err { OnErr result (AreAlike (find self.old) (find self.new)) }
+        ensures added { OnOk result (IsChanged number (Some page) (find self.old) (find self.new)) }
+        ensures unchanged { OnErr result (AreAlike (find self.old) (find self.new)) }
         ensures some { OnOk result (0 < entries self.new) }
         ensures kept { OnErr result (entries self.new ≡ entries self.old) }
         ensures in_use { in_use self.old → in_use self.new };

@@ -161,7 +161,7 @@ fn add_rows(alloc: Global, rows: &mut Vec<PagedRow>, layer: usize) -> Result<(),
     ensures pages { (l n : ℕ) → page_at rows.new.items l n ≡ page_at rows.old.items l n }
     ensures same { AreAsMany rows.old.items rows.new.items }
     ensures most { (vec_len rows.new ≤ layer + 1) ⊎ (vec_len rows.new ≡ vec_len rows.old) }
-    ensures ok { OnOk result (layer < vec_len rows.new) }
+    ensures there { OnOk result (layer < vec_len rows.new) }
     ensures no_memory { layer < vec_len rows.old → IsOk result }
 {
     'rows: while rows.len() <= layer {
@@ -177,7 +177,7 @@ fn add_pages(rows: &mut Vec<PagedRow>, layer: usize, first: u64, end: u64) -> Re
     ensures cells { AreSamePagedCells rows.old.items rows.new.items }
     ensures keeps { KeepPages rows.old.items rows.new.items }
     ensures len { vec_len rows.new ≡ vec_len rows.old }
-    ensures ok { OnOk result (HasPages rows.new.items layer first end) }
+    ensures there { OnOk result (HasPages rows.new.items layer first end) }
     ensures few { OnOk result (GrowsBy layer (end - first) rows.old.items rows.new.items) }
     ensures refused { OnErr result (AreAsMany rows.old.items rows.new.items) }
     ensures no_memory { HasPages rows.old.items layer first end → IsOk result }

@@ -131,9 +131,9 @@ impl PagedRow {
         requires { end ≤ 2 ^ 32 }
         ensures cells { AreSameRowCells self.old self.new }
         ensures keeps { KeepsRowPages self.old self.new }
-        ensures ok { OnOk result (HasRowPages self.new first end) }
+        ensures there { OnOk result (HasRowPages self.new first end) }
         ensures few { OnOk result (self.new.count ≤ self.old.count + (end - first)) }
-        ensures err { OnErr result (self.new.count ≡ self.old.count) }
+        ensures refused { OnErr result (self.new.count ≡ self.old.count) }
         ensures no_memory { HasRowPages self.old first end → IsOk result }
     {
         let before = self.fresh.len();
@@ -154,7 +154,7 @@ impl PagedRow {
         ensures keeps { KeepsRowPages self.old self.new }
         ensures grown { IsGrownByOne (pages_of self.old) self.old.fresh.items self.old.count
             (pages_of self.new) self.new.fresh.items self.new.count }
-        ensures ok { OnOk result (HasRowPage self.new number) }
+        ensures there { OnOk result (HasRowPage self.new number) }
         ensures few { self.new.count ≤ self.old.count + 1 }
         ensures room { vec_capacity self.new.fresh
             ≤ max (vec_capacity self.old.fresh) (2 * vec_len self.old.fresh + 4) }
@@ -245,7 +245,7 @@ fn is_spare(page: Option<&Page>) -> bool
 fn reserve_one(numbers: &mut Vec<u64>) -> Result<(), NoMemory>
     ensures items { numbers.new.items ≡ numbers.old.items }
     ensures len { vec_len numbers.new ≡ vec_len numbers.old }
-    ensures ok { OnOk result (vec_len numbers.new < vec_capacity numbers.new) }
+    ensures one { OnOk result (vec_len numbers.new < vec_capacity numbers.new) }
     ensures room { vec_capacity numbers.new
         ≤ max (vec_capacity numbers.old) (2 * vec_len numbers.old + 4) }
 {

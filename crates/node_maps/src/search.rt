@@ -27,7 +27,7 @@ pub(crate) fn search(numbers: &[u64], last: usize, number: u64) -> Result<usize,
 pub(crate) fn make_room<T: Drop>(numbers: &mut Vec<u64>, items: &mut Vec<T>) -> Result<(), NoMemory>
     ensures numbers { numbers.new.items ≡ numbers.old.items }
     ensures items { items.new.items ≡ items.old.items }
-    ensures ok { OnOk result ((vec_len numbers.new < vec_capacity numbers.new)
+    ensures one { OnOk result ((vec_len numbers.new < vec_capacity numbers.new)
         × (vec_len items.new < vec_capacity items.new)) }
 {
     numbers.reserve_exact(1)?;

@@ -22,7 +22,7 @@ impl<'a> Torrent<'a> {
         ensures only { (f b : ℕ) → IsBlockPlace self.now index begin f b
             → result ≡ Some (record { 0 = f; 1 = b }) }
     {
-        self.sound();
+        self.recall_sound();
         let piece_length = self.piece_length();
         let address = u64::from(index) * piece_length + u64::from(begin);
         place_at(self.files(), piece_length, address)

@@ -173,7 +173,7 @@ impl<'a> Torrent<'a> {
     /// What holds of every torrent: paths that lead to no other place, in order; distinct roots;
     /// layers that lead to their roots; files laid out piece after piece. A function that calls it
     /// knows that.
-    pub fn sound(&self)
+    pub fn recall_sound(&self)
         ensures { IsSound self.now }
     {
         let _ = &self.name;

@@ -9,7 +9,7 @@ use Rattle.partial_tree.specs.declared.answer.Answer.{Answer}
 use Rattle.session.proofs.Runs.{step-torrent}
 use Rattle.session.specs.Blocks.{BlocksSeen}
 use Rattle.session.specs.Pieces.{IsPieceRefused, IsTakenPiece}
-use Rattle.session.specs.Session.{SessionSeen, IsStored, IsHashRefused, IsVerified, IsBlockRefused, IsAnswered, AreTaken, AreRefused}
+use Rattle.session.specs.Session.{SessionSeen, IsStored, IsHashRefused, IsVerified, IsBlockRefused, IsAnswered, AreTaken, AreRefused, IsFilled, IsFillRefused}
 use Rattle.session.specs.declared.verdict.Verdict.TheVariants as verdict
 use Rattle.wire.specs.declared.message.Message.TheVariants as message
 use Rattle.session.specs.Noted.{IsAnswerStored, IsAnswerRefused}
@@ -25,6 +25,12 @@ pub torrent_after_hashes : (S S' : SessionSeen) (ask : Ask) (hashes : List Hash)
     → S'.torrent ≡ S.torrent
 torrent_after_hashes S S' ask hashes (Ok c) stored refused = same_torrent stored.state_after
 torrent_after_hashes S S' ask hashes (Err r) stored refused = same_torrent refused.1
+
+pub torrent_after_layer : (S S' : SessionSeen) (n layer : ℕ) (hashes : List Hash) (answer : Result ℕ HashRefusal)
+    → IfOk answer (λ c. IsFilled S n layer hashes c S') → IfErr answer (λ r. IsFillRefused S n layer hashes r × (S' ≡ S))
+    → S'.torrent ≡ S.torrent
+torrent_after_layer S S' n layer hashes (Ok c) filled refused = same_torrent filled.state_after
+torrent_after_layer S S' n layer hashes (Err r) filled refused = same_torrent refused.1
 
 pub torrent_after_block : (S S' : SessionSeen) (index begin : ℕ) (bytes : List ℕ) (answer : Result (ℕ × ℕ) BlockRefusal)
     → IfOk answer (λ p. IsVerified S index begin bytes p.0 p.1 S')

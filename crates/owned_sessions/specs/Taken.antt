@@ -11,7 +11,7 @@ use Rattle.partial_tree.specs.declared.refusal.BlockRefusal.{BlockRefusal}
 use Rattle.partial_tree.specs.declared.refusal.PieceRefusal.{PieceRefusal}
 use Rattle.partial_tree.specs.declared.answer.Answer.{Answer}
 use Rattle.session.specs.Session.{SessionSeen, TreeState, IsTree, IsStored, IsHashRefused, IsVerified, IsBlockRefused}
-use Rattle.session.specs.Session.{IsBlock, IsAnswered, AreTaken, AreRefused, AreBlocks}
+use Rattle.session.specs.Session.{IsBlock, IsAnswered, AreTaken, AreRefused, AreBlocks, IsFilled, IsFillRefused}
 use Rattle.session.specs.Answers.{IsAnswerTo}
 use Rattle.session.specs.Noted.{IsOpenAsk, IsAnswerStored, IsAnswerRefused, with_ask}
 use Rattle.session.specs.Blocks.{BlocksSeen}
@@ -30,6 +30,13 @@ pub record HashesTaken (S : SessionSeen) (ask : Ask) (hashes : List Hash)
   pub stores_true_hashes : StoresTrueHashes S ask hashes answer
   pub stores_answers : StoresAnswers S ask hashes answer
   pub closes_one_gap : WantedClosesOneGap S ask hashes answer S'
+
+-- tree n of a session takes a whole layer, and this is its answer
+pub record LayerTaken (S : SessionSeen) (n layer : ℕ) (hashes : List Hash)
+    (answer : Result ℕ HashRefusal) (S' : SessionSeen) : Type 0 where
+  pub filled : IfOk answer (λ c. IsFilled S n layer hashes c S')
+  pub refused : IfErr answer (λ r. IsFillRefused S n layer hashes r × (S' ≡ S))
+  pub keeps_known : KeepsKnown S S'
 
 -- a session takes a block, and this is its answer
 pub record BlockTaken (S : SessionSeen) (index begin : ℕ) (bytes : List ℕ)

@@ -4,6 +4,7 @@
 #![tactic(auto)]
 
 mod holding;
+mod keeping;
 mod owned_session;
 
 pub use owned_session::OwnedSession;

@@ -13,7 +13,8 @@ use Rattle.std.proofs.lemmas.Str.{IsUtf8-from_ascii}
 use Rattle.std.proofs.lemmas.List.{drop_at, take-append-drop, take_at}
 use Rattle.std.proofs.lemmas.Bool.{and_parts}
 use Rattle.std.proofs.lemmas.Option.{same_Some}
-use Rattle.part_reports.specs.Scan.{BeginsWith, is_in_line, line_feed}
+use Rattle.lines.specs.Reading.{BeginsWith}
+use Rattle.part_reports.specs.Scan.{is_in_line, line_feed}
 
 -- a run of bytes that pass a test stands before one that does not
 pub front_len : (p : ℕ → Bool) (run : List ℕ) (c : ℕ) (rest : List ℕ) → list_all p run ≡ true → p c ≡ false → prefix_len p (run ++ c ∷ rest) ≡ length run

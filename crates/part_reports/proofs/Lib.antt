@@ -17,5 +17,6 @@ pub mod SameLines
 pub mod SoFar
 pub mod TextReads
 pub mod Texts
+pub mod Tried
 pub mod WholePrints
 pub mod Windows

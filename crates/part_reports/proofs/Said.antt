@@ -11,9 +11,7 @@ use Rattle.opening.specs.Description.{Description}
 use Rattle.parts.specs.PartLines.{answer_line}
 use Rattle.parts.specs.Parts.{place_count}
 use Rattle.parts.specs.declared.places.Places.{Places}
-use Rattle.part_reports.specs.Lines.{FailsToRead, HasEnd, IsSmallV1, SaysEnd}
-use Rattle.part_reports.specs.declared.report_fault.ReportFault.{ReportFault}
-use Rattle.part_reports.specs.declared.report_fault.ReportFault.TheVariants as fault
+use Rattle.part_reports.specs.Lines.{HasEnd, IsSmallV1, SaysEnd}
 use Rattle.part_reports.specs.Reported.{CanSayV1}
 
 -- a test and what it is of follow from each other
@@ -78,8 +76,3 @@ same_said_v1 t r pieces worst text v1 count few whole end =
     let pieces_is : place_count t - 1 ≡ pieces = omega (arith, count) in
     whole end.0 (answer_line (is_good worst && stream_is_good end.0)) end.1.hybrid
     (λ v is. small_said r pieces v few (subst (λ n. CanSayV1 r n v) pieces_is (end.1.says v is).0)) end.1.is
-
--- what cannot be read of a part cannot be read of the whole
-pub fails_more : (A B : Type 0) (e : ReportFault) → (B → A) → FailsToRead A e → FailsToRead B e
-fails_more A B fault.NoReport part fails = λ whole. fails (part whole)
-fails_more A B fault.NoMemory part fails = tt

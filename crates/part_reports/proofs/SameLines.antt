@@ -126,7 +126,7 @@ same_lines t r (f ∷ fs) (v ∷ vs) (w ∷ ws) xs ys len within small short is 
 
 -- ---- the end
 
-bad_stream : (p : ℕ) (end : List ℕ) → stream_words (Some (version1.Bad p)) ++ end ≡ codes "v1 bad " ++ (decimal p ++ 10 ∷ end)
+pub bad_stream : (p : ℕ) (end : List ℕ) → stream_words (Some (version1.Bad p)) ++ end ≡ codes "v1 bad " ++ (decimal p ++ 10 ∷ end)
 bad_stream p end =
     append_assoc (codes "v1 bad " ++ decimal p) (codes "\n") end ∙ append_assoc (codes "v1 bad ") (decimal p) (10 ∷ end)
 

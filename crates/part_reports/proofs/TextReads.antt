@@ -1,6 +1,6 @@
 -- A text, by what was done with its lines.
 use Rattle.std.proofs.Common.{◌≡◌, ℕ, zero, suc, ◌<◌, ◌^◌, List, [], ◌∷◌, ◌++◌, length, map, slice_get, option_map}
-use Rattle.std.proofs.Common.{Some, Result, Ok, Err, refl, sym, ap, subst, ◌∙◌, append-nil, arith}
+use Rattle.std.proofs.Common.{Option, Some, None, refl, sym, ap, subst, ◌∙◌, append-nil, arith}
 use Rattle.std.proofs.lemmas.List.{length-map}
 use Rattle.std.proofs.lemmas.Option.{none-some, same_Some, slice_get-map}
 use Rattle.opening.specs.Description.{Description, FileEntry}
@@ -11,10 +11,10 @@ use Rattle.parts.specs.PartLines.{end_lines, has_place, head_text, held_line, li
 use Rattle.parts.specs.Runs.{Run, runs_text}
 use Rattle.parts.specs.Shares.{share}
 use Rattle.parts.specs.declared.places.Places.{Places}
-use Rattle.std.specs.Result.{MatchResult}
+use Rattle.std.specs.Option.{MatchOption}
 use Rattle.part_reports.specs.Heads.{head_line}
 use Rattle.part_reports.specs.Joined.{AreJoined, IsRead}
-use Rattle.part_reports.specs.Lines.{CanReportMarked, FailsToRead, HasLines, JoinsLines, MarkedPart, marked_rest, part_of}
+use Rattle.part_reports.specs.Lines.{CanReportMarked, HasLines, JoinsLines, MarkedPart, marked_rest, part_of}
 use Rattle.part_reports.specs.MarkedJoins.{AreJoinedAs, IsReadAs, JoinsText, text_of}
 use Rattle.part_reports.specs.Marks.{CanMarkAll}
 use Rattle.part_reports.specs.Reported.{CanReport}
@@ -23,8 +23,6 @@ use Rattle.part_reports.proofs.Faults.{marked_head}
 use Rattle.part_reports.specs.declared.kind.Kind.{Kind}
 use Rattle.part_reports.specs.declared.kind.Kind.TheVariants as kind
 use Rattle.part_reports.specs.declared.marked_report.MarkedReport.{MarkedReport}
-use Rattle.part_reports.specs.declared.report_fault.ReportFault.{ReportFault}
-use Rattle.part_reports.specs.declared.report_fault.ReportFault.TheVariants as fault
 use Rattle.part_reports.proofs.SameLines.{same_rest}
 
 -- ---- a text, by what was done with its lines
@@ -105,10 +103,10 @@ lines_of kind.Marked t part count r lines places report =
 
 -- what was done with the lines of a text was done with the text
 pub text_read : (k : Kind) (t : Description) (part count : ℕ) (r : Places) (lines text : List ℕ) (old new : MarkedReport)
-    (res : Result (Unit {0}) ReportFault) → r ≡ share t part count → text ≡ head_line part count (own_words k t) ++ lines
-    → MatchResult res (λ u. JoinsLines k t r lines old new) (FailsToRead (HasLines k t r lines))
-    → MatchResult res (λ u. JoinsText k t part count text old new) (FailsToRead (IsReportOf k t part count text))
-text_read k t part count r lines text old new (Ok u) places is done =
+    (res : Option (Unit {0})) → r ≡ share t part count → text ≡ head_line part count (own_words k t) ++ lines
+    → MatchOption res (HasLines k t r lines → ⊥) (λ u. JoinsLines k t r lines old new)
+    → MatchOption res (IsReportOf k t part count text → ⊥) (λ u. JoinsText k t part count text old new)
+text_read k t part count r lines text old new (Some u) places is done =
     let m = done.part in
     let own : m.places ≡ share t part count = done.places ∙ places in
     record {
@@ -119,9 +117,8 @@ text_read k t part count r lines text old new (Ok u) places is done =
       joined = done.joined;
       marks = done.marks;
     }
-text_read k t part count r lines text old new (Err fault.NoReport) places is none = λ report.
+text_read k t part count r lines text old new None places is none = λ report.
     none (lines_of k t part count r lines places (subst (IsReportOf k t part count) is report))
-text_read k t part count r lines text old new (Err fault.NoMemory) places is none = tt
 
 -- ---- plain reports
 

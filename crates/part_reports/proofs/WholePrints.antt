@@ -6,28 +6,25 @@ use Rattle.std.proofs.lemmas.Option.{none-some, same_Some}
 use Rattle.chains.proofs.Cases.{pushed_at}
 use Rattle.benc.specs.Device.{SinkSeen, WroteAndFlushed}
 use Rattle.opening.specs.Description.{Description, FileEntry}
-use Rattle.folders.specs.Printed.{file_verdict_text}
 use Rattle.folders.specs.declared.report.FileVerdict.{FileVerdict}
-use Rattle.parts.specs.Runs.{Run, runs_text}
+use Rattle.parts.specs.Runs.{Run}
 use Rattle.parts.specs.Telling.{has_runs}
-use Rattle.part_reports.specs.WholeLines.{AreShown, PrintsMarked, ShowsAll, ShowsFirst, whole_lines, whole_text}
+use Rattle.parts.specs.Words.{Words}
+use Rattle.part_reports.specs.WholeLines.{AreShown, SaysMarked, ShowsAll, ShowsFirst, file_as, whole_as, whole_lines_as}
 use Rattle.part_reports.specs.declared.marked_report.MarkedReport.{MarkedReport}
 use Rattle.part_reports.proofs.Listed.{same_items}
 use Rattle.part_reports.proofs.MarkedFiles.{said_at}
 
--- all that is printed of a file
-abbrev pub file_lines : Description → FileEntry → FileVerdict → List Run → List ℕ
-file_lines t f v runs = file_verdict_text v f ++ runs_text t f runs
-
-pub lines_push : (t : Description) (xs : List (FileVerdict × List Run)) (fs : List FileEntry) (v : FileVerdict) (runs : List Run) (f : FileEntry)
-    → slice_get fs (length xs) ≡ Some f → whole_lines t (xs ++ (v, runs) ∷ []) fs ≡ whole_lines t xs fs ++ file_lines t f v runs
-lines_push t [] [] v runs f at = absurd (none-some f at)
-lines_push t [] (g ∷ fs) v runs f at =
-    append-nil (file_lines t g v runs) ∙ ap (λ (h : FileEntry). file_lines t h v runs) (same_Some g f at)
-lines_push t (x ∷ xs) [] v runs f at = absurd (none-some f at)
-lines_push t (x ∷ xs) (g ∷ fs) v runs f at =
-    let one : List ℕ = file_lines t g x.0 x.1 in
-    ap (λ l. one ++ l) (lines_push t xs fs v runs f at) ∙ sym (append_assoc one (whole_lines t xs fs) (file_lines t f v runs))
+pub lines_push : (words : Words) (t : Description) (xs : List (FileVerdict × List Run)) (fs : List FileEntry) (v : FileVerdict) (runs : List Run)
+    (f : FileEntry)
+    → slice_get fs (length xs) ≡ Some f → whole_lines_as words t (xs ++ (v, runs) ∷ []) fs ≡ whole_lines_as words t xs fs ++ file_as words t f v runs
+lines_push words t [] [] v runs f at = absurd (none-some f at)
+lines_push words t [] (g ∷ fs) v runs f at =
+    append-nil (file_as words t g v runs) ∙ ap (λ (h : FileEntry). file_as words t h v runs) (same_Some g f at)
+lines_push words t (x ∷ xs) [] v runs f at = absurd (none-some f at)
+lines_push words t (x ∷ xs) (g ∷ fs) v runs f at =
+    let one : List ℕ = file_as words t g x.0 x.1 in
+    ap (λ l. one ++ l) (lines_push words t xs fs v runs f at) ∙ sym (append_assoc one (whole_lines_as words t xs fs) (file_as words t f v runs))
 
 pub none_first : (t : Description) (joined : MarkedReport) → ShowsFirst t joined []
 none_first t joined = record {
@@ -62,7 +59,7 @@ all_first t joined marked count first = record {
   runs = first.runs;
 }
 
-pub printed_whole : {E : Type 0} (t : Description) (joined : MarkedReport) (marked : List (FileVerdict × List Run)) (old new : SinkSeen)
-    (r : Result (Unit {0}) E) → ShowsAll t joined marked → WroteAndFlushed old new r (whole_text t marked joined) → PrintsMarked t joined old new r
-printed_whole t joined marked old new (Ok u) shows wrote = (marked, shows, wrote)
-printed_whole t joined marked old new (Err e) shows wrote = inr (marked, shows, wrote)
+pub printed_whole : {E : Type 0} (words : Words) (t : Description) (joined : MarkedReport) (marked : List (FileVerdict × List Run)) (old new : SinkSeen)
+    (r : Result (Unit {0}) E) → ShowsAll t joined marked → WroteAndFlushed old new r (whole_as words t marked joined) → SaysMarked words t joined old new r
+printed_whole words t joined marked old new (Ok u) shows wrote = (marked, shows, wrote)
+printed_whole words t joined marked old new (Err e) shows wrote = inr (marked, shows, wrote)

@@ -16,12 +16,10 @@ use Rattle.parts.specs.Worse.{worse, worse_v1}
 use Rattle.parts.specs.declared.places.Places.{Places}
 use Rattle.part_reports.specs.Marks.{CanMark, CanMarkAll, CanTell, IsInRuns, IsTold, MarksMore}
 use Rattle.part_reports.specs.Reported.{CanReport, CanSay, CanSayV1}
-use Rattle.part_reports.specs.Scan.{BeginsWith}
+use Rattle.lines.specs.Reading.{BeginsWith}
 use Rattle.part_reports.specs.declared.bad_pieces.BadPieces.{BadPieces}
 use Rattle.part_reports.specs.declared.kind.Kind.{Kind}
 use Rattle.part_reports.specs.declared.marked_report.MarkedReport.{MarkedReport}
-use Rattle.part_reports.specs.declared.report_fault.ReportFault.{ReportFault}
-use Rattle.part_reports.specs.declared.report_fault.ReportFault.TheVariants as fault
 
 -- the number of a bad piece, if the verdict has one, is one of 64 bits
 abbrev pub IsSmall : FileVerdict → Type 0
@@ -36,11 +34,6 @@ abbrev pub IsSmallV1 : V1Verdict → Type 0
 IsSmallV1 version1.Good = ⊤
 IsSmallV1 version1.NotChecked = ⊤
 IsSmallV1 (version1.Bad p) = p < 2 ^ 64
-
--- the text is none that has this form, or memory was refused
-abbrev pub FailsToRead : Type 0 → ReportFault → Type 0
-FailsToRead Form fault.NoReport = Form → ⊥
-FailsToRead Form fault.NoMemory = ⊤
 
 -- this verdict on a file stands at the front of a text, in its line if the file has one, and this
 -- follows

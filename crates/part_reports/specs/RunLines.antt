@@ -6,7 +6,7 @@ use Rattle.folders.specs.declared.report.FileVerdict.TheVariants as file
 use Rattle.parts.specs.Runs.{Run, run_text, runs_text}
 use Rattle.part_reports.specs.Lines.{HasNoRun}
 use Rattle.part_reports.specs.Marks.{AreRunsWithin, IsInRuns, MarksMore}
-use Rattle.part_reports.specs.Scan.{BeginsWith}
+use Rattle.lines.specs.Reading.{BeginsWith}
 use Rattle.part_reports.specs.declared.bad_pieces.BadPieces.{BadPieces}
 
 -- the pieces of a run lie from one piece on and before another

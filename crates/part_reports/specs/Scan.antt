@@ -1,5 +1,5 @@
 -- Texts and lines.
-use Rattle.std.specs.Prelude.{◌≡◌, ℕ, Bool, not, ◌==◌, List, ◌++◌}
+use Rattle.std.specs.Prelude.{ℕ, Bool, not, ◌==◌}
 
 -- the byte that ends a line
 abbrev pub line_feed : ℕ
@@ -8,7 +8,3 @@ line_feed = 10
 -- whether a byte does not end a line
 abbrev pub is_in_line : ℕ → Bool
 is_in_line b = not (b == line_feed)
-
--- the text begins so
-abbrev pub BeginsWith : List ℕ → List ℕ → Type 0
-BeginsWith front text = (more : List ℕ) × (text ≡ front ++ more)

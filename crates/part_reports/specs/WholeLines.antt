@@ -2,25 +2,35 @@
 use Rattle.std.specs.Prelude.{◌≡◌, ◌⊎◌, ℕ, ◌+◌, ◌≤◌, Bool, true, false, List, [], ◌∷◌, ◌++◌, length, slice_get, Some, Result, MatchResult}
 use Rattle.benc.specs.Device.{Broke, BrokeOrUnflushed, Sent, SentAndFlushed, SinkSeen}
 use Rattle.opening.specs.Description.{Description, FileEntry}
-use Rattle.folders.specs.Printed.{end_text, file_verdict_text}
+use Rattle.folders.specs.Printed.{end_as}
 use Rattle.folders.specs.declared.report_lines.Lines.TheVariants as lines
 use Rattle.folders.specs.declared.report.FileVerdict.{FileVerdict}
 use Rattle.parts.specs.MarkedLines.{verdicts_of}
 use Rattle.parts.specs.Parts.{piece_count}
-use Rattle.parts.specs.Runs.{AreBadRuns, Run, runs_text}
+use Rattle.parts.specs.Runs.{AreBadRuns, Run, runs_as}
 use Rattle.parts.specs.Telling.{has_runs}
+use Rattle.parts.specs.Words.{Words, words_in_text}
 use Rattle.part_reports.specs.Marks.{IsMarked}
 use Rattle.part_reports.specs.declared.bad_pieces.BadPieces.{BadPieces}
 use Rattle.part_reports.specs.declared.marked_report.MarkedReport.{MarkedReport}
 
 -- ---- the text
 
--- the lines of the first files, each with those of its runs of bad pieces behind it
+-- the line of a file, worded so, with those of its runs of bad pieces behind it
+abbrev pub file_as : Words → Description → FileEntry → FileVerdict → List Run → List ℕ
+file_as words t f v runs = words.report.file v f ++ runs_as words.run t f runs
+
+-- those of the first files
+abbrev pub whole_lines_as : Words → Description → List (FileVerdict × List Run) → List FileEntry
+    → List ℕ
+whole_lines_as words t [] fs = []
+whole_lines_as words t (x ∷ xs) [] = []
+whole_lines_as words t (x ∷ xs) (f ∷ fs) =
+    file_as words t f x.0 x.1 ++ whole_lines_as words t xs fs
+
+-- the same as text
 abbrev pub whole_lines : Description → List (FileVerdict × List Run) → List FileEntry → List ℕ
-whole_lines t [] fs = []
-whole_lines t (x ∷ xs) [] = []
-whole_lines t (x ∷ xs) (f ∷ fs) =
-    (file_verdict_text x.0 f ++ runs_text t f x.1) ++ whole_lines t xs fs
+whole_lines t xs fs = whole_lines_as words_in_text t xs fs
 
 -- ---- the runs
 
@@ -61,24 +71,25 @@ pub record ShowsAll (t : Description) (joined : MarkedReport)
       → slice_get marked n ≡ Some x → AreShown t joined.bad f (has_runs x.0) x.1
 
 -- the lines of the runs of a file went out, or those of the first ones broke off
-abbrev pub PrintsRuns : {E : Type 0} → Description → BadPieces → FileEntry → SinkSeen → SinkSeen
+abbrev pub SaysRuns : {E : Type 0} → Words → Description → BadPieces → FileEntry → SinkSeen → SinkSeen
     → Result (Unit {0}) E → Type 0
-PrintsRuns t bad f old new r = MatchResult r
+SaysRuns words t bad f old new r = MatchResult r
     (λ _. (runs : List Run) × AreMarkedRuns t bad f (piece_count t f) runs
-    × Sent old new (runs_text t f runs))
-    (λ _. (runs : List Run) × AreFirstShown t bad f true runs × Broke old new (runs_text t f runs))
+    × Sent old new (runs_as words.run t f runs))
+    (λ _. (runs : List Run) × AreFirstShown t bad f true runs × Broke old new (runs_as words.run t f runs))
 
 -- the lines of a file with this verdict went out, or broke off
-abbrev pub PrintsFile : {E : Type 0} → Description → BadPieces → FileEntry → FileVerdict → SinkSeen
-    → SinkSeen → Result (Unit {0}) E → Type 0
-PrintsFile t bad f v old new r = MatchResult r
+abbrev pub SaysFile : {E : Type 0} → Words → Description → BadPieces → FileEntry → FileVerdict
+    → SinkSeen → SinkSeen → Result (Unit {0}) E → Type 0
+SaysFile words t bad f v old new r = MatchResult r
     (λ _. (runs : List Run) × AreShown t bad f (has_runs v) runs
-    × Sent old new (file_verdict_text v f ++ runs_text t f runs))
+    × Sent old new (file_as words t f v runs))
     (λ _. (runs : List Run) × AreFirstShown t bad f (has_runs v) runs
-    × Broke old new (file_verdict_text v f ++ runs_text t f runs))
+    × Broke old new (file_as words t f v runs))
 
 -- after all lines of the first files those of the next one broke off
-pub record StopsAtFile (t : Description) (joined : MarkedReport) (old new : SinkSeen) : Type 0 where
+pub record StopsAtFile (words : Words) (t : Description) (joined : MarkedReport)
+    (old new : SinkSeen) : Type 0 where
   pub before : List (FileVerdict × List Run)
   pub shows : ShowsFirst t joined before
   pub file : FileEntry
@@ -88,36 +99,45 @@ pub record StopsAtFile (t : Description) (joined : MarkedReport) (old new : Sink
   pub runs : List Run
   pub first : AreFirstShown t joined.bad file (has_runs verdict) runs
   pub broke : Broke old new
-      (whole_lines t before t.files ++ (file_verdict_text verdict file ++ runs_text t file runs))
+      (whole_lines_as words t before t.files ++ file_as words t file verdict runs)
 
 -- the lines of all files went out, or broke off
-abbrev pub PrintsFiles : {E : Type 0} → Description → MarkedReport → SinkSeen → SinkSeen
+abbrev pub SaysFiles : {E : Type 0} → Words → Description → MarkedReport → SinkSeen → SinkSeen
     → Result (Unit {0}) E → Type 0
-PrintsFiles t joined old new r = MatchResult r
+SaysFiles words t joined old new r = MatchResult r
     (λ _. (marked : List (FileVerdict × List Run)) × ShowsAll t joined marked
-    × Sent old new (whole_lines t marked t.files))
-    (λ _. StopsAtFile t joined old new)
+    × Sent old new (whole_lines_as words t marked t.files))
+    (λ _. StopsAtFile words t joined old new)
 
 -- all lines
+abbrev pub whole_as : Words → Description → List (FileVerdict × List Run) → MarkedReport → List ℕ
+whole_as words t marked joined = whole_lines_as words t marked t.files
+    ++ end_as words.report lines.All joined.report.files.items joined.report.v1
+
+-- the same as text
 abbrev pub whole_text : Description → List (FileVerdict × List Run) → MarkedReport → List ℕ
-whole_text t marked joined = whole_lines t marked t.files
-    ++ end_text lines.All joined.report.files.items joined.report.v1
+whole_text t marked joined = whole_as words_in_text t marked joined
 
 -- all went out, and was flushed
-abbrev pub PrintsWhole : Description → MarkedReport → SinkSeen → SinkSeen → Type 0
-PrintsWhole t joined old new = (marked : List (FileVerdict × List Run)) × ShowsAll t joined marked
-    × SentAndFlushed old new (whole_text t marked joined)
+abbrev pub SaysWhole : Words → Description → MarkedReport → SinkSeen → SinkSeen → Type 0
+SaysWhole words t joined old new = (marked : List (FileVerdict × List Run)) × ShowsAll t joined marked
+    × SentAndFlushed old new (whole_as words t marked joined)
 
 -- it broke off in the lines of a file, or behind them
-abbrev pub StopsPrinting : Description → MarkedReport → SinkSeen → SinkSeen → Type 0
-StopsPrinting t joined old new = StopsAtFile t joined old new
+abbrev pub StopsSaying : Words → Description → MarkedReport → SinkSeen → SinkSeen → Type 0
+StopsSaying words t joined old new = StopsAtFile words t joined old new
     ⊎ ((marked : List (FileVerdict × List Run)) × ShowsAll t joined marked
-    × BrokeOrUnflushed old new (whole_text t marked joined))
+    × BrokeOrUnflushed old new (whole_as words t marked joined))
 
--- What a call that prints a report with its bad pieces did, by its answer: of each file its line,
--- and behind that of one that is bad or has another length the lines of the maximal runs of its bad
+-- What a call that says a report with its bad pieces did, by its answer: of each file its line, and
+-- behind that of one that is bad or has another length the lines of the maximal runs of its bad
 -- pieces; and then the end. Or this broke off.
+abbrev pub SaysMarked : {E : Type 0} → Words → Description → MarkedReport → SinkSeen → SinkSeen
+    → Result (Unit {0}) E → Type 0
+SaysMarked words t joined old new r =
+    MatchResult r (λ _. SaysWhole words t joined old new) (λ _. StopsSaying words t joined old new)
+
+-- the same as text
 abbrev pub PrintsMarked : {E : Type 0} → Description → MarkedReport → SinkSeen → SinkSeen
     → Result (Unit {0}) E → Type 0
-PrintsMarked t joined old new r =
-    MatchResult r (λ _. PrintsWhole t joined old new) (λ _. StopsPrinting t joined old new)
+PrintsMarked t joined old new r = SaysMarked words_in_text t joined old new r

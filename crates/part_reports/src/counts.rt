@@ -11,7 +11,7 @@ use opening::{File, Torrent};
 pub(crate) fn piece_count(torrent: &Torrent<'_>, file: &File<'_>) -> u64
     ensures { result ≡ piece_count torrent.now (file_entry file.now) }
 {
-    torrent.sound();
+    torrent.recall_sound();
     file.length.div_ceil(torrent.piece_length())
 }
 

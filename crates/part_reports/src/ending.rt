@@ -9,9 +9,9 @@ ghost use Rattle.part_reports.specs.Lines.{HasEnd, IsSmallV1, ReadsEnd, SaysEnd}
 
 use crate::counts::is_between;
 use crate::words::v1_verdict;
-use folders::{FileVerdict, V1Verdict, stream_line};
+use folders::{FileVerdict, V1Verdict, strip_version1};
 use opening::Torrent;
-use parts::Places;
+use parts::{Places, strip_answer};
 
 /// The verdict on the version 1 pieces of a hybrid, which the last lines of a report say: it is of
 /// a part with these places, and this is the worst of its verdicts on files. `None` if these are
@@ -31,8 +31,8 @@ pub(crate) fn read_end(
     if !can_say(places, pieces, worst, v1) {
         return None;
     }
-    let answer = text.strip_prefix(stream_line(&v1).as_slice())?;
-    if answer == answer_line(worst, v1) {
+    let answer = strip_version1(&v1, text)?;
+    if ends_with(yes(worst, v1), answer) {
         Some(v1)
     } else {
         None
@@ -89,12 +89,22 @@ fn is_whole(verdict: FileVerdict) -> bool
     matches!(verdict, FileVerdict::Good | FileVerdict::Bad(_))
 }
 
-// The last line.
-fn answer_line(worst: FileVerdict, v1: Option<V1Verdict>) -> &'static [u8]
-    ensures { result.now ≡ answer_line (is_good worst && stream_is_good v1) }
+// Whether files with this worst verdict and these version 1 pieces are all good.
+fn yes(worst: FileVerdict, v1: Option<V1Verdict>) -> bool
+    ensures { result ≡ is_good worst && stream_is_good v1 }
 {
     match (worst, v1) {
-        (FileVerdict::Good, None | Some(V1Verdict::Good)) => b"part yes\n",
-        _ => b"part no\n",
+        (FileVerdict::Good, None | Some(V1Verdict::Good)) => true,
+        _ => false,
+    }
+}
+
+// Whether the last line stands there, and nothing behind it.
+fn ends_with(yes: bool, text: &[u8]) -> bool
+    ensures { IsTrue result ↔ (text.now ≡ answer_line yes) }
+{
+    match strip_answer(yes, text) {
+        Some(rest) => rest.is_empty(),
+        None => false,
     }
 }

@@ -4,7 +4,7 @@ ghost use Rattle.std.specs.List.{list_all};
 ghost use Rattle.hex.specs.Hex.{encode_lower};
 ghost use Rattle.part_reports.specs.Heads.{HasHead, HasNoHead, IsHashText, IsOfHash, hash_words, head_line, is_hash_digit};
 ghost use Rattle.part_reports.specs.Reasons.{own_words};
-ghost use Rattle.part_reports.specs.Scan.{BeginsWith};
+ghost use Rattle.lines.specs.Reading.{BeginsWith};
 
 use crate::kind::Kind;
 use crate::scan::number_behind;

@@ -1,10 +1,9 @@
 //! The join of the reports of all parts.
-ghost use Rattle.std.specs.Prelude.{◌≡◌, ℕ, ◌+◌, ◌<◌, length, map, replicate, is_some, IfErr, IfOk, MatchResult, Some};
+ghost use Rattle.std.specs.Prelude.{◌≡◌, ℕ, ◌+◌, ◌<◌, length, map, replicate, is_some, IfErr, IfOk, MatchOption, Some};
 ghost use Rattle.folders.specs.declared.report.V1Verdict.{V1Verdict as OfV1};
 ghost use Rattle.parts.specs.Parts.{place_count};
 ghost use Rattle.parts.specs.Shares.{share};
 ghost use Rattle.part_reports.specs.Joined.{AreJoined};
-ghost use Rattle.part_reports.specs.Lines.{FailsToRead};
 ghost use Rattle.part_reports.specs.MarkedJoins.{AreJoinedAs, JoinsText};
 ghost use Rattle.part_reports.specs.Marks.{HasRoom, IsMarked};
 ghost use Rattle.part_reports.specs.Numbers.{text_count};
@@ -17,7 +16,6 @@ use crate::join_fault::JoinFault;
 use crate::kind::Kind;
 use crate::marked_report::MarkedReport;
 use crate::numbers::Numbers;
-use crate::report_fault::ReportFault;
 use crate::report_lines::join_lines;
 use crate::starts::Division;
 use folders::{FileVerdict, Report, V1Verdict};
@@ -33,8 +31,8 @@ use std::alloc::{AllocError, Global};
 /// # Errors
 ///
 /// Each fault comes only for what it says, so that the reports of all parts, each once, are joined
-/// (`laws::all_reports_are_joined`). `NoMemory`: memory was refused for the numbers of the parts,
-/// for the report or for a line.
+/// (`laws::all_reports_are_joined`). `NoMemory`: memory was refused for the numbers of the parts or
+/// for the report.
 pub fn join_reports(
     alloc: Global,
     torrent: &Torrent<'_>,
@@ -113,19 +111,9 @@ fn join_parts(
             to: end.place,
         };
         let text = texts[place];
-        match join_text(
-            alloc,
-            torrent,
-            kind,
-            &division,
-            part,
-            places,
-            text,
-            &mut joined,
-        ) {
-            Ok(()) => start = end,
-            Err(ReportFault::NoReport) => return Err(JoinFault::NoReport(place)),
-            Err(ReportFault::NoMemory) => return Err(JoinFault::NoMemory),
+        match join_text(torrent, kind, &division, part, places, text, &mut joined) {
+            Some(()) => start = end,
+            None => return Err(JoinFault::NoReport(place)),
         }
     }
     Ok(joined)
@@ -133,7 +121,6 @@ fn join_parts(
 
 // Joins to a report what a text says, as the report, of this kind, of this part with these places.
 fn join_text(
-    alloc: Global,
     torrent: &Torrent<'_>,
     kind: Kind,
     division: &Division,
@@ -141,21 +128,18 @@ fn join_text(
     places: Places,
     text: &[u8],
     joined: &mut MarkedReport,
-) -> Result<(), ReportFault>
+) -> Option<()>
     requires there { part < division.now.parts }
     requires pieces { division.now.pieces + 1 ≡ place_count torrent.now }
     requires places { places ≡ share torrent.now part division.now.parts }
     requires files { length joined.old.report.files.items ≡ length torrent.now.files }
     requires hybrid { is_some joined.old.report.v1 ≡ is_some torrent.now.v1 }
     requires room { HasRoom kind division.now.pieces joined.old.bad }
-    ensures { MatchResult result
-        (λ u. JoinsText kind torrent.now part division.now.parts text.now joined.old joined.new)
-        (FailsToRead (IsReportOf kind torrent.now part division.now.parts text.now)) }
+    ensures { MatchOption result (IsReportOf kind torrent.now part division.now.parts text.now → ⊥)
+        (λ u. JoinsText kind torrent.now part division.now.parts text.now joined.old joined.new) }
 {
-    let Some(lines) = behind_head(torrent, kind, part, division.parts, text) else {
-        return Err(ReportFault::NoReport);
-    };
-    join_lines(alloc, torrent, kind, places, division.pieces, lines, joined)
+    let lines = behind_head(torrent, kind, part, division.parts, text)?;
+    join_lines(torrent, kind, places, division.pieces, lines, joined)
 }
 
 // The report that says nothing: all is good, and no piece is marked. The torrent has this many

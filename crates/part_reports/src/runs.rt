@@ -13,7 +13,7 @@ use crate::counts::{has_runs, piece_count};
 use crate::scan::number_behind;
 use folders::FileVerdict;
 use opening::{File, Torrent};
-use parts::{Places, run_line};
+use parts::{Places, strip_run};
 
 /// What follows the lines of the runs of bad pieces of a file with this verdict, in the report of a
 /// part with these places; the pieces in them are marked. `None` if they do not begin with the
@@ -34,7 +34,7 @@ pub(crate) fn read_runs<'a>(
         MatchOption result (HasRuns torrent.now places f verdict text.now → ⊥)
         (λ rest. ReadsRuns torrent.now places f verdict text.now rest.now bad.old bad.new) }
 {
-    torrent.sound();
+    torrent.recall_sound();
     if !has_runs(verdict) {
         return Some(text);
     }
@@ -75,7 +75,7 @@ fn begins_rightly(
     ensures { IsTrue result ↔ BeginsRightly torrent.now (file_entry file.now) from to verdict
         text.now }
 {
-    torrent.sound();
+    torrent.recall_sound();
     match verdict {
         FileVerdict::Bad(piece) => match read_run(torrent, file, from, to, text) {
             Some((first, _, _)) => file.first_piece + first == piece,
@@ -102,7 +102,7 @@ fn read_all<'a>(
     ensures { ReadsAll torrent.now (file_entry file.now) from to text.now result.now bad.old
         bad.new }
 {
-    torrent.sound();
+    torrent.recall_sound();
     let mut rest = text;
     let mut at = from;
     'runs: while let Some((first, end, behind)) = read_run(torrent, file, at, to, rest) {
@@ -130,14 +130,14 @@ fn read_run<'a>(
         × (text.now ≡ run_text torrent.now f (record { first = x.0; last = x.1 - 1 })
         ++ x.2.now)) }
 {
-    torrent.sound();
+    torrent.recall_sound();
     let (first, last) = run_numbers(text)?;
     let from = first.checked_sub(file.first_piece)?;
     let end = last.checked_sub(file.first_piece)?.checked_add(1)?;
     if from < at || end <= from || to < end {
         return None;
     }
-    let rest = text.strip_prefix(run_line(torrent, file, from, end).as_slice())?;
+    let rest = strip_run(torrent, file, from, end, text)?;
     Some((from, end, rest))
 }
 

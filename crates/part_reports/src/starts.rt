@@ -36,7 +36,7 @@ impl Division {
         requires { 0 < parts }
         ensures { IsDivision torrent.now parts result }
     {
-        torrent.sound();
+        torrent.recall_sound();
         let mut bytes: u64 = 0;
         let mut pieces: u64 = 0;
         'files: for file in torrent.files() {
@@ -72,7 +72,7 @@ impl Division {
         ensures place { result.place ≡ start torrent.now part self.now.parts }
         ensures passed { IsPassed torrent.now result (self.now.part_bytes * part) }
     {
-        torrent.sound();
+        torrent.recall_sound();
         if part == self.parts {
             return Start {
                 place: self.pieces + 1,
@@ -91,7 +91,7 @@ impl Division {
             (place_count torrent.now) torrent.now.files byte }
         ensures passed { IsPassed torrent.now result byte }
     {
-        torrent.sound();
+        torrent.recall_sound();
         let piece_length = torrent.piece_length();
         let files = torrent.files();
         let mut left = byte - before.bytes;

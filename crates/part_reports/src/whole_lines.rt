@@ -3,16 +3,17 @@ ghost use Rattle.std.specs.Prelude.{◌≡◌, ◌+◌, ◌≤◌, length, map, 
 ghost use Rattle.folders.specs.Verdicts.{IsFileOf};
 ghost use Rattle.opening.specs.Seen.{file_entry};
 ghost use Rattle.parts.specs.Parts.{piece_count as pieces_in, place_count};
-ghost use Rattle.part_reports.specs.WholeLines.{PrintsFile, PrintsFiles, PrintsMarked, PrintsRuns};
+ghost use Rattle.parts.specs.Words.{words_as};
+ghost use Rattle.part_reports.specs.WholeLines.{PrintsMarked, SaysFile, SaysFiles, SaysMarked, SaysRuns};
 
 use crate::bad_pieces::BadPieces;
 use crate::counts::{has_runs, piece_count};
 use crate::marked_report::MarkedReport;
-use benc::{DeviceFault, Sink, WriteFault, write_all};
-use folders::{FileVerdict, Lines, write_end, write_verdict};
+use benc::{DeviceFault, Sink, WriteFault};
+use folders::{FileVerdict, Lines, say_end, say_verdict};
+use lines::{LineSink, finish_after};
 use opening::{File, Torrent};
-use parts::run_line;
-use printing::flush_after;
+use parts::say_run;
 
 /// Writes what `check_with_bad_pieces` writes of a torrent's folder, and flushes: a line for each
 /// file, and behind that of one that is bad or has another length the line `bad pieces FIRST LAST
@@ -29,70 +30,85 @@ pub fn print_marked_report<W: Sink>(
     requires room { place_count torrent.now ≤ length joined.now.bad.marks.items + 1 }
     ensures { PrintsMarked torrent.now joined.now (W.seen out.old) (W.seen out.new) result }
 {
-    write_files(joined, torrent, out)?;
-    let written = write_end(&joined.report, Lines::All, out);
-    flush_after(out, written)
+    say_marked_report(joined, torrent, out)
 }
 
-// Writes the lines of all files.
-fn write_files<W: Sink>(
+/// The same, but the lines go to anything that takes lines, spelled as it spells them: as texts, or
+/// as JSON objects. Conditions: as for `print_marked_report`.
+pub fn say_marked_report<L: LineSink>(
     joined: &MarkedReport,
     torrent: &Torrent<'_>,
-    out: &mut W,
+    out: &mut L,
+) -> Result<(), WriteFault>
+    requires files { length joined.now.report.files.items ≡ length torrent.now.files }
+    requires room { place_count torrent.now ≤ length joined.now.bad.marks.items + 1 }
+    ensures { SaysMarked (words_as L.spelled) torrent.now joined.now (L.seen out.old)
+        (L.seen out.new) result }
+{
+    say_files(joined, torrent, out)?;
+    let said = say_end(&joined.report, Lines::All, out);
+    finish_after(out, said)
+}
+
+// Says the lines of all files.
+fn say_files<L: LineSink>(
+    joined: &MarkedReport,
+    torrent: &Torrent<'_>,
+    out: &mut L,
 ) -> Result<(), DeviceFault>
     requires files { length joined.now.report.files.items ≡ length torrent.now.files }
     requires room { place_count torrent.now ≤ length joined.now.bad.marks.items + 1 }
-    ensures { PrintsFiles torrent.now joined.now (W.seen out.old) (W.seen out.new) result }
+    ensures { SaysFiles (words_as L.spelled) torrent.now joined.now (L.seen out.old)
+        (L.seen out.new) result }
 {
-    torrent.sound();
+    torrent.recall_sound();
     let files = torrent.files();
     'files: for i in 0..files.len() {
-        write_file(joined.report.files[i], &files[i], torrent, &joined.bad, out)?;
+        say_file(joined.report.files[i], &files[i], torrent, &joined.bad, out)?;
     }
     Ok(())
 }
 
-// Writes the line of a file, and behind it those of its runs, if they are printed.
-fn write_file<W: Sink>(
+// Says the line of a file, and behind it those of its runs, if they are printed.
+fn say_file<L: LineSink>(
     verdict: FileVerdict,
     file: &File<'_>,
     torrent: &Torrent<'_>,
     bad: &BadPieces,
-    out: &mut W,
+    out: &mut L,
 ) -> Result<(), DeviceFault>
     requires file { IsFileOf torrent.now (file_entry file.now) }
     requires room { let f = file_entry file.now in
         f.first_piece + pieces_in torrent.now f ≤ length bad.now.marks.items }
-    ensures { PrintsFile torrent.now bad.now (file_entry file.now) verdict (W.seen out.old)
-        (W.seen out.new) result }
+    ensures { SaysFile (words_as L.spelled) torrent.now bad.now (file_entry file.now) verdict
+        (L.seen out.old) (L.seen out.new) result }
 {
-    write_verdict(verdict, file, out)?;
+    say_verdict(verdict, file, out)?;
     if has_runs(verdict) {
-        write_runs(file, torrent, bad, out)?;
+        say_runs(file, torrent, bad, out)?;
     }
     Ok(())
 }
 
-// Writes the line of each run of bad pieces of a file, in ascending order.
-fn write_runs<W: Sink>(
+// Says the line of each run of bad pieces of a file, in ascending order.
+fn say_runs<L: LineSink>(
     file: &File<'_>,
     torrent: &Torrent<'_>,
     bad: &BadPieces,
-    out: &mut W,
+    out: &mut L,
 ) -> Result<(), DeviceFault>
     requires file { IsFileOf torrent.now (file_entry file.now) }
     requires room { let f = file_entry file.now in
         f.first_piece + pieces_in torrent.now f ≤ length bad.now.marks.items }
-    ensures { PrintsRuns torrent.now bad.now (file_entry file.now) (W.seen out.old)
-        (W.seen out.new) result }
+    ensures { SaysRuns (words_as L.spelled) torrent.now bad.now (file_entry file.now)
+        (L.seen out.old) (L.seen out.new) result }
 {
-    torrent.sound();
+    torrent.recall_sound();
     let from = file.first_piece;
     let to = from + piece_count(torrent, file);
     let mut at = from;
     'runs: while let Some((first, end)) = bad.next_run(at, to) {
-        let line = run_line(torrent, file, first - from, end - from);
-        write_all(out, line.as_slice())?;
+        say_run(torrent, file, first - from, end - from, out)?;
         at = end;
     }
     Ok(())

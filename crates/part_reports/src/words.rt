@@ -1,46 +1,74 @@
-//! The verdicts that lines begin with.
-ghost use Rattle.std.specs.Prelude.{◌≡◌, ℕ, ◌<◌, ◌^◌, List, ◌∷◌, ◌++◌, decimal, Some, false};
+//! The verdicts of lines, read again by the table of lines.
+ghost use Rattle.std.specs.Prelude.{◌≡◌, ℕ, ◌<◌, ◌^◌, List, ◌∷◌, ◌++◌, decimal, slice_get, MatchOption, Some, false};
 ghost use Rattle.std.specs.Char.{is_ascii_digit};
-ghost use Rattle.folders.specs.Printed.{stream_words, verdict_words};
+ghost use Rattle.folders.specs.Printed.{file_verdict_text, stream_words};
 ghost use Rattle.folders.specs.declared.report.FileVerdict.{FileVerdict as OfFile};
 ghost use Rattle.folders.specs.declared.report.V1Verdict.{V1Verdict as OfV1};
+ghost use Rattle.lines.specs.Reading.{BeginsWith};
+ghost use Rattle.opening.specs.Seen.{file_entry};
 ghost use Rattle.part_reports.specs.Lines.{IsSmall, IsSmallV1};
 
-use crate::scan::split_number;
-use folders::{FileVerdict, V1Verdict};
+use crate::scan::number_behind;
+use folders::{FileVerdict, V1Verdict, strip_verdict, strip_version1};
+use opening::File;
 
-/// The verdict of the line of a file, which its first letter says.
-pub(crate) fn file_verdict(line: &[u8]) -> FileVerdict
-    ensures { (v : OfFile) (more : List ℕ) → IsSmall v → line.now ≡ verdict_words v ++ more
+/// The verdict of the line of a file that stands at the front, and what stands behind the line.
+pub(crate) fn file_verdict<'a>(file: &File<'_>, text: &'a [u8]) -> Option<(FileVerdict, &'a [u8])>
+    ensures { let f = file_entry file.now in MatchOption result
+        ((v : OfFile) → IsSmall v → BeginsWith (file_verdict_text v f) text.now → ⊥)
+        (λ x. IsSmall x.0 × (text.now ≡ file_verdict_text x.0 f ++ x.1.now)) }
+{
+    let verdicts = [
+        FileVerdict::Good,
+        FileVerdict::Missing,
+        FileVerdict::Unreadable,
+        FileVerdict::WrongLength,
+        FileVerdict::Bad(number_or_zero(b"bad ", text)),
+    ];
+    one_of(&verdicts, file, text)
+}
+
+// The first of these verdicts whose line stands at the front, and what stands behind the line.
+fn one_of<'a>(
+    verdicts: &[FileVerdict],
+    file: &File<'_>,
+    text: &'a [u8],
+) -> Option<(FileVerdict, &'a [u8])>
+    requires { (n : ℕ) (v : OfFile) → slice_get verdicts.now n ≡ Some v → IsSmall v }
+    ensures { let f = file_entry file.now in MatchOption result
+        ((n : ℕ) (v : OfFile) → slice_get verdicts.now n ≡ Some v
+        → BeginsWith (file_verdict_text v f) text.now → ⊥)
+        (λ x. IsSmall x.0 × (text.now ≡ file_verdict_text x.0 f ++ x.1.now)) }
+{
+    'verdicts: for verdict in verdicts {
+        if let Some(rest) = strip_verdict(*verdict, file, text) {
+            return Some((*verdict, rest));
+        }
+    }
+    None
+}
+
+/// The verdict of the line of the version 1 pieces that stands at the front.
+pub(crate) fn v1_verdict(text: &[u8]) -> V1Verdict
+    ensures { (v : OfV1) (more : List ℕ) → IsSmallV1 v → text.now ≡ stream_words (Some v) ++ more
         → result ≡ v }
 {
-    match line {
-        [b'm', ..] => FileVerdict::Missing,
-        [b'u', ..] => FileVerdict::Unreadable,
-        [b'w', ..] => FileVerdict::WrongLength,
-        [b'b', b'a', b'd', b' ', rest @ ..] => FileVerdict::Bad(number_at(rest)),
-        _ => FileVerdict::Good,
+    if strip_version1(&Some(V1Verdict::Good), text).is_some() {
+        V1Verdict::Good
+    } else if strip_version1(&Some(V1Verdict::NotChecked), text).is_some() {
+        V1Verdict::NotChecked
+    } else {
+        V1Verdict::Bad(number_or_zero(b"v1 bad ", text))
     }
 }
 
-/// The verdict of the line of the version 1 pieces, which the letter behind `v1 ` says.
-pub(crate) fn v1_verdict(line: &[u8]) -> V1Verdict
-    ensures { (v : OfV1) (more : List ℕ) → IsSmallV1 v → line.now ≡ stream_words (Some v) ++ more
-        → result ≡ v }
+// The number behind these bytes at the front, or 0.
+fn number_or_zero(front: &[u8], text: &[u8]) -> u64
+    ensures small { result < 2 ^ 64 }
+    ensures number { (n c : ℕ) (more : List ℕ) → n < 2 ^ 64 → is_ascii_digit c ≡ false
+        → text.now ≡ front.now ++ (decimal n ++ c ∷ more) → result ≡ n }
 {
-    match line {
-        [_, _, _, b'g', ..] => V1Verdict::Good,
-        [_, _, _, b'b', b'a', b'd', b' ', rest @ ..] => V1Verdict::Bad(number_at(rest)),
-        _ => V1Verdict::NotChecked,
-    }
-}
-
-// The number that a text begins with, or 0.
-fn number_at(text: &[u8]) -> u64
-    ensures { (n c : ℕ) (more : List ℕ) → n < 2 ^ 64 → is_ascii_digit c ≡ false
-        → text.now ≡ decimal n ++ c ∷ more → result ≡ n }
-{
-    match split_number(text) {
+    match number_behind(front, text) {
         Some((number, _)) => number,
         None => 0,
     }

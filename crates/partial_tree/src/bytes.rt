@@ -9,23 +9,23 @@ ghost use Rattle.partial_tree.specs.Claims.{AreHashes};
 use hashtree::Hash;
 
 /// Each number is a byte.
-pub fn are_bytes(bytes: &[u8])
+pub fn recall_bytes(bytes: &[u8])
     ensures { AreBytes bytes.now }
 {}
 
 /// A hash is 32 bytes.
-pub fn is_hash(hash: &Hash)
+pub fn recall_hash(hash: &Hash)
     ensures { IsHash hash.now }
 {
-    are_bytes(hash.as_slice());
+    recall_bytes(hash.as_slice());
 }
 
 /// Each hash is 32 bytes.
-pub fn are_hashes(hashes: &[Hash])
+pub fn recall_hashes(hashes: &[Hash])
     ensures { AreHashes hashes.now }
 {
     have_sizes(hashes);
-    are_bytes(hashes.as_flattened());
+    recall_bytes(hashes.as_flattened());
 }
 
 // Each hash has as many numbers as a digest has bytes.

@@ -28,7 +28,7 @@ ghost use Rattle.partial_tree.specs.LeafRows.{IsLeafRow, RowRefuses, TreeTakesRo
 
 use crate::answer::Answer;
 use crate::answering::answer_hashes;
-use crate::bytes::are_hashes;
+use crate::bytes::recall_hashes;
 use crate::growing::GrownTree;
 use crate::growing::adopting::{agree, carry_marks};
 use crate::message::checks::check_range;
@@ -138,7 +138,7 @@ impl<N: NodeMap> Tree<N> {
         ensures refused { IfErr result (λ r. TreeRefusesHashes self.old ask.now hashes.now r
             × (self.new ≡ self.old)) }
     {
-        are_hashes(hashes);
+        recall_hashes(hashes);
         let gained = self.nodes.take(self.alloc, ask, hashes)?;
         self.known += gained;
         Ok(gained)
@@ -153,7 +153,7 @@ impl<N: NodeMap> Tree<N> {
         ensures refused { IfErr result (λ r. TreeRefusesLayer self.old layer hashes.now r
             × (self.new ≡ self.old)) }
     {
-        are_hashes(hashes);
+        recall_hashes(hashes);
         let gained = self.nodes.fill(self.alloc, layer, hashes)?;
         self.known += gained;
         Ok(gained)
@@ -178,7 +178,7 @@ impl<N: NodeMap> Tree<N> {
             × (self.new ≡ self.old)) }
         ensures good { IsGoodTree self.new }
     {
-        are_hashes(hashes);
+        recall_hashes(hashes);
         let gained = self.nodes.take_leaves(self.alloc, first, span, hashes)?;
         self.known += gained;
         Ok(gained)
@@ -199,7 +199,7 @@ impl<N: NodeMap> Tree<N> {
         ensures no_memory { OnErr result (HasNew (look self.old.state.known)
             (fill_claims self.old.length layer hashes.now)) }
     {
-        are_hashes(hashes);
+        recall_hashes(hashes);
         let gained = self.nodes.plant(layer, hashes)?;
         self.known += gained;
         Ok(gained)

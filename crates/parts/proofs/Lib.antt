@@ -1,12 +1,15 @@
 pub mod AsTexts
+pub mod Batched
 pub mod Files
 pub mod PartVisited
 pub mod Contents
 pub mod FirstFiles
 pub mod FoundFiles
 pub mod GoodPieces
+pub mod HeldFiles
 pub mod HeldPieces
 pub mod Joined
+pub mod Judged
 pub mod MarkedVisits
 pub mod One
 pub mod PartReads
@@ -30,6 +33,7 @@ pub mod Together
 pub mod Visited
 pub mod Tellings
 pub mod ToldFirst
+pub mod VisitedFirst
 pub mod WholeFiles
 pub mod WholeVisits
 pub mod Worst

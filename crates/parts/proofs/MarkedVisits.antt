@@ -16,15 +16,14 @@ use Rattle.folders.specs.declared.report.FileVerdict.{FileVerdict}
 use Rattle.folders.specs.declared.report.V1Verdict.{V1Verdict}
 use Rattle.folders.specs.declared.shelf.Shelf.{Ghosts}
 use Rattle.parts.specs.Checking.{shelf_and_sink, verdicts_in}
-use Rattle.parts.specs.MarkedChecks.{ChecksMarkedPart, MarksAll, MarksFile, PrintsMarked, StopsAtMarks}
-use Rattle.parts.specs.MarkedLines.{marked_head_text, marked_line, marked_lines_text, verdicts_of}
-use Rattle.parts.specs.PartLines.{end_lines}
+use Rattle.parts.specs.MarkedChecks.{ChecksMarkedPart, MarksAll, MarksFile, SaysMarked, StopsAtMarks}
+use Rattle.parts.specs.MarkedLines.{marked_as, marked_lines_as, verdicts_of}
+use Rattle.parts.specs.PartWords.{PartWords, last_as}
 use Rattle.parts.specs.Parts.{IsPartVerdict}
 use Rattle.parts.specs.Runs.{Run}
 use Rattle.parts.specs.Shares.{share}
 use Rattle.parts.specs.Telling.{AreFirstMarkedRuns, AreMarkedRuns, Tells}
 use Rattle.parts.specs.Visiting.{StopsAtFile, VisitsAll, VisitsOne, part_visiting}
-use Rattle.parts.specs.Words.{words_in_text}
 use Rattle.parts.specs.declared.places.Places.{Places}
 use Rattle.parts.specs.declared.telling.Telling.TheVariants as telling
 use Rattle.parts.proofs.PartVisited.{true_of_contents}
@@ -39,8 +38,8 @@ verdict_of_at : (marked : List (FileVerdict × List Run)) (n : ℕ) (x : FileVer
     → slice_get (verdicts_of marked) n ≡ Some x.0
 verdict_of_at marked n x is = slice_get-map (λ y. y.0) marked n ∙ ap (option_map (λ y. y.0)) is
 
-module _ {S F : Type 0} (shelf : Ghosts S F) (opens_at : S → List (List ℕ) → ℕ → Result (Option F) DeviceFault → S → Type 0) (seen : F → SourceSeen)
-    (t : Description) (r : Places) where
+module _ {S F : Type 0} (words : PartWords) (shelf : Ghosts S F) (opens_at : S → List (List ℕ) → ℕ → Result (Option F) DeviceFault → S → Type 0)
+    (seen : F → SourceSeen) (t : Description) (r : Places) where
   -- the runs of one file more
   runs_more : (contents : Contents) (f : FileEntry) (fs : List FileEntry) (y : FileVerdict × List Run) (ys : List (FileVerdict × List Run))
       → AreMarkedRuns t r f (contents 0) y.0 y.1
@@ -62,12 +61,12 @@ module _ {S F : Type 0} (shelf : Ghosts S F) (opens_at : S → List (List ℕ) �
     same : verdicts_of marked ≡ verdicts_in told
     runs : (n : ℕ) (f : FileEntry) (x : FileVerdict × List Run) → slice_get fs n ≡ Some f → slice_get marked n ≡ Some x
         → AreMarkedRuns t r f (contents n) x.0 x.1
-    files : Chain (MarksFile shelf opens_at seen t r) old (take (length marked) fs) marked new
+    files : Chain (MarksFile words shelf opens_at seen t r) old (take (length marked) fs) marked new
 
   mark_files : (contents : Contents) (old : S × SinkSeen) (fs : List FileEntry) (told : List (FileVerdict × List ℕ)) (new : S × SinkSeen)
       → Chain (VisitsOne (part_visiting shelf opens_at seen r t)) old (take (length told) fs) told new
       → ((n : ℕ) (f : FileEntry) (x : FileVerdict × List ℕ) → slice_get fs n ≡ Some f → slice_get told n ≡ Some x
-      → Tells words_in_text t (telling.RunsIn r) f (contents n) x.0 x.1)
+      → Tells words.check t (telling.RunsIn r) f (contents n) x.0 x.1)
       → MarkedFirst contents fs told old new
   mark_files contents old fs [] new e each = record {
     marked = [];
@@ -91,8 +90,8 @@ module _ {S F : Type 0} (shelf : Ghosts S F) (opens_at : S → List (List ℕ) �
 
   -- all files were visited and told of
   pub marks_all : (verdicts : List FileVerdict) (v1 : Option V1Verdict) (old new : S × SinkSeen)
-      → VisitsAll (part_visiting shelf opens_at seen r t) words_in_text t (telling.RunsIn r) verdicts v1 old new
-      → MarksAll shelf opens_at seen t r verdicts v1 old new
+      → VisitsAll (part_visiting shelf opens_at seen r t) words.check t (telling.RunsIn r) verdicts v1 old new
+      → MarksAll words shelf opens_at seen t r verdicts v1 old new
   marks_all verdicts v1 old new all =
       let V = part_visiting shelf opens_at seen r t in
       let count : length all.told ≡ length t.files = sym (length-told all.told) ∙ ap length all.verdicts_are ∙ all.has.count in
@@ -109,14 +108,14 @@ module _ {S F : Type 0} (shelf : Ghosts S F) (opens_at : S → List (List ℕ) �
         marked = first.marked;
         verdicts_are = first.same ∙ all.verdicts_are;
         runs = first.runs;
-        files = subst (λ fs. Chain (MarksFile shelf opens_at seen t r) old fs first.marked new)
+        files = subst (λ fs. Chain (MarksFile words shelf opens_at seen t r) old fs first.marked new)
             (take_all (length first.marked) t.files (omega (arith, count, first.count))) first.files;
         counts = all.counts;
       }
 
   -- or the lines of one broke off
-  pub stops_at_marks : (old new : S × SinkSeen) → StopsAtFile (part_visiting shelf opens_at seen r t) words_in_text t (telling.RunsIn r) old new
-      → StopsAtMarks shelf opens_at seen t r old new
+  pub stops_at_marks : (old new : S × SinkSeen) → StopsAtFile (part_visiting shelf opens_at seen r t) words.check t (telling.RunsIn r) old new
+      → StopsAtMarks words shelf opens_at seen t r old new
   stops_at_marks old new stops =
       let contents : Contents = stops.contents in
       let first = mark_files contents old t.files stops.told stops.between stops.before
@@ -147,31 +146,31 @@ module _ {S F : Type 0} (shelf : Ghosts S F) (opens_at : S → List (List ℕ) �
 
   -- the lines of files went out
   sent_marks : (old : S × SinkSeen) (fs : List FileEntry) (marked : List (FileVerdict × List Run)) (new : S × SinkSeen)
-      → Chain (MarksFile shelf opens_at seen t r) old fs marked new → Sent old.1 new.1 (marked_lines_text t r marked fs)
+      → Chain (MarksFile words shelf opens_at seen t r) old fs marked new → Sent old.1 new.1 (marked_lines_as words.check t r marked fs)
   sent_marks old [] [] new e =
       subst (λ (x : S × SinkSeen). Sent old.1 x.1 []) (sym e) (record { bytes = Appends_nothing old.1.written; faults = refl; flushes = refl })
   sent_marks old [] (x ∷ xs) new e = absurd e
   sent_marks old (f ∷ fs) [] new e = absurd e
   sent_marks old (f ∷ fs) (x ∷ xs) new (mid, step, rest) =
-      Sent-append old.1 mid.1 new.1 (marked_line t r f x.0 x.1) (marked_lines_text t r xs fs) step.went (sent_marks mid fs xs new rest)
+      Sent-append old.1 mid.1 new.1 (marked_as words.check t r f x.0 x.1) (marked_lines_as words.check t r xs fs) step.went (sent_marks mid fs xs new rest)
 
 -- the whole report went out
-pub marked_prints : {S F : Type 0} (shelf : Ghosts S F) (opens_at : S → List (List ℕ) → ℕ → Result (Option F) DeviceFault → S → Type 0)
+pub marked_prints : {S F : Type 0} (words : PartWords) (shelf : Ghosts S F) (opens_at : S → List (List ℕ) → ℕ → Result (Option F) DeviceFault → S → Type 0)
     (seen : F → SourceSeen) (t : Description) (part parts : ℕ) (verdicts : List FileVerdict) (v1 : Option V1Verdict) (old new : S × SinkSeen)
-    → ChecksMarkedPart shelf opens_at seen t part parts verdicts v1 old new
-    → PrintsMarked t part parts (shelf.contents old.0).under verdicts v1 old.1 new.1
-marked_prints shelf opens_at seen t part parts verdicts v1 old new checks =
+    → ChecksMarkedPart words shelf opens_at seen t part parts verdicts v1 old new
+    → SaysMarked words t part parts (shelf.contents old.0).under verdicts v1 old.1 new.1
+marked_prints words shelf opens_at seen t part parts verdicts v1 old new checks =
     let all = checks.all in
     let r : Places = share t part parts in
-    let lines : List ℕ = marked_lines_text t r all.marked t.files in
+    let lines : List ℕ = marked_lines_as words.check t r all.marked t.files in
     let sent : Sent checks.begun checks.mid lines =
-    sent_marks shelf opens_at seen t r (shelf_and_sink old.0 checks.begun) t.files all.marked (shelf_and_sink new.0 checks.mid) all.files in
-    let end = subst (λ vs. SentAndFlushed checks.mid new.1 (end_lines vs v1)) (sym all.verdicts_are) checks.end in
+    sent_marks words shelf opens_at seen t r (shelf_and_sink old.0 checks.begun) t.files all.marked (shelf_and_sink new.0 checks.mid) all.files in
+    let end = subst (λ vs. SentAndFlushed checks.mid new.1 (last_as words vs v1)) (sym all.verdicts_are) checks.end in
     record {
       are_true = all.are_true;
       marked = all.marked;
       verdicts_are = all.verdicts_are;
       runs = all.runs;
-      went = flushed_after old.1 checks.begun new.1 (marked_head_text t part parts) (lines ++ end_lines (verdicts_of all.marked) v1) checks.head
-          (flushed_after checks.begun checks.mid new.1 lines (end_lines (verdicts_of all.marked) v1) sent end);
+      went = flushed_after old.1 checks.begun new.1 (words.bad_head t part parts) (lines ++ last_as words (verdicts_of all.marked) v1) checks.head
+          (flushed_after checks.begun checks.mid new.1 lines (last_as words (verdicts_of all.marked) v1) sent end);
     }

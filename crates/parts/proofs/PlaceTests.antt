@@ -8,7 +8,7 @@ use Rattle.opening.specs.declared.torrent.File.{File}
 use Rattle.folders.specs.declared.report.FileVerdict.{FileVerdict}
 use Rattle.folders.specs.declared.report.FileVerdict.TheVariants.{Good}
 use Rattle.printing.proofs.Parts.{item_next}
-use Rattle.parts.specs.PartLines.{has_place, held_line, lines_text}
+use Rattle.parts.specs.PartLines.{has_place, held_as, lines_as}
 use Rattle.parts.specs.Parts.{Touches, last_place}
 use Rattle.parts.specs.declared.places.Places.{Places}
 
@@ -58,11 +58,13 @@ place_test t r f b is =
     one_test b (has_place t r f) (λ on. touch_to_has t r f (is.0 on)) (λ on. is.1 (has_to_touch t r f on))
 
 -- the line at an index, and those behind it
-pub next_line : (t : Description) (r : Places) (verdicts : List FileVerdict) (files : List File) (i : ℕ) (file : File) (b : Bool) → i < length verdicts
+pub next_line : (line : FileVerdict → FileEntry → List ℕ) (t : Description) (r : Places) (verdicts : List FileVerdict) (files : List File) (i : ℕ)
+    (file : File) (b : Bool) → i < length verdicts
     → i < length files → file ≡ get_or files i file → b ≡ has_place t r (file_entry file)
-    → lines_text t r (drop i verdicts) (map file_entry (drop i files))
-    ≡ held_line b (get_or verdicts i Good) (file_entry file) ++ lines_text t r (drop (i + 1) verdicts) (map file_entry (drop (i + 1) files))
-next_line t r verdicts files i file b lt within there is =
-    ap (λ vs. lines_text t r vs (map file_entry (drop i files))) (drop_more verdicts i Good lt)
-    ∙ ap (λ fs. lines_text t r (get_or verdicts i Good ∷ drop (i + 1) verdicts) (map file_entry fs)) (item_next files i file within there)
-    ∙ ap (λ h. held_line h (get_or verdicts i Good) (file_entry file) ++ lines_text t r (drop (i + 1) verdicts) (map file_entry (drop (i + 1) files))) (sym is)
+    → lines_as line t r (drop i verdicts) (map file_entry (drop i files))
+    ≡ held_as line b (get_or verdicts i Good) (file_entry file) ++ lines_as line t r (drop (i + 1) verdicts) (map file_entry (drop (i + 1) files))
+next_line line t r verdicts files i file b lt within there is =
+    ap (λ vs. lines_as line t r vs (map file_entry (drop i files))) (drop_more verdicts i Good lt)
+    ∙ ap (λ fs. lines_as line t r (get_or verdicts i Good ∷ drop (i + 1) verdicts) (map file_entry fs)) (item_next files i file within there)
+    ∙ ap (λ h. held_as line h (get_or verdicts i Good) (file_entry file) ++ lines_as line t r (drop (i + 1) verdicts) (map file_entry (drop (i + 1) files)))
+    (sym is)

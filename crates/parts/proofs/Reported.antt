@@ -23,8 +23,8 @@ use Rattle.folders.proofs.SentLines.{verdicts_push}
 use Rattle.parts.proofs.ToldFirst.{length-told}
 use Rattle.parts.specs.Checking.{ChecksAll, ChecksAndSays, ChecksFile, ChecksWhole, EndsFiles, StopsTelling, verdicts_in}
 use Rattle.parts.specs.Words.{Words}
-use Rattle.parts.specs.declared.all_files.CheckFault.{CheckFault}
-use Rattle.parts.specs.declared.all_files.CheckFault.TheVariants as stopped
+use Rattle.lines.specs.declared.out_fault.OutFault.{OutFault as CheckFault}
+use Rattle.lines.specs.declared.out_fault.OutFault.TheVariants as stopped
 use Rattle.parts.specs.declared.telling.Telling.{Telling}
 use Rattle.parts.specs.declared.telling.Telling.TheVariants as telling
 
@@ -107,7 +107,8 @@ module _ {S F : Type 0} (shelf : Ghosts S F) (seen : F → SourceSeen) (t : Desc
   -- or it broke off
   pub onto_cut : (words : Words) (lines : Lines) (old new : S × SinkSeen) → StopsTelling shelf seen words t (telling.Line lines) lines old new
       → BreaksOffAs shelf seen words.report t old.0 lines old.1 new.1 new.0
-  onto_cut words lines old new (inl one) =
+  onto_cut words lines old new (inl (inr batch)) = record { files = batch.0; visits = batch.1; broke = inl batch.2 }
+  onto_cut words lines old new (inl (inl one)) =
       let vs : List FileVerdict = verdicts_in one.told in
       let count : length vs ≡ length one.told = length-told one.told in
       let there : slice_get t.files (length vs) ≡ Some one.file = ap (slice_get t.files) count ∙ one.file_is in

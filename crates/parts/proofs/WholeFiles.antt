@@ -80,7 +80,7 @@ whole_span t n f s sound there whole =
 -- ---- the verdict
 
 -- a content of the stated length whose root is the tree's, or of an empty file, is the file
-good_by_root : (t : Description) (n : ℕ) (f : FileEntry) (bytes : List ℕ) → IsSound t → slice_get t.files n ≡ Some f → length bytes ≡ f.length
+pub good_by_root : (t : Description) (n : ℕ) (f : FileEntry) (bytes : List ℕ) → IsSound t → slice_get t.files n ≡ Some f → length bytes ≡ f.length
     → ((e : TreeEntry) → tree_entry_of t f ≡ Some e → root_of bytes ≡ e.root) → IsGoodFile t f bytes
 good_by_root t n f bytes sound there len root = record {
   empty = λ none. nil_from_length bytes (len ∙ none);
@@ -136,7 +136,7 @@ whole_checked first false (Some p) None = refl
 whole_checked first false (Some p) (Some q) = refl
 
 -- the verdicts are these two
-as_both : (t : Description) (f : FileEntry) (stated : Option (Option (List ℕ))) (bits : List ℕ) (v : Verdicts) (a : FileVerdict) (b : V1Verdict)
+pub as_both : (t : Description) (f : FileEntry) (stated : Option (Option (List ℕ))) (bits : List ℕ) (v : Verdicts) (a : FileVerdict) (b : V1Verdict)
     → v.file ≡ a → v.v1 ≡ b → FindsWhole t f stated bits (record { file = a; v1 = b }) → FindsWhole t f stated bits v
 as_both t f stated bits v a b at bt found = record {
   content = found.content;
@@ -178,7 +178,7 @@ all_bits t f s bytes bits whole is =
     subst (λ from. AreBitsOf t f from (piece_count t f) bytes bits) whole.from_is (subst (λ to. AreBitsOf t f s.from to bytes bits) whole.to_is is)
 
 -- from its first byte on
-from_start : (t : Description) (s : Span) (f : FileEntry) (bytes : List ℕ) → IsWholeSpan t f s → drop (t.piece_length * s.from) bytes ≡ bytes
+pub from_start : (t : Description) (s : Span) (f : FileEntry) (bytes : List ℕ) → IsWholeSpan t f s → drop (t.piece_length * s.from) bytes ≡ bytes
 from_start t s f bytes whole =
     let none : t.piece_length * s.from ≡ 0 = ap (λ n. t.piece_length * n) whole.from_is ∙ omega arith in
     ap (λ n. drop n bytes) none
@@ -226,7 +226,7 @@ readable_says first true bad = refl
 readable_says first false None = refl
 readable_says first false (Some p) = refl
 
-is_whole_says : (first : ℕ) (root_is : Bool) (bad : Option ℕ) → is_whole (whole_says first root_is bad) ≡ true
+pub is_whole_says : (first : ℕ) (root_is : Bool) (bad : Option ℕ) → is_whole (whole_says first root_is bad) ≡ true
 is_whole_says first true bad = refl
 is_whole_says first false None = refl
 is_whole_says first false (Some p) = refl

@@ -1,12 +1,12 @@
--- What a check of a folder does, file by file: each is visited once, and what is told of it goes
--- out before the next is opened. `shelf` stands for what the shelf's type says of its shelves, and
+-- What a check of a folder does, file by file: each is visited once and in order, and what is told
+-- of them goes out in the same order. `shelf` stands for what the shelf's type says of its shelves, and
 -- `seen` for what its files say.
 use Rattle.std.specs.Prelude.{◌≡◌, ◌⊎◌, ℕ, List, [], ◌∷◌, ◌++◌, length, map, take, slice_get, Option, Some, Result, Ok, Err}
 use Rattle.benc.specs.Device.{Broke, BrokeOrUnflushed, Sent, SentAndFlushed, SinkSeen, SourceSeen}
 use Rattle.chains.specs.Chain.{Chain}
 use Rattle.folders.specs.Folder.{Contents}
-use Rattle.folders.specs.Printed.{end_as}
-use Rattle.folders.specs.Stopping.{AreTrueOfFirst}
+use Rattle.folders.specs.Printed.{end_as, verdicts_as}
+use Rattle.folders.specs.Stopping.{AreTrueOfFirst, VisitsFirst}
 use Rattle.folders.specs.Verdicts.{CountsUnreadable, HasVerdicts, IsTrueOfFolder}
 use Rattle.folders.specs.Visits.{Visits}
 use Rattle.folders.specs.declared.report_lines.Lines.{Lines}
@@ -17,9 +17,10 @@ use Rattle.folders.specs.declared.shelf.Shelf.{Ghosts}
 use Rattle.opening.specs.Description.{Description, FileEntry}
 use Rattle.parts.specs.Telling.{Tells, TellsFirst}
 use Rattle.parts.specs.Words.{Words, words_in_text}
-use Rattle.parts.specs.declared.all_files.CheckFault.{CheckFault}
-use Rattle.parts.specs.declared.all_files.CheckFault.TheVariants as stopped
+use Rattle.lines.specs.declared.out_fault.OutFault.{OutFault as CheckFault}
+use Rattle.lines.specs.declared.out_fault.OutFault.TheVariants as stopped
 use Rattle.parts.specs.declared.telling.Telling.{Telling}
+use Rattle.parts.specs.declared.telling.Telling.TheVariants as telling
 
 -- a shelf and a sink
 abbrev pub shelf_and_sink : {S : Type 0} → S → SinkSeen → S × SinkSeen
@@ -43,8 +44,8 @@ module _ {S F : Type 0} (shelf : Ghosts S F) (seen : F → SourceSeen) where
     pub visits : Visits shelf seen t old.0 f x.0 new.0
     pub told : Sent old.1 new.1 x.1
 
-  -- all files were checked and told of, each before the next was opened, for these verdicts, which
-  -- are true of what stands at the files' paths; and what was told is true of the same
+  -- all files were checked and told of, in the torrent's order, for these verdicts, which are true
+  -- of what stands at the files' paths; and what was told is true of the same
   pub record ChecksAll (words : Words) (t : Description) (telling : Telling)
       (verdicts : List FileVerdict) (v1 : Option V1Verdict) (old new : S × SinkSeen) : Type 0
     where
@@ -78,12 +79,28 @@ module _ {S F : Type 0} (shelf : Ghosts S F) (seen : F → SourceSeen) where
       pub counts : CountsUnreadable (shelf.faults old.0) (shelf.faults new.0)
           (verdicts_in told ++ verdict ∷ [])
 
+  -- Some first files were visited, each once and in order, for verdicts that are true of what stands
+  -- at their paths; and the lines of these verdicts broke off, if lines are all that is told. Files
+  -- that were judged together were visited before the first of their lines went out.
+  abbrev pub StopsInBatch : Words → Description → Telling → S × SinkSeen → S × SinkSeen → Type 0
+  StopsInBatch words t telling.Nothing old new = ⊥
+  StopsInBatch words t (telling.Line lines) old new =
+      (files : List FileVerdict) × VisitsFirst shelf seen t old.0 files new.0
+      × Broke old.1 new.1 (verdicts_as words.report lines files t.files)
+  StopsInBatch words t (telling.LineAndRuns lines) old new = ⊥
+  StopsInBatch words t (telling.RunsIn places) old new = ⊥
+
+  -- what is told of the files broke off
+  abbrev pub StopsInFiles : Words → Description → Telling → S × SinkSeen → S × SinkSeen → Type 0
+  StopsInFiles words t telling old new =
+      StopsAtOne words t telling old new ⊎ StopsInBatch words t telling old new
+
   -- what was done for all files, by the answer
   abbrev pub EndsFiles : Words → Description → Telling → S × SinkSeen → S × SinkSeen
       → Result Report CheckFault → Type 0
   EndsFiles words t telling old new (Ok report) =
       ChecksAll words t telling report.files.items report.v1 old new
-  EndsFiles words t telling old new (Err stopped.Write) = StopsAtOne words t telling old new
+  EndsFiles words t telling old new (Err stopped.Write) = StopsInFiles words t telling old new
   EndsFiles words t telling old new (Err stopped.NoMemory) = (new.0 ≡ old.0) × (new.1 ≡ old.1)
 
   -- all files were checked and told of, and then the end of the report went out, with one flush
@@ -107,7 +124,7 @@ module _ {S F : Type 0} (shelf : Ghosts S F) (seen : F → SourceSeen) where
   abbrev pub StopsTelling : Words → Description → Telling → Lines → S × SinkSeen → S × SinkSeen
       → Type 0
   StopsTelling words t telling lines old new =
-      StopsAtOne words t telling old new ⊎ StopsAtEnd words t telling lines old new
+      StopsInFiles words t telling old new ⊎ StopsAtEnd words t telling lines old new
 
   -- what a check did whose lines are worded so, by its answer
   abbrev pub ChecksAndSays : Words → Description → Telling → Lines → S × SinkSeen → S × SinkSeen

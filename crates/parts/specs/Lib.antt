@@ -1,15 +1,19 @@
 -- What a check in parts finds, and what its parts make together.
+pub mod Batches
 pub mod Checking
 pub mod Collisions
 pub mod FilePieces
 pub mod Finding
+pub mod Held
 pub mod Joins
 pub mod Laws
+pub mod Looking
 pub mod MarkedChecks
 pub mod MarkedLines
 pub mod PartLines
 pub mod Parts
 pub mod PartVisits
+pub mod PartWords
 pub mod PieceReads
 pub mod Rooms
 pub mod RowBits

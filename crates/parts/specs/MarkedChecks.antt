@@ -1,7 +1,7 @@
 -- What the check of a part does that prints the bad pieces of its files: a marked report. Each file
--- is visited once, and its line and those of its runs go out before the next is opened. `shelf` and
--- `opens_at` stand for what the shelf's type says of its shelves, and `seen` for what its files
--- say.
+-- is visited once, and its line and those of its runs go out before the next is opened. `words` is
+-- how it is worded, `shelf` and `opens_at` stand for what the shelf's type says of its shelves, and
+-- `seen` for what its files say.
 use Rattle.std.specs.Prelude.{◌≡◌, ◌⊎◌, ℕ, ◌+◌, ◌<◌, List, [], ◌∷◌, ◌++◌, length, take, slice_get, Option, Some, Result, Ok, Err}
 use Rattle.benc.specs.Device.{Broke, BrokeOrUnflushed, Sent, SentAndFlushed, SinkSeen, SourceSeen}
 use Rattle.benc.specs.declared.device.DeviceFault.{DeviceFault}
@@ -15,15 +15,15 @@ use Rattle.folders.specs.declared.shelf.Shelf.{Ghosts}
 use Rattle.opening.specs.Description.{Description, FileEntry}
 use Rattle.parts.specs.Checking.{shelf_and_sink}
 use Rattle.parts.specs.Finding.{IsTrueOfPlaces}
-use Rattle.parts.specs.MarkedLines.{marked_head_text, marked_line, marked_text, verdicts_of}
-use Rattle.parts.specs.PartLines.{end_lines}
+use Rattle.parts.specs.MarkedLines.{marked_as, verdicts_of}
 use Rattle.parts.specs.Parts.{IsPartVerdict}
 use Rattle.parts.specs.PartVisits.{VisitsPart}
+use Rattle.parts.specs.PartWords.{PartWords, last_as, marked_part_as, part_in_text}
 use Rattle.parts.specs.Runs.{Run}
 use Rattle.parts.specs.Shares.{share}
 use Rattle.parts.specs.Telling.{AreFirstMarkedRuns, AreMarkedRuns}
-use Rattle.parts.specs.declared.all_files.CheckFault.{CheckFault}
-use Rattle.parts.specs.declared.all_files.CheckFault.TheVariants as stopped
+use Rattle.lines.specs.declared.out_fault.OutFault.{OutFault as CheckFault}
+use Rattle.lines.specs.declared.out_fault.OutFault.TheVariants as stopped
 use Rattle.parts.specs.declared.places.Places.{Places}
 
 -- these are the runs of each of the first files, if these are the files' contents
@@ -32,25 +32,31 @@ AreAllMarked t r contents marked = (n : ℕ) (f : FileEntry) (x : FileVerdict ×
     → slice_get t.files n ≡ Some f → slice_get marked n ≡ Some x
     → AreMarkedRuns t r f (contents n) x.0 x.1
 
--- A marked report went out whole, and was flushed once: its verdicts are true of what stands at the
--- files' paths, and its runs are those of the same contents.
-pub record PrintsMarked (t : Description) (part parts : ℕ)
+-- A marked report, worded so, went out whole, and was flushed once: its verdicts are true of what
+-- stands at the files' paths, and its runs are those of the same contents.
+pub record SaysMarked (words : PartWords) (t : Description) (part parts : ℕ)
     (under : List (List ℕ) → Option (Option (List ℕ))) (verdicts : List FileVerdict)
     (v1 : Option V1Verdict) (old new : SinkSeen) : Type 0 where
   pub are_true : IsTrueOfPlaces t (share t part parts) under verdicts v1
   pub marked : List (FileVerdict × List Run)
   pub verdicts_are : verdicts_of marked ≡ verdicts
   pub runs : AreAllMarked t (share t part parts) are_true.contents marked
-  pub went : SentAndFlushed old new (marked_text t part parts marked v1)
+  pub went : SentAndFlushed old new (marked_part_as words t part parts marked v1)
 
-module _ {S F : Type 0} (shelf : Ghosts S F)
+-- the same as text
+abbrev pub PrintsMarked : Description → ℕ → ℕ → (List (List ℕ) → Option (Option (List ℕ)))
+    → List FileVerdict → Option V1Verdict → SinkSeen → SinkSeen → Type 0
+PrintsMarked t part parts under verdicts v1 old new =
+    SaysMarked part_in_text t part parts under verdicts v1 old new
+
+module _ {S F : Type 0} (words : PartWords) (shelf : Ghosts S F)
     (opens_at : S → List (List ℕ) → ℕ → Result (Option F) DeviceFault → S → Type 0)
     (seen : F → SourceSeen) where
   -- a file was visited for this verdict; then its line and those of these runs went out
   pub record MarksFile (t : Description) (r : Places) (old : S × SinkSeen) (f : FileEntry)
       (x : FileVerdict × List Run) (new : S × SinkSeen) : Type 0 where
     pub visits : VisitsPart opens_at shelf.closes seen t r old.0 f x.0 new.0
-    pub went : Sent old.1 new.1 (marked_line t r f x.0 x.1)
+    pub went : Sent old.1 new.1 (marked_as words.check t r f x.0 x.1)
 
   -- all files were, each before the next was opened, for these verdicts, which are true of what
   -- stands at the files' paths; and the runs are those of the same contents
@@ -76,7 +82,7 @@ module _ {S F : Type 0} (shelf : Ghosts S F)
     pub verdict : FileVerdict
     pub visits : VisitsPart opens_at shelf.closes seen t r between.0 file verdict new.0
     pub first : List Run
-    pub broke : Broke between.1 new.1 (marked_line t r file verdict first)
+    pub broke : Broke between.1 new.1 (marked_as words.check t r file verdict first)
     pub contents : Contents
     pub agree : (n : ℕ) (f : FileEntry) → n < length marked + 1 → slice_get t.files n ≡ Some f
         → Agrees ((shelf.contents old.0).under f.path) (contents n)
@@ -93,35 +99,35 @@ module _ {S F : Type 0} (shelf : Ghosts S F)
   pub record ChecksMarkedPart (t : Description) (part parts : ℕ) (verdicts : List FileVerdict)
       (v1 : Option V1Verdict) (old new : S × SinkSeen) : Type 0 where
     pub begun : SinkSeen
-    pub head : Sent old.1 begun (marked_head_text t part parts)
+    pub head : Sent old.1 begun (words.bad_head t part parts)
     pub mid : SinkSeen
     pub all : MarksAll t (share t part parts) verdicts v1 (shelf_and_sink old.0 begun)
         (shelf_and_sink new.0 mid)
-    pub end : SentAndFlushed mid new.1 (end_lines verdicts v1)
+    pub end : SentAndFlushed mid new.1 (last_as words verdicts v1)
 
   -- the first line broke off, and nothing was opened
   pub record StopsAtHead (t : Description) (part parts : ℕ) (old new : S × SinkSeen) : Type 0 where
     pub shelf_stays : new.0 ≡ old.0
-    pub broke : Broke old.1 new.1 (marked_head_text t part parts)
+    pub broke : Broke old.1 new.1 (words.bad_head t part parts)
 
   -- the first line went out, and the lines of a file broke off
   pub record StopsBehindHead (t : Description) (part parts : ℕ) (old new : S × SinkSeen) : Type 0
     where
       pub begun : SinkSeen
-      pub head : Sent old.1 begun (marked_head_text t part parts)
+      pub head : Sent old.1 begun (words.bad_head t part parts)
       pub stops : StopsAtMarks t (share t part parts) (shelf_and_sink old.0 begun) new
 
   -- those of all files went out, and the last lines broke off or were not flushed
   pub record StopsBehindFiles (t : Description) (part parts : ℕ) (old new : S × SinkSeen) : Type 0
     where
       pub begun : SinkSeen
-      pub head : Sent old.1 begun (marked_head_text t part parts)
+      pub head : Sent old.1 begun (words.bad_head t part parts)
       pub verdicts : List FileVerdict
       pub v1 : Option V1Verdict
       pub mid : SinkSeen
       pub all : MarksAll t (share t part parts) verdicts v1 (shelf_and_sink old.0 begun)
           (shelf_and_sink new.0 mid)
-      pub broke : BrokeOrUnflushed mid new.1 (end_lines verdicts v1)
+      pub broke : BrokeOrUnflushed mid new.1 (last_as words verdicts v1)
 
   -- the sink failed at the first line, at a file, or behind the last one
   abbrev pub StopsMarking : Description → ℕ → ℕ → S × SinkSeen → S × SinkSeen → Type 0
@@ -129,10 +135,17 @@ module _ {S F : Type 0} (shelf : Ghosts S F)
       StopsAtHead t part parts old new
       ⊎ (StopsBehindHead t part parts old new ⊎ StopsBehindFiles t part parts old new)
 
-  -- what the check of a part did that prints a marked report, by its answer
-  abbrev pub ChecksMarked : Description → ℕ → ℕ → S × SinkSeen → S × SinkSeen
+  -- what the check of a part did that says a marked report, by its answer
+  abbrev pub ChecksMarkedAs : Description → ℕ → ℕ → S × SinkSeen → S × SinkSeen
       → Result Report CheckFault → Type 0
-  ChecksMarked t part parts old new (Ok report) =
+  ChecksMarkedAs t part parts old new (Ok report) =
       ChecksMarkedPart t part parts report.files.items report.v1 old new
-  ChecksMarked t part parts old new (Err stopped.Write) = StopsMarking t part parts old new
-  ChecksMarked t part parts old new (Err stopped.NoMemory) = (new.0 ≡ old.0) × (new.1 ≡ old.1)
+  ChecksMarkedAs t part parts old new (Err stopped.Write) = StopsMarking t part parts old new
+  ChecksMarkedAs t part parts old new (Err stopped.NoMemory) = (new.0 ≡ old.0) × (new.1 ≡ old.1)
+
+-- the same as text
+abbrev pub ChecksMarked : {S F : Type 0} → Ghosts S F
+    → (S → List (List ℕ) → ℕ → Result (Option F) DeviceFault → S → Type 0) → (F → SourceSeen)
+    → Description → ℕ → ℕ → S × SinkSeen → S × SinkSeen → Result Report CheckFault → Type 0
+ChecksMarked shelf opens_at seen t part parts old new r =
+    ChecksMarkedAs part_in_text shelf opens_at seen t part parts old new r

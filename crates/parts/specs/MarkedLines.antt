@@ -7,7 +7,7 @@ use Rattle.folders.specs.declared.report.V1Verdict.{V1Verdict}
 use Rattle.parts.specs.PartLines.{end_lines, has_place, held_as, held_line}
 use Rattle.parts.specs.Runs.{Run, runs_as, runs_text}
 use Rattle.parts.specs.Shares.{share}
-use Rattle.parts.specs.Words.{Words}
+use Rattle.parts.specs.Words.{Words, words_in_text}
 use Rattle.parts.specs.declared.places.Places.{Places}
 
 -- the first line: that of a report without runs, and one word more
@@ -26,12 +26,18 @@ marked_as words t r f v runs =
 abbrev pub marked_line : Description → Places → FileEntry → FileVerdict → List Run → List ℕ
 marked_line t r f v runs = held_line (has_place t r f) v f ++ runs_text t f runs
 
--- the same of the first files, of all of which these are the verdicts and the runs
+-- what stands of the first files, of all of which these are the verdicts and the runs
+abbrev pub marked_lines_as : Words → Description → Places → List (FileVerdict × List Run)
+    → List FileEntry → List ℕ
+marked_lines_as words t r [] fs = []
+marked_lines_as words t r (x ∷ xs) [] = []
+marked_lines_as words t r (x ∷ xs) (f ∷ fs) =
+    marked_as words t r f x.0 x.1 ++ marked_lines_as words t r xs fs
+
+-- the same as text
 abbrev pub marked_lines_text : Description → Places → List (FileVerdict × List Run)
     → List FileEntry → List ℕ
-marked_lines_text t r [] fs = []
-marked_lines_text t r (x ∷ xs) [] = []
-marked_lines_text t r (x ∷ xs) (f ∷ fs) = marked_line t r f x.0 x.1 ++ marked_lines_text t r xs fs
+marked_lines_text t r xs fs = marked_lines_as words_in_text t r xs fs
 
 -- the verdicts alone
 abbrev pub verdicts_of : List (FileVerdict × List Run) → List FileVerdict

@@ -2,7 +2,7 @@
 use Rattle.std.specs.Prelude.{ℕ, ◌+◌, max, Bool, true, false, ◌&&◌, nat_le, nat_lt, List, [], ◌∷◌, ◌++◌, codes, decimal, Option, if◌then◌else◌}
 use Rattle.hex.specs.Hex.{encode_lower}
 use Rattle.opening.specs.Description.{Description, FileEntry}
-use Rattle.folders.specs.Printed.{file_verdict_text, stream_words}
+use Rattle.folders.specs.Printed.{file_verdict_text, hybrid_line, version1_words}
 use Rattle.folders.specs.Verdicts.{is_yes}
 use Rattle.folders.specs.declared.report.FileVerdict.{FileVerdict}
 use Rattle.folders.specs.declared.report.V1Verdict.{V1Verdict}
@@ -31,20 +31,31 @@ abbrev pub held_line : Bool → FileVerdict → FileEntry → List ℕ
 held_line is_held v f = held_as file_verdict_text is_held v f
 
 -- the lines of the first files that have one of these places, of all of which these are the
--- verdicts
+-- verdicts, worded so
+abbrev pub lines_as : (FileVerdict → FileEntry → List ℕ) → Description → Places
+    → List FileVerdict → List FileEntry → List ℕ
+lines_as line t r [] fs = []
+lines_as line t r (v ∷ vs) [] = []
+lines_as line t r (v ∷ vs) (f ∷ fs) =
+    held_as line (has_place t r f) v f ++ lines_as line t r vs fs
+
+-- the same as text
 abbrev pub lines_text : Description → Places → List FileVerdict → List FileEntry → List ℕ
-lines_text t r [] fs = []
-lines_text t r (v ∷ vs) [] = []
-lines_text t r (v ∷ vs) (f ∷ fs) = held_line (has_place t r f) v f ++ lines_text t r vs fs
+lines_text t r vs fs = lines_as file_verdict_text t r vs fs
 
 -- the last line
 abbrev pub answer_line : Bool → List ℕ
 answer_line true = codes "part yes\n"
 answer_line false = codes "part no\n"
 
--- what follows the lines of the files
+-- what follows the lines of the files, worded so
+abbrev pub end_as : (V1Verdict → List ℕ) → (Bool → List ℕ) → List FileVerdict → Option V1Verdict
+    → List ℕ
+end_as version1 answer files v1 = hybrid_line version1 v1 ++ answer (is_yes files v1)
+
+-- the same as text
 abbrev pub end_lines : List FileVerdict → Option V1Verdict → List ℕ
-end_lines files v1 = stream_words v1 ++ answer_line (is_yes files v1)
+end_lines files v1 = end_as version1_words answer_line files v1
 
 -- all lines
 abbrev pub part_text : Description → ℕ → ℕ → List FileVerdict → Option V1Verdict → List ℕ

@@ -1,4 +1,4 @@
--- How the files of a torrent are visited one after the other, each told of before the next one.
+-- How the files of a torrent are visited one after the other, and told of in the same order.
 use Rattle.std.specs.Prelude.{◌≡◌, ℕ, ◌+◌, ◌<◌, List, [], ◌∷◌, ◌++◌, length, take, slice_get, Option, Some, Result, Ok, Err}
 use Rattle.benc.specs.Device.{Broke, Sent, SinkSeen, SourceSeen}
 use Rattle.benc.specs.declared.device.DeviceFault.{DeviceFault}
@@ -90,7 +90,7 @@ module _ {S : Type 0} (V : Visiting S) where
     pub visits : V.visits old.0 f x.0 new.0
     pub told : Sent old.1 new.1 x.1
 
-  -- all files were visited and told of, each before the next, for these verdicts, which are true of
+  -- all files were visited and told of, in order, for these verdicts, which are true of
   -- contents that are the shelf's as far as those are known; and what was told is true of the same
   pub record VisitsAll (words : Words) (t : Description) (telling : Telling)
       (verdicts : List FileVerdict) (v1 : Option V1Verdict) (old new : S × SinkSeen) : Type 0

@@ -7,10 +7,11 @@ ghost use Rattle.folders.specs.Visits.{Visits};
 ghost use Rattle.opening.specs.Seen.{file_entry};
 ghost use Rattle.parts.specs.Checking.{EndsFiles, shelf_and_sink};
 ghost use Rattle.parts.specs.Finding.{FindsWhole};
+ghost use Rattle.parts.specs.Looking.{EndsWhole};
 ghost use Rattle.parts.specs.Parts.{piece_count as pieces_in};
+ghost use Rattle.parts.specs.Rooms.{IsRoomFor};
 ghost use Rattle.parts.specs.Telling.{TellsWhole};
 ghost use Rattle.parts.specs.Words.{words_as};
-ghost use Rattle.parts.specs.declared.all_files.CheckFault.TheVariants as fault;
 
 use crate::bits::{clear_bits, taken};
 use crate::file_pieces::PieceReader;
@@ -20,12 +21,12 @@ use crate::span::Span;
 use crate::telling::Telling;
 use crate::verdicts::Verdicts;
 use crate::visiting::{Visitor, visit_files};
-use benc::{DeviceFault, WriteFault};
+use crate::visiting_ahead::visit_ahead;
+use benc::DeviceFault;
 use folders::{FileVerdict, Report, Shelf, visit};
-use lines::LineSink;
+use lines::{LineSink, OutFault as CheckFault};
 use opening::{File, Torrent};
-use std::alloc::{AllocError, Global};
-use thiserror::Error;
+use std::alloc::Global;
 
 /// The visits of whole files.
 pub(crate) struct WholeFiles;
@@ -47,7 +48,7 @@ impl<S: Shelf> Visitor<S> for WholeFiles {
     }
 }
 
-/// Checks each file of a torrent, and says what is wanted of it before the next one is opened.
+/// Checks each file of a torrent in turn, and says what is wanted of it: of small files together.
 /// Memory is taken before the first path is opened, for the report, and for the bits of pieces if
 /// they are told of. What breaks off ends the check. Condition: what is told is of whole files.
 pub(crate) fn visit_whole<S: Shelf, L: LineSink>(
@@ -63,14 +64,37 @@ pub(crate) fn visit_whole<S: Shelf, L: LineSink>(
         result }
     ensures stays { S.contents shelf.new ≡ S.contents shelf.old }
 {
-    torrent.sound();
+    torrent.recall_sound();
     let room = Room::of(alloc, torrent, telling)?;
-    let report = visit_files(room, torrent, &WholeFiles, shelf, telling, out)?;
+    let report = visit_in(room, torrent, shelf, telling, out)?;
     Ok(report)
 }
 
+// Visits each file: small ones together, unless bits of pieces are told of, or there are version 1
+// pieces.
+fn visit_in<S: Shelf, L: LineSink>(
+    room: Room,
+    torrent: &Torrent<'_>,
+    shelf: &mut S,
+    telling: Telling,
+    out: &mut L,
+) -> Result<Report, DeviceFault>
+    requires room { IsRoomFor torrent.now telling room }
+    ensures ends { EndsWhole S.Shelf S.File.seen (words_as L.spelled) torrent.now telling
+        (shelf_and_sink shelf.old (L.seen out.old)) (shelf_and_sink shelf.new (L.seen out.new))
+        result }
+    ensures stays { S.contents shelf.new ≡ S.contents shelf.old }
+{
+    match telling {
+        Telling::Nothing | Telling::Line(_) if torrent.v1().is_none() => {
+            visit_ahead(room, torrent, shelf, telling, out)
+        }
+        _ => visit_files(room, torrent, &WholeFiles, shelf, telling, out),
+    }
+}
+
 // Opens a file, checks it, and hands it back; the bits tell which of its pieces are whole and good.
-fn visit_file<S: Shelf>(
+pub(crate) fn visit_file<S: Shelf>(
     shelf: &mut S,
     torrent: &Torrent<'_>,
     file: &File<'_>,
@@ -89,7 +113,7 @@ fn visit_file<S: Shelf>(
     ensures capacity { vec_capacity bits.new ≡ vec_capacity bits.old }
     ensures stays { S.contents shelf.new ≡ S.contents shelf.old }
 {
-    torrent.sound();
+    torrent.recall_sound();
     let count = piece_count(torrent, file.length);
     clear_bits(bits, count);
     let mut reader = PieceReader {
@@ -108,40 +132,5 @@ fn visit_file<S: Shelf>(
         Ok(Some(found)) => Verdicts::of_whole(file, found),
         Ok(None) => Verdicts::not_whole(FileVerdict::Missing),
         Err(_) => Verdicts::not_whole(FileVerdict::Unreadable),
-    }
-}
-
-/// Why a check did not end with a whole report.
-#[derive(Clone, Copy, Debug, PartialEq, Eq, Drop, Error)]
-pub enum CheckFault {
-    /// Memory for the report was refused, and no path was opened.
-    #[error("out of memory")]
-    NoMemory,
-    /// The report failed, and a prefix of it went out, or its flush failed.
-    #[error("cannot write")]
-    Write,
-}
-
-impl From<AllocError> for CheckFault {
-    ghost from_gives = { λ _ e. e ≡ fault.NoMemory };
-
-    fn from(_error: AllocError) -> CheckFault {
-        CheckFault::NoMemory
-    }
-}
-
-impl From<DeviceFault> for CheckFault {
-    ghost from_gives = { λ _ e. e ≡ fault.Write };
-
-    fn from(_error: DeviceFault) -> CheckFault {
-        CheckFault::Write
-    }
-}
-
-impl From<WriteFault> for CheckFault {
-    ghost from_gives = { λ _ e. e ≡ fault.Write };
-
-    fn from(_error: WriteFault) -> CheckFault {
-        CheckFault::Write
     }
 }

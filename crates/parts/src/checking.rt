@@ -12,7 +12,6 @@ ghost use Rattle.parts.specs.Spans.{IsSpanOf};
 
 use crate::bits::{clear_bits, taken};
 use crate::file_pieces::PieceReader;
-use crate::nowhere::Nowhere;
 use crate::places::{Places, piece_count};
 use crate::room::Room;
 use crate::span::{Span, span_of};
@@ -20,6 +19,7 @@ use crate::telling::Telling;
 use crate::verdicts::Verdicts;
 use crate::visiting::{Visitor, visit_files};
 use folders::{FileVerdict, NoMemory, Report, SeekShelf, visit_at};
+use lines::Nowhere;
 use opening::{File, Torrent};
 use std::alloc::Global;
 
@@ -52,8 +52,8 @@ pub fn check_part<S: SeekShelf>(
     ensures no_memory { OnErr result (shelf.new ≡ shelf.old) }
     ensures stays { S.Shelf.contents shelf.new ≡ S.Shelf.contents shelf.old }
 {
-    torrent.sound();
-    let mut nowhere = Nowhere { flushes: 0 };
+    torrent.recall_sound();
+    let mut nowhere = Nowhere::new();
     let telling = Telling::Nothing;
     let Ok(room) = Room::of(alloc, torrent, telling) else {
         return Err(NoMemory);
@@ -143,7 +143,7 @@ fn visit_span<S: SeekShelf>(
     ensures capacity { vec_capacity bits.new ≡ vec_capacity bits.old }
     ensures stays { S.Shelf.contents shelf.new ≡ S.Shelf.contents shelf.old }
 {
-    torrent.sound();
+    torrent.recall_sound();
     let offset = first_byte(torrent, span);
     let mut reader = PieceReader {
         torrent,

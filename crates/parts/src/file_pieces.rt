@@ -55,7 +55,7 @@ impl<F: Source> FileReader<F, Read> for PieceReader<'_, '_> {
 // Reads and judges some pieces of a file, and if the file ends there, its end too; and sets the
 // bits of the pieces that are whole and good. Nothing is read after the end was seen. Conditions:
 // the torrent has the file, no bit is set, and the buffer is not empty.
-fn read_pieces<F: Source>(
+pub(crate) fn read_pieces<F: Source>(
     source: &mut F,
     torrent: &Torrent<'_>,
     file: &File<'_>,
@@ -84,7 +84,7 @@ fn read_pieces<F: Source>(
         (F.seen source.new)) }
     ensures counts { CountsFault (F.seen source.old).faults (F.seen source.new).faults result }
 {
-    torrent.sound();
+    torrent.recall_sound();
     let Some(found) = judge(source, torrent, file, span, bits, buffer)? else {
         return Ok(None);
     };
@@ -122,7 +122,7 @@ fn judge<F: Source>(
         < (F.seen source.new).limit + span_bytes torrent.now (file_entry file.now) span) }
     ensures counts { CountsFault (F.seen source.old).faults (F.seen source.new).faults result }
 {
-    torrent.sound();
+    torrent.recall_sound();
     if span.from == span.to {
         return Ok(Some(Found {
             root_is: true,

@@ -2,15 +2,19 @@
 //! parts report.
 #![tactic(auto)]
 
+mod ahead;
 mod all_files;
+mod batch;
 mod bits;
 mod buffer;
 mod checking;
 mod file_pieces;
+mod held;
+mod held_bytes;
 mod joining;
+mod judging;
 pub mod laws;
 mod marked;
-mod nowhere;
 mod part_lines;
 mod places;
 mod reporting;
@@ -22,16 +26,17 @@ mod span;
 mod telling;
 mod verdicts;
 mod visiting;
+mod visiting_ahead;
 mod whole;
 
-pub use all_files::CheckFault;
 pub use checking::check_part;
 pub use joining::{join, worse, worse_v1};
-pub use marked::check_part_with_bad_pieces;
-pub use part_lines::print_part;
+pub use lines::OutFault as CheckFault;
+pub use marked::{check_part_with_bad_pieces, say_check_part_with_bad_pieces};
+pub use part_lines::{print_part, say_part, strip_answer};
 pub use places::Places;
 pub use reporting::{check_onto, check_with_bad_pieces, say_check, say_check_with_bad_pieces};
-pub use run::run_line;
+pub use run::{say_run, strip_run};
 pub use span::touches;
 pub use telling::Telling;
 pub use whole::check;

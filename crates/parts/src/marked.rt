@@ -1,18 +1,18 @@
 //! The check of a part with a report of its bad pieces as it goes.
 ghost use Rattle.std.specs.Prelude.{◌≡◌, ◌<◌, IfOk};
 ghost use Rattle.parts.specs.Checking.{shelf_and_sink};
-ghost use Rattle.parts.specs.MarkedChecks.{ChecksMarked, PrintsMarked};
+ghost use Rattle.parts.specs.MarkedChecks.{ChecksMarked, ChecksMarkedAs, PrintsMarked, SaysMarked};
+ghost use Rattle.parts.specs.PartWords.{part_words};
 
-use crate::all_files::CheckFault;
-use crate::part_lines::{head, write_end};
+use crate::part_lines::{say_bad_head, say_end};
 use crate::places::Places;
 use crate::room::Room;
 use crate::telling::Telling;
 use crate::visiting::visit_files;
-use benc::{Sink, write_all};
+use benc::Sink;
 use folders::{Report, SeekShelf};
+use lines::{LineSink, OutFault as CheckFault, finish_after};
 use opening::Torrent;
-use printing::flush_after;
 use std::alloc::Global;
 
 /// Checks the places of one of this many parts of a torrent on a shelf, numbered from 0, as
@@ -50,12 +50,37 @@ pub fn check_part_with_bad_pieces<S: SeekShelf, W: Sink>(
         (S.Shelf.contents shelf.old).under r.files.items r.v1 (W.seen out.old) (W.seen out.new)) }
     ensures stays { S.Shelf.contents shelf.new ≡ S.Shelf.contents shelf.old }
 {
+    say_check_part_with_bad_pieces(alloc, torrent, shelf, part, parts, out)
+}
+
+/// The same, but the lines go to anything that takes lines, spelled as it spells them: as texts, or
+/// as JSON objects. Condition: there is such a part.
+///
+/// # Errors
+///
+/// As for `check_part_with_bad_pieces`.
+pub fn say_check_part_with_bad_pieces<S: SeekShelf, L: LineSink>(
+    alloc: Global,
+    torrent: &Torrent<'_>,
+    shelf: &mut S,
+    part: u64,
+    parts: u64,
+    out: &mut L,
+) -> Result<Report, CheckFault>
+    requires there { part < parts }
+    ensures checks { ChecksMarkedAs (part_words L.spelled) S.Shelf S.opens_at S.File.seen
+        torrent.now part parts (shelf_and_sink shelf.old (L.seen out.old))
+        (shelf_and_sink shelf.new (L.seen out.new)) result }
+    ensures report { IfOk result (λ r. SaysMarked (part_words L.spelled) torrent.now part parts
+        (S.Shelf.contents shelf.old).under r.files.items r.v1 (L.seen out.old) (L.seen out.new)) }
+    ensures stays { S.Shelf.contents shelf.new ≡ S.Shelf.contents shelf.old }
+{
     let places = Places::of_part(torrent, part, parts);
     let telling = Telling::RunsIn(places);
     let room = Room::of(alloc, torrent, telling)?;
-    write_all(out, head(torrent, part, parts, b" bad\n").as_slice())?;
+    say_bad_head(torrent, part, parts, out)?;
     let report = visit_files(room, torrent, &places, shelf, telling, out)?;
-    let written = write_end(&report, out);
-    flush_after(out, written)?;
+    let said = say_end(&report, out);
+    finish_after(out, said)?;
     Ok(report)
 }

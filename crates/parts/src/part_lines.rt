@@ -1,17 +1,20 @@
 //! The lines of a part's report.
-ghost use Rattle.std.specs.Prelude.{◌≡◌, ◌+◌, ◌<◌, ◌≤◌, ◌++◌, length, map, is_some, codes, decimal};
+ghost use Rattle.std.specs.Prelude.{◌≡◌, ◌<◌, ◌++◌, length, map, is_some, MatchOption};
 ghost use Rattle.benc.specs.Device.{Wrote, WroteAndFlushed};
-ghost use Rattle.hex.specs.Hex.{encode_lower};
+ghost use Rattle.lines.specs.Reading.{BeginsWith};
+ghost use Rattle.lines.specs.Table.{row_of};
 ghost use Rattle.opening.specs.Seen.{file_entry};
+ghost use Rattle.folders.specs.Said.{worded};
 ghost use Rattle.folders.specs.Verdicts.{IsFileOf};
-ghost use Rattle.parts.specs.PartLines.{answer_line, end_lines, has_place, held_line, lines_text, part_text};
+ghost use Rattle.parts.specs.PartLines.{answer_line, has_place, held_as, lines_as, part_text};
+ghost use Rattle.parts.specs.PartWords.{bad_head_row, head_row, last_as, part_answer_row, part_as, part_words};
 
 use crate::places::Places;
 use crate::span::touches;
-use benc::{DeviceFault, Sink, WriteFault, write_all};
-use folders::{FileVerdict, Report, stream_line, write_verdict};
+use benc::{DeviceFault, Sink, WriteFault};
+use folders::{FileVerdict, Report, say_verdict, say_version1};
+use lines::{Line, LineSink, Parted, finish_after, say, strip_line};
 use opening::{File, Torrent};
-use printing::{Line, flush_after};
 
 /// Writes what the check of one of this many parts found, numbered from 0, and flushes: the line
 /// `part I/N INFOHASH` with the part's number from 1 on, the number of parts and the version 2 info
@@ -33,118 +36,170 @@ pub fn print_part<W: Sink>(
     ensures { WroteAndFlushed (W.seen out.old) (W.seen out.new) result
         (part_text torrent.now part parts report.now.files.items report.now.v1) }
 {
-    let written = write_part(report, torrent, part, parts, out);
-    flush_after(out, written)
+    say_part(report, torrent, part, parts, out)
 }
 
-fn write_part<W: Sink>(
+/// The same, but the lines go to anything that takes lines, spelled as it spells them: as texts, or
+/// as JSON objects. Conditions: as for `print_part`.
+pub fn say_part<L: LineSink>(
     report: &Report,
     torrent: &Torrent<'_>,
     part: u64,
     parts: u64,
-    out: &mut W,
+    out: &mut L,
+) -> Result<(), WriteFault>
+    requires there { part < parts }
+    requires files { length report.now.files.items ≡ length torrent.now.files }
+    requires hybrid { is_some report.now.v1 ≡ is_some torrent.now.v1 }
+    ensures { WroteAndFlushed (L.seen out.old) (L.seen out.new) result (part_as
+        (part_words L.spelled) torrent.now part parts report.now.files.items report.now.v1) }
+{
+    let said = say_all(report, torrent, part, parts, out);
+    finish_after(out, said)
+}
+
+fn say_all<L: LineSink>(
+    report: &Report,
+    torrent: &Torrent<'_>,
+    part: u64,
+    parts: u64,
+    out: &mut L,
 ) -> Result<(), DeviceFault>
     requires there { part < parts }
     requires files { length report.now.files.items ≡ length torrent.now.files }
-    ensures { Wrote (W.seen out.old) (W.seen out.new) result
-        (part_text torrent.now part parts report.now.files.items report.now.v1) }
+    ensures { Wrote (L.seen out.old) (L.seen out.new) result (part_as
+        (part_words L.spelled) torrent.now part parts report.now.files.items report.now.v1) }
 {
-    write_all(out, head(torrent, part, parts, b"\n").as_slice())?;
+    say_head(torrent, part, parts, out)?;
     let places = Places::of_part(torrent, part, parts);
-    write_lines(&report.files, torrent.files(), torrent, places, out)?;
-    write_end(report, out)
+    say_files(&report.files, torrent.files(), torrent, places, out)?;
+    say_end(report, out)
 }
 
-/// The first line of a part's report, which ends so. Conditions: there is such a part, and the end
-/// has at most 16 bytes.
-pub(crate) fn head(torrent: &Torrent<'_>, part: u64, parts: u64, end: &[u8]) -> Line
+// Says the first line of a part's report. Condition: there is such a part.
+fn say_head<L: LineSink>(
+    torrent: &Torrent<'_>,
+    part: u64,
+    parts: u64,
+    out: &mut L,
+) -> Result<(), DeviceFault>
     requires there { part < parts }
-    requires short { length end.now ≤ 16 }
-    ensures { result ≡ codes "part " ++ decimal (part + 1) ++ codes "/" ++ decimal parts
-        ++ codes " " ++ encode_lower torrent.now.info_hash_v2 ++ end.now }
+    ensures { Wrote (L.seen out.old) (L.seen out.new) result
+        (L.spelled (head_row torrent.now part parts)) }
 {
-    torrent.sound();
-    let mut line = Line::new();
-    line.put(b"part ");
-    line.put_number(part + 1);
-    line.put(b"/");
-    line.put_number(parts);
-    line.put(b" ");
-    line.put_digest(&torrent.info_hash_v2());
-    line.put(end);
-    line
+    let hash = torrent.info_hash_v2();
+    let head = Parted::Part {
+        part: part + 1,
+        parts,
+        hash: &hash,
+    };
+    say(&Line::Parted(head), out)
 }
 
-// Writes the lines of the files that have one of these places.
-fn write_lines<W: Sink>(
+/// Says the first line of a marked report. Condition: there is such a part.
+pub(crate) fn say_bad_head<L: LineSink>(
+    torrent: &Torrent<'_>,
+    part: u64,
+    parts: u64,
+    out: &mut L,
+) -> Result<(), DeviceFault>
+    requires there { part < parts }
+    ensures { Wrote (L.seen out.old) (L.seen out.new) result
+        (L.spelled (bad_head_row torrent.now part parts)) }
+{
+    let hash = torrent.info_hash_v2();
+    let head = Parted::BadPart {
+        part: part + 1,
+        parts,
+        hash: &hash,
+    };
+    say(&Line::Parted(head), out)
+}
+
+// Says the lines of the files that have one of these places.
+fn say_files<L: LineSink>(
     verdicts: &[FileVerdict],
     files: &[File<'_>],
     torrent: &Torrent<'_>,
     places: Places,
-    out: &mut W,
+    out: &mut L,
 ) -> Result<(), DeviceFault>
     requires count { length verdicts.now ≡ length files.now }
     requires of { map file_entry files.now ≡ torrent.now.files }
-    ensures { Wrote (W.seen out.old) (W.seen out.new) result
-        (lines_text torrent.now places verdicts.now (map file_entry files.now)) }
+    ensures { Wrote (L.seen out.old) (L.seen out.new) result (lines_as (worded L.spelled).file
+        torrent.now places verdicts.now (map file_entry files.now)) }
 {
     'files: for i in 0..files.len() {
-        write_held(verdicts[i], &files[i], torrent, places, out)?;
+        say_held(verdicts[i], &files[i], torrent, places, out)?;
     }
     Ok(())
 }
 
-// Writes the line of a file, if it has one of these places.
-fn write_held<W: Sink>(
+// Says the line of a file, if it has one of these places.
+fn say_held<L: LineSink>(
     verdict: FileVerdict,
     file: &File<'_>,
     torrent: &Torrent<'_>,
     places: Places,
-    out: &mut W,
+    out: &mut L,
 ) -> Result<(), DeviceFault>
     requires { IsFileOf torrent.now (file_entry file.now) }
-    ensures { Wrote (W.seen out.old) (W.seen out.new) result
-        (held_line (has_place torrent.now places (file_entry file.now)) verdict
-        (file_entry file.now)) }
+    ensures { Wrote (L.seen out.old) (L.seen out.new) result (held_as (worded L.spelled).file
+        (has_place torrent.now places (file_entry file.now)) verdict (file_entry file.now)) }
 {
     let is_held = touches(torrent, file, places);
-    write_if(is_held, verdict, file, out)
+    say_if(is_held, verdict, file, out)
 }
 
-// Writes the line of a file, if it is held.
-fn write_if<W: Sink>(
+// Says the line of a file, if it is held.
+fn say_if<L: LineSink>(
     is_held: bool,
     verdict: FileVerdict,
     file: &File<'_>,
-    out: &mut W,
+    out: &mut L,
 ) -> Result<(), DeviceFault>
-    ensures { Wrote (W.seen out.old) (W.seen out.new) result
-        (held_line is_held verdict (file_entry file.now)) }
+    ensures { Wrote (L.seen out.old) (L.seen out.new) result
+        (held_as (worded L.spelled).file is_held verdict (file_entry file.now)) }
 {
     if is_held {
-        write_verdict(verdict, file, out)
+        say_verdict(verdict, file, out)
     } else {
         Ok(())
     }
 }
 
-/// Writes what follows the lines of the files.
-pub(crate) fn write_end<W: Sink>(report: &Report, out: &mut W) -> Result<(), DeviceFault>
-    ensures { Wrote (W.seen out.old) (W.seen out.new) result
-        (end_lines report.now.files.items report.now.v1) }
+/// Says what follows the lines of the files.
+pub(crate) fn say_end<L: LineSink>(report: &Report, out: &mut L) -> Result<(), DeviceFault>
+    ensures { Wrote (L.seen out.old) (L.seen out.new) result
+        (last_as (part_words L.spelled) report.now.files.items report.now.v1) }
 {
-    write_all(out, stream_line(&report.v1).as_slice())?;
-    write_all(out, yes_line(report.yes()).as_slice())
+    say_version1(&report.v1, out)?;
+    say_answer(report.yes(), out)
 }
 
-fn yes_line(yes: bool) -> Line
-    ensures { result ≡ answer_line yes }
+fn say_answer<L: LineSink>(yes: bool, out: &mut L) -> Result<(), DeviceFault>
+    ensures { Wrote (L.seen out.old) (L.seen out.new) result
+        (L.spelled (part_answer_row yes)) }
 {
-    let mut line = Line::new();
-    line.put(if yes {
-        b"part yes\n".as_slice()
+    say(&answer(yes), out)
+}
+
+/// What stands behind the last line of a part's report, if a text begins with it. It takes no
+/// memory.
+pub fn strip_answer<'a>(yes: bool, text: &'a [u8]) -> Option<&'a [u8]>
+    ensures { MatchOption result (BeginsWith (answer_line yes) text.now → ⊥)
+        (λ rest. text.now ≡ answer_line yes ++ rest.now) }
+{
+    strip_line(&answer(yes), text)
+}
+
+// The last line.
+fn answer(yes: bool) -> Line<'static>
+    ensures { row_of result ≡ part_answer_row yes }
+{
+    if yes {
+        Line::Parted(Parted::Yes)
     } else {
-        b"part no\n".as_slice()
-    });
-    line
+        Line::Parted(Parted::No)
+    }
 }

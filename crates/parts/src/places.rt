@@ -19,6 +19,6 @@ pub struct Places {
 pub(crate) fn piece_count(torrent: &Torrent<'_>, length: u64) -> u64
     ensures { result ≡ pieces_of torrent.now.piece_length length }
 {
-    torrent.sound();
+    torrent.recall_sound();
     length.div_ceil(torrent.piece_length())
 }

@@ -13,25 +13,25 @@ ghost use Rattle.parts.specs.Telling.{TellsWhole};
 ghost use Rattle.parts.specs.Words.{words_as};
 ghost use Rattle.parts.specs.declared.telling.Telling.TheVariants as telling;
 
-use crate::all_files::{CheckFault, visit_whole};
+use crate::all_files::visit_whole;
 use crate::telling::Telling;
 use benc::Sink;
 use folders::{Lines, Report, Shelf, say_end};
-use lines::{LineSink, finish_after};
+use lines::{LineSink, OutFault as CheckFault, finish_after};
 use opening::Torrent;
 use std::alloc::Global;
 
 /// Checks that the shelf holds the torrent's files, as `check` does, and writes the lines that are
-/// wanted: each file's as soon as the file is done, before the next is opened, and at last what
-/// `print_report` writes behind them. Then it flushes once. All lines together are those of
-/// `print_report`, less those that are not wanted.
+/// wanted: each file's as soon as the file is done, or the small files that are read with it, and
+/// at last what `print_report` writes behind them. Then it flushes once. All lines together are
+/// those of `print_report`, less those that are not wanted.
 ///
 /// # Errors
 ///
 /// `NoMemory`: memory for the report was refused before the first path was opened, and nothing was
-/// written. `Write`: the sink failed in a file's line, and no later file was visited; or it failed
-/// behind the last file's line or at the flush. A prefix of the lines of the visited files went
-/// out.
+/// written. `Write`: the sink failed in a file's line, and none was visited behind the files that
+/// are read with that one; or it failed behind the last file's line or at the flush. A prefix of
+/// the lines of the visited files went out.
 pub fn check_onto<S: Shelf, W: Sink>(
     alloc: Global,
     torrent: &Torrent<'_>,

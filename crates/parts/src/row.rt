@@ -62,7 +62,7 @@ pub(crate) fn read_row<F: Source>(
         < (F.seen source.new).limit + span_bytes torrent.now (file_entry file.now) span) }
     ensures counts { CountsFault (F.seen source.old).faults (F.seen source.new).faults result }
 {
-    torrent.sound();
+    torrent.recall_sound();
     let Some(number) = file.tree else {
         unreachable!();
     };
@@ -98,7 +98,7 @@ fn compared_layer(torrent: &Torrent<'_>, file: &File<'_>) -> u32
     ensures layer { IsRowLayer torrent.now (file_entry file.now) result }
     ensures bound { result ≤ 32 }
 {
-    torrent.sound();
+    torrent.recall_sound();
     Shape::of(torrent.piece_length().min(file.length))
         .unwrap()
         .height()
@@ -135,7 +135,7 @@ fn cuts<'t>(torrent: &Torrent<'t>, file: &File<'_>, span: Span) -> Cuts<'t>
     ensures part { (v : Version1) → torrent.now.v1 ≡ Some v → IsRowCuts torrent.now
         (file_entry file.now) span v result.feed }
 {
-    torrent.sound();
+    torrent.recall_sound();
     let piece_length = torrent.piece_length();
     let first = file.first_piece;
     let part = match torrent.v1() {

@@ -1,6 +1,8 @@
 //! The line of a run of bad pieces.
-ghost use Rattle.std.specs.Prelude.{◌≡◌, ◌+◌, ◌-◌, ◌*◌, ◌<◌, ◌≤◌, min};
+ghost use Rattle.std.specs.Prelude.{◌≡◌, ◌+◌, ◌-◌, ◌*◌, ◌<◌, ◌≤◌, ◌++◌, min, MatchOption};
 ghost use Rattle.benc.specs.Device.{Wrote};
+ghost use Rattle.lines.specs.Reading.{BeginsWith};
+ghost use Rattle.lines.specs.Table.{row_of};
 ghost use Rattle.opening.specs.Seen.{file_entry};
 ghost use Rattle.folders.specs.Verdicts.{IsFileOf};
 ghost use Rattle.parts.specs.Parts.{piece_count as pieces_in};
@@ -8,7 +10,7 @@ ghost use Rattle.parts.specs.Runs.{run_text};
 ghost use Rattle.parts.specs.Words.{run_row};
 
 use benc::DeviceFault;
-use lines::{Checked, Line, LineSink, say};
+use lines::{Checked, Line, LineSink, say, strip_line};
 use opening::{File, Torrent};
 
 // The torrent's numbers of the first and last piece of a run, and the offsets in the file of its
@@ -21,32 +23,11 @@ struct Bounds {
     to: u64,
 }
 
-/// The line `bad pieces FIRST LAST bytes FROM-TO` of the run from one piece of a file up to
+/// Says the line `bad pieces FIRST LAST bytes FROM-TO` of the run from one piece of a file up to
 /// another. FIRST and LAST are the torrent's numbers of pieces, FROM and TO offsets in the file,
-/// both included. Conditions: the torrent has the file, and the pieces are some of its own.
-pub fn run_line(torrent: &Torrent<'_>, file: &File<'_>, from: u64, to: u64) -> printing::Line
-    requires file { IsFileOf torrent.now (file_entry file.now) }
-    requires some { from < to }
-    requires inside { to ≤ pieces_in torrent.now (file_entry file.now) }
-    ensures { result ≡ run_text torrent.now (file_entry file.now)
-        (record { first = from; last = to - 1 }) }
-{
-    let run = bounds_of(torrent, file, from, to);
-    let mut line = printing::Line::new();
-    line.put(b"bad pieces ");
-    line.put_number(run.first);
-    line.put(b" ");
-    line.put_number(run.last);
-    line.put(b" bytes ");
-    line.put_number(run.from);
-    line.put(b"-");
-    line.put_number(run.to);
-    line.put(b"\n");
-    line
-}
-
-/// Says that line. After a fault a prefix of it went out. Conditions: as for `run_line`.
-pub(crate) fn say_run<L: LineSink>(
+/// both included. After a fault a prefix of it went out. Conditions: the torrent has the file, and
+/// the pieces are some of its own.
+pub fn say_run<L: LineSink>(
     torrent: &Torrent<'_>,
     file: &File<'_>,
     from: u64,
@@ -59,17 +40,46 @@ pub(crate) fn say_run<L: LineSink>(
     ensures { Wrote (L.seen out.old) (L.seen out.new) result (L.spelled
         (run_row torrent.now (file_entry file.now) (record { first = from; last = to - 1 }))) }
 {
+    say(&line_of(torrent, file, from, to), out)
+}
+
+/// What stands behind that line, if a text begins with it. It takes no memory. Conditions: as for
+/// `say_run`.
+pub fn strip_run<'a>(
+    torrent: &Torrent<'_>,
+    file: &File<'_>,
+    from: u64,
+    to: u64,
+    text: &'a [u8],
+) -> Option<&'a [u8]>
+    requires file { IsFileOf torrent.now (file_entry file.now) }
+    requires some { from < to }
+    requires inside { to ≤ pieces_in torrent.now (file_entry file.now) }
+    ensures { let line = run_text torrent.now (file_entry file.now)
+        (record { first = from; last = to - 1 }) in
+        MatchOption result (BeginsWith line text.now → ⊥) (λ rest. text.now ≡ line ++ rest.now) }
+{
+    strip_line(&line_of(torrent, file, from, to), text)
+}
+
+// The line of a run. Conditions: as for `say_run`.
+fn line_of(torrent: &Torrent<'_>, file: &File<'_>, from: u64, to: u64) -> Line<'static>
+    requires file { IsFileOf torrent.now (file_entry file.now) }
+    requires some { from < to }
+    requires inside { to ≤ pieces_in torrent.now (file_entry file.now) }
+    ensures { row_of result
+        ≡ run_row torrent.now (file_entry file.now) (record { first = from; last = to - 1 }) }
+{
     let run = bounds_of(torrent, file, from, to);
-    let found = Checked::BadPieces {
+    Line::Checked(Checked::BadPieces {
         first: run.first,
         last: run.last,
         from: run.from,
         to: run.to,
-    };
-    say(&Line::Checked(found), out)
+    })
 }
 
-// What the line of a run tells. Conditions: as for `run_line`.
+// What the line of a run tells. Conditions: as for `say_run`.
 fn bounds_of(torrent: &Torrent<'_>, file: &File<'_>, from: u64, to: u64) -> Bounds
     requires file { IsFileOf torrent.now (file_entry file.now) }
     requires some { from < to }
@@ -80,7 +90,7 @@ fn bounds_of(torrent: &Torrent<'_>, file: &File<'_>, from: u64, to: u64) -> Boun
     ensures to { result.to
         ≡ min (torrent.now.piece_length * (to - 1 + 1)) file.now.length - 1 }
 {
-    torrent.sound();
+    torrent.recall_sound();
     let piece_length = torrent.piece_length();
     Bounds {
         first: file.first_piece + from,

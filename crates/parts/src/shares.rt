@@ -41,7 +41,7 @@ fn start(torrent: &Torrent<'_>, part: u64, parts: u64) -> u64
 fn byte_count(torrent: &Torrent<'_>) -> u64
     ensures { result ≡ all_bytes torrent.now }
 {
-    torrent.sound();
+    torrent.recall_sound();
     let mut bytes: u64 = 0;
     'files: for file in torrent.files() {
         bytes += file.length;
@@ -53,7 +53,7 @@ fn byte_count(torrent: &Torrent<'_>) -> u64
 fn place_count(torrent: &Torrent<'_>) -> u64
     ensures { result ≡ place_count torrent.now }
 {
-    torrent.sound();
+    torrent.recall_sound();
     let mut pieces: u64 = 0;
     'files: for file in torrent.files() {
         pieces += piece_count(torrent, file.length);
@@ -66,7 +66,7 @@ fn place_of_byte(torrent: &Torrent<'_>, byte: u64) -> u64
     ensures { result ≡ place_in torrent.now.piece_length (place_count torrent.now)
         torrent.now.files byte }
 {
-    torrent.sound();
+    torrent.recall_sound();
     let piece_length = torrent.piece_length();
     let mut left = byte;
     'files: for file in torrent.files() {

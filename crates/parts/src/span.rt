@@ -25,7 +25,7 @@ pub(crate) fn span_of(torrent: &Torrent<'_>, file: &File<'_>, places: Places) ->
     requires { IsFileOf torrent.now (file_entry file.now) }
     ensures { IsSpanned torrent.now places (file_entry file.now) result }
 {
-    torrent.sound();
+    torrent.recall_sound();
     let count = piece_count(torrent, file.length);
     let last = file.first_piece + (count.max(1) - 1);
     let first = places.from.max(file.first_piece);

@@ -111,7 +111,7 @@ fn say_marked<L: LineSink>(
 fn most_pieces(torrent: &Torrent<'_>) -> u64
     ensures { IsMostPieces torrent.now result }
 {
-    torrent.sound();
+    torrent.recall_sound();
     let entries = torrent.files();
     let mut most: u64 = 0;
     'files: for file in entries {
@@ -143,7 +143,7 @@ fn say_runs<L: LineSink>(
     ensures { WritesRuns (words_as L.spelled).run torrent.now (file_entry file.now) from to bits.now
         (L.seen out.old) (L.seen out.new) result }
 {
-    torrent.sound();
+    torrent.recall_sound();
     let count = (to - from) as usize;
     let mut at: usize = 0;
     'runs: while let Some((first, end)) = clear_run(bits, at, count) {

@@ -76,7 +76,7 @@ pub(crate) fn visit_files<S, V: Visitor<S>, L: LineSink>(
     ensures stays { (V.visiting visitor.now torrent.now).contents shelf.new
         ≡ (V.visiting visitor.now torrent.now).contents shelf.old }
 {
-    torrent.sound();
+    torrent.recall_sound();
     let entries = torrent.files();
     let Room {
         mut files,

@@ -6,10 +6,10 @@ ghost use Rattle.folders.specs.Shelf.{more};
 ghost use Rattle.folders.specs.Verdicts.{HasVerdicts, IsTrueOfFolder, unreadable_count};
 ghost use Rattle.folders.specs.Visits.{Visits};
 
-use crate::all_files::{CheckFault, visit_whole};
-use crate::nowhere::Nowhere;
+use crate::all_files::visit_whole;
 use crate::telling::Telling;
 use folders::{NoMemory, Report, Shelf};
+use lines::{Nowhere, OutFault as CheckFault};
 use opening::Torrent;
 use std::alloc::Global;
 
@@ -39,7 +39,7 @@ pub fn check<S: Shelf>(
     ensures no_memory { OnErr result (shelf.new ≡ shelf.old) }
     ensures stays { S.contents shelf.new ≡ S.contents shelf.old }
 {
-    let mut nowhere = Nowhere { flushes: 0 };
+    let mut nowhere = Nowhere::new();
     match visit_whole(alloc, torrent, shelf, Telling::Nothing, &mut nowhere) {
         Ok(report) => Ok(report),
         Err(CheckFault::NoMemory) => Err(NoMemory),

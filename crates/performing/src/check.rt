@@ -1,6 +1,6 @@
 //! `check`: whether a folder holds the files of a torrent.
 use crate::extra::print_extra;
-use crate::printed::{buffered_output, line_output, refuse};
+use crate::printed::{buffered_output, line_output, refuse, say_to};
 use crate::sizes::all_bytes;
 use crate::summary::{print_hint, print_summary};
 use crate::tally::Tally;
@@ -9,7 +9,7 @@ use actions::Check;
 use benc::Sink;
 use commands::checks;
 use folders::Lines;
-use lines::{LineSink, Objects};
+use lines::LineSink;
 use opening::Torrent;
 use printing::Fault;
 use real_files::{Cleared, Folder, Progress, System};
@@ -50,11 +50,9 @@ fn print_check<'a, W: Sink + Drop>(
     progress: &Progress,
     out: W,
 ) -> Result<u8, Fault<'a>> {
-    if asked.json {
-        let mut lines = Tally::new(Objects::new(out));
-        return explain_folder(system, torrent, asked, progress, &mut lines);
-    }
-    explain_folder(system, torrent, asked, progress, &mut Tally::new(out))
+    say_to!(asked.json, out, lines => {
+        explain_folder(system, torrent, asked, progress, &mut Tally::new(lines))
+    })
 }
 
 // Prints the report, and on standard error what else is told of it.

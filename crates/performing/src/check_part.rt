@@ -1,10 +1,11 @@
 //! `check --part`: one part of a check.
-use crate::printed::{buffered_output, line_output};
+use crate::printed::{buffered_output, line_output, refuse, say_to};
 use crate::sizes::bytes_in;
 use crate::torrent_file::{open_torrent, read_torrent};
 use actions::CheckPart;
 use benc::Sink;
-use commands::{outcomes, part_checks};
+use commands::part_checks;
+use lines::LineSink;
 use opening::Torrent;
 use parts::Places;
 use printing::Fault;
@@ -32,31 +33,37 @@ fn judge_torrent<'a, W: Sink + Drop>(
     asked: &CheckPart<'a>,
     out: W,
 ) -> Result<u8, Fault<'a>> {
-    let mut out = out;
     match open_torrent(system, bytes) {
-        Ok(torrent) => judge_part(system, &torrent, asked, out),
-        Err(refusal) => outcomes::refuse(&refusal, &[], &mut out),
+        Ok(torrent) => {
+            let places = Places::of_part(&torrent, asked.part.number - 1, asked.part.count);
+            let progress = Progress::new(system.rt(), Some(bytes_in(&torrent, places)));
+            let cleared = Cleared::new(out, &progress);
+            print_part(system, &torrent, asked, &progress, cleared)
+        }
+        Err(refusal) => refuse(&refusal, asked.json, out),
     }
 }
 
-fn judge_part<'a, W: Sink + Drop>(
+fn print_part<'a, W: Sink + Drop>(
     system: &System,
     torrent: &Torrent<'_>,
     asked: &CheckPart<'a>,
+    progress: &Progress,
     out: W,
 ) -> Result<u8, Fault<'a>> {
-    let places = Places::of_part(torrent, asked.part.number - 1, asked.part.count);
-    let progress = Progress::new(system.rt(), Some(bytes_in(torrent, places)));
-    let mut folder = Folder::with_torrent(system, asked.dir, torrent, &progress);
-    let mut out = Cleared::new(out, &progress);
+    say_to!(asked.json, out, lines => judge_part(system, torrent, asked, progress, &mut lines))
+}
+
+fn judge_part<'a, L: LineSink>(
+    system: &System,
+    torrent: &Torrent<'_>,
+    asked: &CheckPart<'a>,
+    progress: &Progress,
+    out: &mut L,
+) -> Result<u8, Fault<'a>> {
+    let mut folder = Folder::with_torrent(system, asked.dir, torrent, progress);
     if asked.bad {
-        return part_checks::check_part_bad(
-            system.alloc(),
-            torrent,
-            &mut folder,
-            asked.part,
-            &mut out,
-        );
+        return part_checks::check_part_bad(system.alloc(), torrent, &mut folder, asked.part, out);
     }
-    part_checks::check_part(system.alloc(), torrent, &mut folder, asked.part, &mut out)
+    part_checks::check_part(system.alloc(), torrent, &mut folder, asked.part, out)
 }

@@ -71,8 +71,11 @@ fn gather_without<'a, S: Shelf + Drop, W: Sink>(
     Ok((draft, kept.into_inner()))
 }
 
-// What is there already is seen before anything is read, if it is to stay.
-fn refuse_clobbering<'a>(system: &System, asked: &NewTorrent<'a>) -> Result<(), Fault<'a>> {
+/// What is there already is seen before anything is read, if it is to stay.
+pub(crate) fn refuse_clobbering<'a>(
+    system: &System,
+    asked: &NewTorrent<'a>,
+) -> Result<(), Fault<'a>> {
     if asked.no_clobber {
         refuse_if_there(system, asked.out)?;
     }
@@ -95,8 +98,8 @@ fn gather<'a, S: Shelf, W: Sink>(
     outcomes::gather(system.alloc(), &create, shelf, out)
 }
 
-// How many bytes a piece has.
-fn piece_length<S: Shelf>(
+/// How many bytes a piece has.
+pub(crate) fn piece_length<S: Shelf>(
     system: &System,
     asked: &NewTorrent<'_>,
     shelf: &mut S,

@@ -12,7 +12,8 @@ use std::fs::File;
 const MOST_HELD: usize = 1 << 20;
 
 /// Replays the record, holds what cannot be proved yet, and writes the answers to their file, if
-/// they are wanted. The longest piece has this many blocks. Gives the exit status.
+/// they are wanted. The longest piece has this many blocks. Gives the exit status. Memory for all
+/// that may be held is asked for before the record is read.
 pub(crate) fn hold_onto<'a, L: LineSink>(
     system: &System,
     session: &mut Session<'_, Paged>,
@@ -24,7 +25,7 @@ pub(crate) fn hold_onto<'a, L: LineSink>(
 ) -> Result<u8, Fault<'a>> {
     let alloc = system.alloc();
     let longest = usize::try_from(longest).unwrap_or(usize::MAX);
-    let mut held = Holdings::new(alloc, MOST_HELD, longest);
+    let mut held = Holdings::new(alloc, MOST_HELD, longest)?;
     let mut source = FromRead::new(Noted::new(record, system));
     match answers {
         None => replay_pieces(alloc, session, &mut held, &mut source, out, padded),

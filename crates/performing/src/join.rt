@@ -1,11 +1,12 @@
 //! `join`: what all parts of a check say together.
 use crate::join_faults::refuse_join;
-use crate::printed::buffered_output;
+use crate::printed::{buffered_output, refuse, say_to};
 use crate::report_files::read_reports;
 use crate::torrent_file::{open_torrent, read_torrent};
 use actions::Join;
 use benc::Sink;
 use commands::outcomes;
+use lines::LineSink;
 use opening::Torrent;
 use printing::Fault;
 use real_files::System;
@@ -14,18 +15,28 @@ use real_files::System;
 /// Gives the exit status.
 pub(crate) fn perform_join<'a>(system: &System, asked: &Join<'a>) -> Result<u8, Fault<'a>> {
     let bytes = read_torrent(system, asked.torrent)?;
-    let mut out = buffered_output(system)?;
+    let out = buffered_output(system)?;
     match open_torrent(system, bytes.as_slice()) {
-        Ok(torrent) => join_files(system, &torrent, asked.reports.as_slice(), &mut out),
-        Err(refusal) => outcomes::refuse(&refusal, &[], &mut out),
+        Ok(torrent) => print_join(system, &torrent, asked, out),
+        Err(refusal) => refuse(&refusal, asked.json, out),
     }
 }
 
-fn join_files<'a, W: Sink>(
+fn print_join<'a, W: Sink + Drop>(
+    system: &System,
+    torrent: &Torrent<'_>,
+    asked: &Join<'a>,
+    out: W,
+) -> Result<u8, Fault<'a>> {
+    let paths = asked.reports.as_slice();
+    say_to!(asked.json, out, lines => join_files(system, torrent, paths, &mut lines))
+}
+
+fn join_files<'a, L: LineSink>(
     system: &System,
     torrent: &Torrent<'_>,
     paths: &[&'a str],
-    out: &mut W,
+    out: &mut L,
 ) -> Result<u8, Fault<'a>> {
     let texts = read_reports(system, torrent, paths)?;
     let slices = texts

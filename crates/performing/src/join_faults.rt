@@ -43,8 +43,8 @@ pub(crate) fn refuse_join<'a>(
     Ok(2)
 }
 
-// Says this of the report at this place.
-fn blame(system: &System, text: &[u8], paths: &[&str], place: usize) {
+/// Says this of the file at this place. What cannot be written is lost.
+pub(crate) fn blame(system: &System, text: &[u8], paths: &[&str], place: usize) {
     let path = paths.get(place).copied().unwrap_or("");
     let mut out = FromWrite::new(system.rt().stderr());
     let _ = write_fault(text, path, &mut out);

@@ -1,10 +1,13 @@
 //! Each command of `btcheck` on real files.
 #![tactic(auto)]
 
+mod assemble;
+mod assemble_faults;
 mod check;
 mod check_part;
 mod convert;
 mod create;
+mod create_part;
 mod excluded;
 mod extra;
 mod file_bytes;

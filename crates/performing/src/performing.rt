@@ -1,8 +1,10 @@
 //! What each command does, on real files.
+use crate::assemble::perform_assemble;
 use crate::check::perform_check;
 use crate::check_part::perform_check_part;
 use crate::convert::perform_convert;
 use crate::create::perform_create;
+use crate::create_part::perform_create_part;
 use crate::join::perform_join;
 use crate::replay::perform_replay;
 use crate::root::perform_root;
@@ -33,6 +35,8 @@ fn run<'a>(system: &System, action: &Action<'a>) -> Result<u8, Fault<'a>> {
         Action::Join(asked) => perform_join(system, asked),
         Action::Replay(asked) => perform_replay(system, asked),
         Action::Create(asked) => perform_create(system, asked),
+        Action::CreatePart(asked, part) => perform_create_part(system, asked, *part),
+        Action::Assemble(asked) => perform_assemble(system, asked),
         Action::Convert(asked) => perform_convert(system, asked),
     }
 }

@@ -4,10 +4,24 @@ ghost use Rattle.std.specs.Prelude.{◌≢◌};
 use benc::{FromWrite, Sink};
 use commands::outcomes;
 use filetree::Refusal;
-use lines::Objects;
 use printing::Fault;
 use real_files::{Output, System};
 use std::io::{BufWriter, LineWriter};
+
+/// Says lines to a sink, as texts, or with `--json` as JSON objects.
+macro_rules! say_to {
+    ($json:expr, $sink:expr, $lines:ident => $said:expr) => {
+        if $json {
+            let mut $lines = lines::Objects::new($sink);
+            $said
+        } else {
+            let mut $lines = $sink;
+            $said
+        }
+    };
+}
+
+pub(crate) use say_to;
 
 /// Standard output with a buffer, for text of many small parts.
 pub(crate) fn buffered_output<'s>(
@@ -37,9 +51,5 @@ pub(crate) fn refuse<'a, W: Sink + Drop>(
 ) -> Result<u8, Fault<'a>>
     requires { refusal.now ≢ Refusal.Write }
 {
-    let mut out = out;
-    if !json {
-        return outcomes::refuse_onto(refusal, &[], &mut out);
-    }
-    outcomes::refuse_onto(refusal, &[], &mut Objects::new(out))
+    say_to!(json, out, lines => outcomes::refuse_onto(refusal, &[], &mut lines))
 }

@@ -1,12 +1,12 @@
 //! `replay`: which messages of a record are right.
 use crate::holding::hold_onto;
-use crate::printed::refuse;
+use crate::printed::{refuse, say_to};
 use crate::sizes::all_bytes;
 use crate::torrent_file::{open_torrent, read_torrent};
 use actions::Replay;
 use benc::{FromRead, FromWrite, Sink};
 use commands::outcomes;
-use lines::{LineSink, Objects};
+use lines::LineSink;
 use opening::Torrent;
 use printing::Fault;
 use real_files::{Cause, Cleared, Folder, Noted, Progress, System, create_output};
@@ -52,11 +52,7 @@ fn print_replay<'a, W: Sink + Drop>(
     progress: &Progress,
     out: W,
 ) -> Result<u8, Fault<'a>> {
-    let mut out = out;
-    if !asked.json {
-        return replay_file(system, torrent, asked, progress, &mut out);
-    }
-    replay_file(system, torrent, asked, progress, &mut Objects::new(out))
+    say_to!(asked.json, out, lines => replay_file(system, torrent, asked, progress, &mut lines))
 }
 
 // The record is opened before the file of the answers, which is not touched if it fails. After that

@@ -1,7 +1,7 @@
 //! The bytes of reports.
 use crate::file_bytes::read_bytes;
 use benc::{DeviceFault, Sink};
-use folders::{FileVerdict, write_verdict};
+use folders::{FileVerdict, say_verdict};
 use opening::Torrent;
 use printing::Fault;
 use real_files::System;
@@ -39,7 +39,7 @@ fn longest(torrent: &Torrent<'_>) -> u64 {
         flushes: 0,
     };
     'files: for file in torrent.files() {
-        let _ = write_verdict(FileVerdict::Bad(u64::MAX), file, &mut counter);
+        let _ = say_verdict(FileVerdict::Bad(u64::MAX), file, &mut counter);
         let runs = most_runs(file.length, torrent.piece_length());
         counter.count = counter.count.saturating_add(runs.saturating_mul(RUN));
     }

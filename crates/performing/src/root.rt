@@ -1,8 +1,8 @@
 //! `root`: the length and the pieces root of a file.
+use crate::printed::say_to;
 use crate::sizes::length_of;
 use benc::{FromRead, FromWrite, Sink, Source};
 use commands::outcomes;
-use lines::Objects;
 use printing::Fault;
 use real_files::{Cleared, Counted, Noted, Progress, System};
 
@@ -26,9 +26,5 @@ fn print_root<'a, R: Source, W: Sink + Drop>(
     json: bool,
     out: W,
 ) -> Result<u8, Fault<'a>> {
-    let mut out = out;
-    if !json {
-        return outcomes::root(system.alloc(), path, source, &mut out);
-    }
-    outcomes::root(system.alloc(), path, source, &mut Objects::new(out))
+    say_to!(json, out, lines => outcomes::root(system.alloc(), path, source, &mut lines))
 }

@@ -1,10 +1,10 @@
 //! `show`: what a torrent holds.
 use crate::long::print_long;
-use crate::printed::buffered_output;
+use crate::printed::{buffered_output, say_to};
 use crate::torrent_file::{open_torrent, read_torrent};
 use benc::Sink;
 use commands::outcomes;
-use lines::{LineSink, Objects};
+use lines::LineSink;
 use printing::Fault;
 use real_files::System;
 
@@ -27,11 +27,7 @@ fn print_show<'a, W: Sink + Drop>(
     long: bool,
     out: W,
 ) -> Result<u8, Fault<'a>> {
-    let mut out = out;
-    if !json {
-        return show_torrent(system, bytes, long, &mut out);
-    }
-    show_torrent(system, bytes, long, &mut Objects::new(out))
+    say_to!(json, out, lines => show_torrent(system, bytes, long, &mut lines))
 }
 
 fn show_torrent<'a, L: LineSink>(

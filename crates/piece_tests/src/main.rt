@@ -5,6 +5,7 @@
 
 use benc::memory::{MemSink, MemSource};
 use holdings::Holdings;
+use lines::Nowhere;
 use opening::Torrent;
 use replays::replay_pieces;
 use session::{Paged, Session};
@@ -25,7 +26,7 @@ fn replay_record(
 ) -> io::Result<()> {
     let mut session: Session<'_, Paged> = Session::new(rt.alloc(), torrent, true)?;
     let longest = usize::try_from(torrent.piece_length() / BLOCK).unwrap_or(1);
-    let mut held = Holdings::new(rt.alloc(), bound, longest);
+    let mut held = Holdings::new(rt.alloc(), bound, longest)?;
     let report = report_of(rt, &mut session, &mut held, record)?;
     print!(rt; "{}", str::from_utf8(report.written()).unwrap_or("no text"))?;
     print_marked(rt, &session)
@@ -40,7 +41,7 @@ fn report_of(
 ) -> io::Result<MemSink> {
     let mut source = MemSource::new(record);
     let mut report = MemSink::with_room(rt.alloc(), ROOM)?;
-    let answers = None::<&mut MemSink>;
+    let answers = None::<&mut Nowhere>;
     let _ = replay_pieces(
         rt.alloc(),
         session,

@@ -18,7 +18,7 @@ mod system;
 
 pub use fault::print_fault;
 pub use folder::Folder;
-pub use lengths::bytes_of;
+pub use lengths::{bytes_of, is_below, lengths_of};
 pub use noted::{Noted, Output};
 pub use others::{has_folder, others_below};
 pub use output::{create_new_output, create_output, refuse_if_there};

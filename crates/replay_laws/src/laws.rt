@@ -7,8 +7,8 @@ ghost use Rattle.replays.specs.ProvedLines.{CutLinesCame, ProvedFramesCame, Prov
 /// unproved and was held; and the bytes of the last such entry are that block of every file with
 /// the tree's length and root, or two inputs with one digest are named. So it is of each line of a
 /// report that was cut off, and of the frames of such a replay, however their lines are written.
-/// Condition: the session's last state has closed trees, as `Session::closed_trees` says of every
-/// session.
+/// Condition: the session's last state has closed trees, as `Session::recall_closed_trees` says of
+/// every session.
 pub fn proved_lines_came()
     ensures frames { ProvedFramesCame }
     ensures whole { ProvedLinesCame }

@@ -17,7 +17,7 @@ use Rattle.replays.specs.Outcome.{is_fault}
 use Rattle.replays.specs.Telling.{Teller}
 use Rattle.replays.specs.TellingOf.{RespondsNext}
 use Rattle.replays.specs.declared.report.Reply.{Reply}
-use Rattle.replays.specs.declared.answering.AnswerFault.TheVariants as failed
+use Rattle.lines.specs.declared.out_fault.OutFault.TheVariants as failed
 use Rattle.replays.specs.Answering.{Finishes, IfWanted, Replies}
 use Rattle.replays.specs.Replay.{Answered, Ends, EndsUnanswered, Handled, IsCutAtEnd}
 use Rattle.replays.specs.Replay.{IsCutInFlush, IsCutReport, IsReport, ReplaySeen, FindsEnding}

@@ -17,7 +17,7 @@ use Rattle.replays.specs.declared.report.Outcome.{Outcome}
 use Rattle.replays.specs.Telling.{Teller}
 use Rattle.replays.specs.TellingOf.{BeginsNext, RespondsNext}
 use Rattle.replays.specs.declared.report.Reply.{Reply}
-use Rattle.replays.specs.declared.answering.AnswerFault.TheVariants as failed
+use Rattle.lines.specs.declared.out_fault.OutFault.TheVariants as failed
 use Rattle.replays.specs.Answering.{IfWanted, IsReply, Replies, reply_to}
 use Rattle.replays.specs.Replay.{Answered, Beside, Handled, HandlesButLast, HandlesNext, IsCutInAnswer}
 use Rattle.replays.specs.Replay.{IsCutInLine, IsCutReport, ReplaySeen}

@@ -27,8 +27,8 @@ use Rattle.replays.specs.declared.report.FrameReport.{FrameReport}
 use Rattle.replays.specs.declared.report.FrameReport.TheVariants as frame_report
 use Rattle.replays.specs.declared.report.Reply.{Reply}
 use Rattle.replays.specs.declared.report.Reply.TheVariants as reply
-use Rattle.replays.specs.declared.answering.AnswerFault.{AnswerFault}
-use Rattle.replays.specs.declared.answering.AnswerFault.TheVariants as failed
+use Rattle.lines.specs.declared.out_fault.OutFault.{OutFault}
+use Rattle.lines.specs.declared.out_fault.OutFault.TheVariants as failed
 
 -- ---- one answer
 
@@ -95,7 +95,7 @@ IsWanted Happens (Some old) (Some new) = Happens old new
 -- The answer went out whole, if answers are wanted; or a prefix of it, and the sink failed; or
 -- nothing of it, since memory was refused for the hashes.
 abbrev pub Replies : SessionSeen → Reply → Option SinkSeen → Option SinkSeen
-    → Result (Unit {0}) AnswerFault → Type 0
+    → Result (Unit {0}) OutFault → Type 0
 Replies S r old new (Ok u) = (bytes : List ℕ) × IsReply (is_some old) S r bytes
     × IfWanted (λ a b. Sent a b bytes) old new
 Replies S r old new (Err failed.Write) = (bytes : List ℕ) × IsReply (is_some old) S r bytes

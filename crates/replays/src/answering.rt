@@ -6,28 +6,9 @@ ghost use Rattle.replays.specs.Answering.{Flushes, HasFewHashes, IsAnswerFrame, 
 
 use crate::report::Reply;
 use benc::{DeviceFault, Sink, WriteFault};
+use lines::OutFault;
 use session::{Answer, NodeMap, Session};
 use wire::{Ask, Message, write};
-
-/// Why an answer did not go out whole.
-#[derive(Clone, Copy)]
-pub(crate) enum AnswerFault {
-    /// Memory for its hashes was refused, and nothing of it went out.
-    NoMemory,
-    /// The sink failed, and a prefix of it went out.
-    Write,
-}
-
-impl From<WriteFault> for AnswerFault {
-    ghost use Rattle.std.specs.Prelude.{◌≡◌};
-    ghost use Rattle.replays.specs.declared.answering.AnswerFault.TheVariants.{Write};
-
-    ghost from_gives = { λ _ fault. fault ≡ Write };
-
-    fn from(_: WriteFault) -> AnswerFault {
-        AnswerFault::Write
-    }
-}
 
 /// Where answers go: to a sink, or nowhere.
 pub(crate) trait Answering {
@@ -38,11 +19,7 @@ pub(crate) trait Answering {
     ghost seen: { Self → Option SinkSeen };
 
     /// Answers what is to be answered. Memory is taken for hashes alone.
-    fn answer<N: NodeMap>(
-        &mut self,
-        session: &Session<'_, N>,
-        reply: Reply,
-    ) -> Result<(), AnswerFault>
+    fn answer<N: NodeMap>(&mut self, session: &Session<'_, N>, reply: Reply) -> Result<(), OutFault>
         ensures { Replies session.now reply (seen self.old) (seen self.new) result };
 
     /// Flushes the sink once, if there is one.
@@ -63,7 +40,7 @@ impl Answering for Unwanted {
         &mut self,
         _session: &Session<'_, N>,
         _reply: Reply,
-    ) -> Result<(), AnswerFault> {
+    ) -> Result<(), OutFault> {
         Ok(())
     }
 
@@ -79,7 +56,7 @@ impl<A: Sink> Answering for A {
         &mut self,
         session: &Session<'_, N>,
         reply: Reply,
-    ) -> Result<(), AnswerFault> {
+    ) -> Result<(), OutFault> {
         send_reply(self, session, reply)
     }
 
@@ -93,7 +70,7 @@ fn send_reply<N: NodeMap, A: Sink>(
     out: &mut A,
     session: &Session<'_, N>,
     reply: Reply,
-) -> Result<(), AnswerFault>
+) -> Result<(), OutFault>
     ensures { Replies session.now reply (Some (A.seen out.old)) (Some (A.seen out.new)) result }
 {
     match reply {
@@ -111,13 +88,13 @@ fn send_hashes<N: NodeMap, A: Sink>(
     out: &mut A,
     session: &Session<'_, N>,
     ask: Ask,
-) -> Result<(), AnswerFault>
+) -> Result<(), OutFault>
     ensures { Replies session.now (Reply.Hashes ask)
         (Some (A.seen out.old)) (Some (A.seen out.new)) result }
 {
-    session.torrent().sound();
+    session.torrent().recall_sound();
     let Ok(answer) = session.answer(&ask) else {
-        return Err(AnswerFault::NoMemory);
+        return Err(OutFault::NoMemory);
     };
     write_answer(out, ask, &answer)?;
     Ok(())

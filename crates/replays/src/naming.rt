@@ -12,7 +12,7 @@ pub(crate) fn tree_of_file(torrent: &Torrent<'_>, file: usize) -> Option<usize>
     ensures value { result ≡ tree_number (slice_get torrent.now.files file) }
     ensures there { IfSome result (λ n. n < length torrent.now.trees) }
 {
-    torrent.sound();
+    torrent.recall_sound();
     if file < torrent.files().len() {
         torrent.tree_of(file)
     } else {

@@ -7,13 +7,13 @@ ghost use Rattle.replays.specs.TellingOf.{NextReply};
 ghost use Rattle.wire.specs.Reader.{HasRoom, IsOpen, KeepsSource};
 ghost use Rattle.wire.specs.RecordReader.{form_of, frame_reader, source_of};
 
-use crate::answering::{AnswerFault, Answering, Unwanted};
+use crate::answering::{Answering, Unwanted};
 use crate::ending::end_replay;
 use crate::handing::{frame_as, respond};
 use crate::report::{Ending, Outcome, Reply, Stop};
 use crate::telling::{Plain, Telling};
 use benc::{Sink, Source, WriteFault};
-use lines::LineSink;
+use lines::{LineSink, OutFault};
 use session::{NodeMap, Session};
 use std::alloc::Global;
 use wire::{FrameFault, RecordReader};
@@ -202,10 +202,10 @@ fn replay_frames<N: NodeMap, K: Telling, R: Source, L: LineSink, B: Answering>(
         number += 1;
         match answers.answer(session, reply) {
             Ok(()) => {}
-            Err(AnswerFault::NoMemory) => {
+            Err(OutFault::NoMemory) => {
                 return end_replay(report, keeper, answers, outcome, OUT_OF_MEMORY);
             }
-            Err(AnswerFault::Write) => return Err(WriteFault::Write),
+            Err(OutFault::Write) => return Err(WriteFault::Write),
         }
     }
 }

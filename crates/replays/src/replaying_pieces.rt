@@ -23,9 +23,9 @@ use wire::RecordReader;
 /// they are stands before the last line. A file is named by its number: the one at the message's
 /// place, or the first that has the tree.
 ///
-/// `false`, `dropped` and what is still held count as refusals. Memory for what is held is taken as
-/// blocks come; if it is refused, the line is `refused P5 NoMemory`, and what is held stays as it
-/// was. All else is as for `replay_as`.
+/// `false`, `dropped` and what is still held count as refusals. What is held takes no memory; if a
+/// piece that is to be tried is refused memory, the line is `refused P5 NoMemory`, and what is held
+/// stays as it was. All else is as for `replay_as`.
 pub fn replay_pieces<N: NodeMap, R: Source, W: Sink, A: Sink>(
     alloc: Global,
     session: &mut Session<'_, N>,

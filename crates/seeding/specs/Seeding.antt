@@ -21,8 +21,8 @@ use Rattle.partial_tree.specs.declared.refusal.HashRefusal.{HashRefusal}
 use Rattle.partial_tree.specs.declared.refusal.HashRefusal.TheVariants.{NoMemory}
 use Rattle.session.specs.Session.{IsFilled, IsFillRefused, SessionSeen}
 use Rattle.seeding.specs.Leaves.{IsReadToSeed}
-use Rattle.seeding.specs.declared.seed_fault.SeedFault.{SeedFault}
-use Rattle.seeding.specs.declared.seed_fault.SeedFault.TheVariants as fault
+use Rattle.lines.specs.declared.out_fault.OutFault.{OutFault as SeedFault}
+use Rattle.lines.specs.declared.out_fault.OutFault.TheVariants as fault
 
 -- ---- the shelf
 

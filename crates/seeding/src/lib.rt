@@ -2,8 +2,7 @@
 #![tactic(auto)]
 
 mod leaves;
-mod seed_fault;
 mod seeding;
 
-pub use seed_fault::SeedFault;
+pub use lines::OutFault as SeedFault;
 pub use seeding::{seed, seed_onto};

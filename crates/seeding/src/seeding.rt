@@ -9,11 +9,10 @@ ghost use Rattle.seeding.specs.Leaves.{found_of};
 ghost use Rattle.seeding.specs.Seeding.{Fills, Finds, HasFitting, OpensToFind, SeedStep, Seeds, SeedsAs, SeedsFiles, SeedsTree, StopsAtFile, seed_line_as, shelf_and_session};
 
 use crate::leaves::{Grown, TreeReader};
-use crate::seed_fault::SeedFault;
 use benc::{DeviceFault, Sink};
 use folders::{ReadFault, Shelf, visit};
 use hashtree::NoMemory;
-use lines::{Line, LineSink, say};
+use lines::{Line, LineSink, OutFault as SeedFault, say};
 use opening::{File, TreeInfo};
 use partial_tree::GrownTree;
 use pieces::PieceBuffer;
@@ -111,7 +110,7 @@ fn seed_file<N: NodeMap, S: Shelf>(
     ensures torrent { session.new.torrent ≡ session.old.torrent }
 {
     let torrent = session.torrent();
-    torrent.sound();
+    torrent.recall_sound();
     match file.tree {
         Some(number) => {
             let tree = &torrent.trees()[number];

@@ -34,7 +34,7 @@ impl<'t, N: NodeMap> Session<'t, N> {
     pub fn can_answer(&self, ask: &Ask) -> bool
         ensures { IsTrue result ↔ IsAnswered self.now ask.now }
     {
-        self.torrent.sound();
+        self.torrent.recall_sound();
         match self.torrent.tree_with_root(&ask.root) {
             None => false,
             Some(number) => self.trees[number].can_answer(ask),
@@ -49,7 +49,7 @@ impl<'t, N: NodeMap> Session<'t, N> {
         ensures answer { IfOk result (IsAnswerTo self.now ask.now) }
         ensures no_memory { OnErr result (IsAnswered self.now ask.now) }
     {
-        self.torrent.sound();
+        self.torrent.recall_sound();
         match self.torrent.tree_with_root(&ask.root) {
             None => Ok(Answer::Reject),
             Some(number) => self.trees[number].answer(ask),

@@ -10,7 +10,7 @@ ghost use Rattle.session.specs.SafeStep.{KeepsKnown, StoresTrueHashes, StoresAns
 use crate::session::Session;
 use hashtree::Hash;
 use node_maps::NodeMap;
-use partial_tree::{GrownTree, HashRefusal, are_hashes};
+use partial_tree::{GrownTree, HashRefusal, recall_hashes};
 use wire::Ask;
 
 impl<'t, N: NodeMap> Session<'t, N> {
@@ -29,8 +29,8 @@ impl<'t, N: NodeMap> Session<'t, N> {
         ensures stores_answers { StoresAnswers self.old ask.now hashes.now result }
         ensures closes_one_gap { WantedClosesOneGap self.old ask.now hashes.now result self.new }
     {
-        self.closed_trees();
-        self.distinct_roots();
+        self.recall_closed_trees();
+        self.recall_distinct_roots();
         self.join_hashes(ask, hashes)
     }
 
@@ -40,7 +40,7 @@ impl<'t, N: NodeMap> Session<'t, N> {
         ensures refused { IfErr result (λ r. IsHashRefused self.old ask.now hashes.now r
             × (self.new ≡ self.old)) }
     {
-        are_hashes(hashes);
+        recall_hashes(hashes);
         match self.torrent.tree_with_root(&ask.root) {
             None => Err(HashRefusal::UnknownRoot),
             Some(number) => self.trees[number].take(ask, hashes),
@@ -67,7 +67,7 @@ impl<'t, N: NodeMap> Session<'t, N> {
         ensures refused { IfErr result (λ r. IsFillRefused self.old tree layer hashes.now r
             × (self.new ≡ self.old)) }
     {
-        are_hashes(hashes);
+        recall_hashes(hashes);
         self.trees[tree].fill(layer, hashes)
     }
 

@@ -19,6 +19,6 @@ pub use hashtree::NoMemory;
 pub use node_maps::{Flat, NodeMap, Paged};
 pub use partial_tree::{Answer, BlockRefusal, GrowingTree, GrownTree, HashRefusal, PieceRefusal};
 pub use pausing::Paused;
-pub use running::has_hashes;
+pub use running::recall_message_hashes;
 pub use session::Session;
 pub use verdict::{Blocks, Verdict};

@@ -36,7 +36,7 @@ impl<'t, N: NodeMap> Session<'t, N> {
         ensures keeps_known { KeepsKnown self.old self.new }
         ensures verifies_true_block { VerifiesTrueBlock self.old index begin block.now result }
     {
-        self.closed_trees();
+        self.recall_closed_trees();
         self.mark_block(index, begin, block)
     }
 
@@ -80,7 +80,7 @@ impl<'t, N: NodeMap> Session<'t, N> {
         ensures keeps_known { KeepsKnown self.old self.new }
         ensures verifies_true_blocks { IfOk result (VerifiesTrueBlocks self.old bytes.now) }
     {
-        self.closed_trees();
+        self.recall_closed_trees();
         self.mark_blocks(index, begin, bytes)
     }
 
@@ -90,7 +90,7 @@ impl<'t, N: NodeMap> Session<'t, N> {
         ensures refused { IfErr result (λ r. AreRefused self.old index begin bytes.now r
             × (self.new ≡ self.old)) }
     {
-        self.torrent.sound();
+        self.torrent.recall_sound();
         let Some((file, first)) = self.torrent.place(index, begin) else {
             return Err(BlockRefusal::BadPlace);
         };
@@ -109,7 +109,7 @@ impl<'t, N: NodeMap> Session<'t, N> {
         ensures each { Chain (BlockStep file) self.old (cuts first bytes.now count)
             result.refusals self.new }
     {
-        self.torrent.sound();
+        self.torrent.recall_sound();
         let mut blocks = Blocks::new(file, first);
         let mut digests = BlockDigests::new();
         'numbers: for number in 0..count {
@@ -146,7 +146,7 @@ impl<'t, N: NodeMap> Session<'t, N> {
     fn knows_eight(&self, file: usize, block: u64) -> bool
         requires { HasBlock self.now.torrent file block }
     {
-        self.torrent.sound();
+        self.torrent.recall_sound();
         let tree = self.torrent.tree_of(file).unwrap();
         self.trees[tree].knows_leaves(block, 8)
     }
@@ -165,7 +165,7 @@ impl<'t, N: NodeMap> Session<'t, N> {
         ensures refused { IfErr result (λ r. IsUnmarkedBlock self.old file block bytes.now r
             × (self.new ≡ self.old)) }
     {
-        self.torrent.sound();
+        self.torrent.recall_sound();
         let tree = self.torrent.tree_of(file).unwrap();
         self.trees[tree].take_hashed(block, bytes, digest)
     }

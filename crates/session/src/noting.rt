@@ -8,7 +8,7 @@ ghost use Rattle.session.specs.NotedRounds.{NotedRoundLeavesFewer};
 ghost use Rattle.session.specs.Wanted.{WantedClosesOneGap};
 ghost use Rattle.session.specs.Rounds.{HasNoMoreGaps};
 
-use crate::running::has_hashes;
+use crate::running::recall_message_hashes;
 use crate::session::Session;
 use crate::verdict::Verdict;
 use hashtree::{Hash, NoMemory};
@@ -78,8 +78,8 @@ impl<'t, N: NodeMap> Session<'t, N> {
         ensures is_safe { IsSafeNotedStep self.old (direction, message.now) result
             self.new }
     {
-        self.closed_trees();
-        self.distinct_roots();
+        self.recall_closed_trees();
+        self.recall_distinct_roots();
         match direction {
             Direction::In => self.take_in(message),
             Direction::Out => self.send(message),
@@ -134,11 +134,11 @@ impl<'t, N: NodeMap> Session<'t, N> {
         ensures unchanged { OnErr result (self.new ≡ self.old) }
         ensures no_memory { OnErr result (0 < length messages.now) }
     {
-        self.closed_trees();
-        self.distinct_roots();
+        self.recall_closed_trees();
+        self.recall_distinct_roots();
         let mut verdicts = Vec::with_capacity(self.alloc, messages.len())?;
         'messages: for (direction, message) in messages {
-            has_hashes(message);
+            recall_message_hashes(message);
             verdicts.push_reserved(self.step_noted(*direction, message));
         }
         Ok(verdicts)

@@ -14,7 +14,7 @@ ghost use Rattle.session.specs.SafeStep.{KeepsKnown};
 use crate::session::Session;
 use hashtree::{Hash, Shape};
 use node_maps::NodeMap;
-use partial_tree::{PieceRefusal, are_hashes};
+use partial_tree::{PieceRefusal, recall_hashes};
 
 impl<'t, N: NodeMap> Session<'t, N> {
     /// The hash at a place of a tree, if it is known. Takes no memory. Condition: there are more
@@ -46,7 +46,7 @@ impl<'t, N: NodeMap> Session<'t, N> {
             × (result ≡ piece_span self.now.torrent.piece_length t.length) }
         ensures bound { result ≤ 32 }
     {
-        self.torrent.sound();
+        self.torrent.recall_sound();
         let layer = Shape::of(self.torrent.piece_length()).unwrap().height();
         layer.min(self.trees[tree].shape().height())
     }
@@ -75,7 +75,7 @@ impl<'t, N: NodeMap> Session<'t, N> {
         ensures gaps { HasNoMoreGaps self.old self.new }
         ensures takes_true_leaves { TakesTrueLeaves self.old tree first leaves.now result }
     {
-        self.closed_trees();
+        self.recall_closed_trees();
         self.join_leaves(tree, first, leaves)
     }
 
@@ -88,7 +88,7 @@ impl<'t, N: NodeMap> Session<'t, N> {
         ensures refused { IfErr result (λ r. AreLeavesRefused self.old tree first leaves.now r
             × (self.new ≡ self.old)) }
     {
-        are_hashes(leaves);
+        recall_hashes(leaves);
         let span = self.piece_span(tree);
         self.trees[tree].take_leaves(first, span, leaves)
     }

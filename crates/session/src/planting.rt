@@ -8,7 +8,7 @@ ghost use Rattle.session.specs.Fresh.{IsPlanted};
 use hashtree::{NoMemory, Shape};
 use node_maps::NodeMap;
 use opening::TreeInfo;
-use partial_tree::{Tree, are_hashes, is_hash};
+use partial_tree::{Tree, recall_hash, recall_hashes};
 use pieces::PieceLength;
 use std::alloc::Global;
 
@@ -23,7 +23,7 @@ pub(crate) fn planted<N: NodeMap>(
     requires { IsSoundTree piece_length (tree_entry info.now) }
     ensures { IfOk result (λ t. IsPlanted piece_length with_layers (tree_entry info.now) t) }
 {
-    is_hash(&info.root);
+    recall_hash(&info.root);
     let mut tree = Tree::new(alloc, info.root, Shape::of(info.length).unwrap())?;
     if with_layers && info.length > piece_length.bytes() {
         add_layers(&mut tree, info, piece_length)?;
@@ -44,7 +44,7 @@ fn add_layers<N: NodeMap>(
     ensures { OnOk result (IsPlanted piece_length true (tree_entry info.now) tree.new) }
 {
     let layer = Shape::of(piece_length.bytes()).unwrap().height();
-    are_hashes(info.layer);
+    recall_hashes(info.layer);
     tree.plant(layer, info.layer)?;
     Ok(())
 }

@@ -10,7 +10,7 @@ use crate::session::Session;
 use crate::verdict::Verdict;
 use hashtree::NoMemory;
 use node_maps::NodeMap;
-use partial_tree::are_hashes;
+use partial_tree::recall_hashes;
 use wire::Message;
 
 impl<'t, N: NodeMap> Session<'t, N> {
@@ -23,8 +23,8 @@ impl<'t, N: NodeMap> Session<'t, N> {
     pub fn step(&mut self, message: &Message<'_>) -> Verdict
         ensures is_safe { IsSafeStep self.old message.now result self.new }
     {
-        self.closed_trees();
-        self.distinct_roots();
+        self.recall_closed_trees();
+        self.recall_distinct_roots();
         self.take(message)
     }
 
@@ -75,11 +75,11 @@ impl<'t, N: NodeMap> Session<'t, N> {
         ensures unchanged { OnErr result (self.new ≡ self.old) }
         ensures no_memory { OnErr result (0 < length messages.now) }
     {
-        self.closed_trees();
-        self.distinct_roots();
+        self.recall_closed_trees();
+        self.recall_distinct_roots();
         let mut verdicts = Vec::with_capacity(self.alloc, messages.len())?;
         'messages: for message in messages {
-            has_hashes(message);
+            recall_message_hashes(message);
             verdicts.push_reserved(self.step(message));
         }
         Ok(verdicts)
@@ -87,11 +87,11 @@ impl<'t, N: NodeMap> Session<'t, N> {
 }
 
 /// What the type of a message says: each of its hashes is 32 bytes.
-pub fn has_hashes(message: &Message<'_>)
+pub fn recall_message_hashes(message: &Message<'_>)
     ensures { HasHashes message.now }
 {
     match *message {
-        Message::Hashes { hashes, .. } => are_hashes(hashes),
+        Message::Hashes { hashes, .. } => recall_hashes(hashes),
         _ => {}
     }
 }

@@ -58,7 +58,7 @@ impl<'t, N: NodeMap> Session<'t, N> {
         ensures fresh { IfOk result (IsFresh torrent.now with_layers) }
         ensures no_memory { OnErr result (0 < length torrent.now.trees) }
     {
-        torrent.sound();
+        torrent.recall_sound();
         let infos = torrent.trees();
         let piece_length = PieceLength::new(torrent.piece_length()).unwrap();
         let mut trees = Vec::with_capacity(alloc, infos.len())?;
@@ -82,7 +82,7 @@ impl<'t, N: NodeMap> Session<'t, N> {
 
     /// What holds of every session: each known place stands with its sibling and its parent, and
     /// each marked leaf is known.
-    pub fn closed_trees(&self)
+    pub fn recall_closed_trees(&self)
         ensures { HasClosedTrees self.now }
     {
         // To borrow the field hands its invariant to the prover.
@@ -90,10 +90,10 @@ impl<'t, N: NodeMap> Session<'t, N> {
     }
 
     /// What holds of every session: no two of its trees have one root.
-    pub fn distinct_roots(&self)
+    pub fn recall_distinct_roots(&self)
         ensures { HasDistinctRoots self.now }
     {
-        self.torrent.sound();
+        self.torrent.recall_sound();
     }
 
     /// How many places of a tree are known. Condition: there are more than `tree` trees.

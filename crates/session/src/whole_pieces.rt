@@ -31,9 +31,9 @@ impl<'t, N: NodeMap> Session<'t, N> {
         ensures gaps { HasNoMoreGaps self.old self.new }
         ensures takes_true_piece { TakesTruePiece self.old index bytes.now result }
     {
-        self.closed_trees();
+        self.recall_closed_trees();
         let taken = self.join_piece(index, bytes);
-        self.closed_trees();
+        self.recall_closed_trees();
         taken
     }
 
@@ -44,7 +44,7 @@ impl<'t, N: NodeMap> Session<'t, N> {
         ensures refused { IfErr result (λ r. IsPieceRefused self.old index bytes.now r
             × (self.new ≡ self.old)) }
     {
-        self.torrent.sound();
+        self.torrent.recall_sound();
         let Some((file, first)) = self.torrent.place(index, 0) else {
             return Err(PieceRefusal::BadPlace);
         };
@@ -62,7 +62,7 @@ impl<'t, N: NodeMap> Session<'t, N> {
         ensures refused { IfErr result (λ r. IsRefusedFrom self.old file first bytes.now r
             × (self.new ≡ self.old)) }
     {
-        self.torrent.sound();
+        self.torrent.recall_sound();
         if bytes.len() as u64 != self.size_of_piece(file, first) {
             return Err(PieceRefusal::BadSize);
         }

@@ -33,7 +33,7 @@ pub fn parents(hashes: &[[u8; 32]]) -> [[u8; 32]; LANES]
     ensures { (j : ℕ) → j < LANES → slice_index_or result j [] ≡ sha256
         (slice_index_or hashes.now (2 * j) [] ++ slice_index_or hashes.now (2 * j + 1) []) }
 {
-    are_hashes(hashes);
+    recall_hashes(hashes);
     let state = pair_values(hashes.as_flattened());
     digests_of(&state)
 }
@@ -81,6 +81,6 @@ fn take_block(state: &mut State, messages: &[u8], size: usize, at: usize)
 }
 
 // Shows the prover that each hash has 32 bytes, as its type says.
-fn are_hashes(hashes: &[[u8; 32]])
+fn recall_hashes(hashes: &[[u8; 32]])
     ensures { AreHashes hashes.now }
 {}

@@ -32,7 +32,7 @@ pub fn machines_hold_all(
     ensures { IfOk result (λ yes. OnTrue yes
         (HoldAllApart torrent.now (map (λ x. x.now) reports.now))) }
 {
-    torrent.sound();
+    torrent.recall_sound();
     yes_of_texts_apart();
     let report = join_reports(alloc, torrent, reports)?;
     Ok(report.yes())

@@ -43,6 +43,28 @@ pub const BTCHECK_REJECT_NOTED: u32 = 5;
 pub const BTCHECK_KEEP_ALIVE: u32 = 6;
 pub const BTCHECK_SKIPPED: u32 = 7;
 
+/// What the first fault of bytes is that are no canonical bencoding.
+pub const BTCHECK_FAULT_TRUNCATED: u32 = 1;
+pub const BTCHECK_FAULT_BAD_START: u32 = 2;
+pub const BTCHECK_FAULT_BAD_INTEGER: u32 = 3;
+pub const BTCHECK_FAULT_INTEGER_RANGE: u32 = 4;
+pub const BTCHECK_FAULT_BAD_LENGTH: u32 = 5;
+pub const BTCHECK_FAULT_KEY_ORDER: u32 = 6;
+pub const BTCHECK_FAULT_TRAILING: u32 = 7;
+pub const BTCHECK_FAULT_TOO_DEEP: u32 = 8;
+
+/// A key of a torrent file, which a refusal is about.
+pub const BTCHECK_KEY_TOP: u32 = 1;
+pub const BTCHECK_KEY_INFO: u32 = 2;
+pub const BTCHECK_KEY_META_VERSION: u32 = 3;
+pub const BTCHECK_KEY_FILE_TREE: u32 = 4;
+pub const BTCHECK_KEY_NAME: u32 = 5;
+pub const BTCHECK_KEY_PIECE_LENGTH: u32 = 6;
+pub const BTCHECK_KEY_PIECE_LAYERS: u32 = 7;
+
+/// Most bytes of one message of an export.
+pub const BTCHECK_MOST_EXPORTED: usize = 17461;
+
 /// The builder of a root. Zero bytes are a handle that holds nothing.
 #[repr(C)]
 #[derive(Debug)]
@@ -84,6 +106,23 @@ pub struct btcheck_ask {
     pub index: u32,
     pub length: u32,
     pub proof: u32,
+}
+
+/// What a refusal of a torrent has beside its status.
+#[repr(C)]
+#[derive(Clone, Copy, Debug, Default, PartialEq, Eq)]
+pub struct btcheck_refusal {
+    pub offset: u64,
+    pub fault: u32,
+    pub key: u32,
+}
+
+/// Where an export goes on. Zeros are the beginning.
+#[repr(C)]
+#[derive(Clone, Copy, Debug, Default, PartialEq, Eq)]
+pub struct btcheck_cursor {
+    pub tree: u64,
+    pub block: u64,
 }
 
 /// A file of a torrent.
@@ -196,6 +235,13 @@ extern "C" {
         torrent: *const u8,
         len: usize,
         layers: bool,
+    ) -> btcheck_status;
+    pub fn btcheck_session_open_explained(
+        session: *mut btcheck_session,
+        torrent: *const u8,
+        len: usize,
+        layers: bool,
+        refusal: *mut btcheck_refusal,
     ) -> btcheck_status;
     pub fn btcheck_session_free(session: *mut btcheck_session);
     pub fn btcheck_session_files(
@@ -330,5 +376,20 @@ extern "C" {
         room: *mut [u8; 32],
         places: usize,
         count: *mut u64,
+    ) -> btcheck_status;
+    pub fn btcheck_session_export(
+        session: *mut btcheck_session,
+        cursor: *mut btcheck_cursor,
+        room: *mut u8,
+        size: usize,
+        length: *mut u64,
+    ) -> btcheck_status;
+    pub fn btcheck_session_fill(
+        session: *mut btcheck_session,
+        tree: usize,
+        layer: u32,
+        hashes: *const [u8; 32],
+        count: usize,
+        places: *mut u64,
     ) -> btcheck_status;
 }

@@ -43,6 +43,14 @@ pub enum Error {
 impl Error {
     /// What a status of the library says.
     pub(crate) fn of(status: sys::btcheck_status) -> Result<(), Self> {
+        Self::explained(status, &sys::btcheck_refusal::default())
+    }
+
+    /// What a status of the library says, and what a refusal of a torrent has beside it.
+    pub(crate) fn explained(
+        status: sys::btcheck_status,
+        more: &sys::btcheck_refusal,
+    ) -> Result<(), Self> {
         let other = Error::Other(status);
         Err(match status {
             sys::BTCHECK_OK => return Ok(()),
@@ -57,9 +65,9 @@ impl Error {
             sys::BTCHECK_TOO_SHORT => Error::TooShort,
             sys::BTCHECK_BAD_PIECE => Error::BadPiece,
             sys::BTCHECK_HELD => Error::Held,
-            101..=199 => TorrentRefusal::of(status - 100).map_or(other, Error::Torrent),
-            201..=299 => HashRefusal::of(status - 200).map_or(other, Error::Hashes),
-            301..=399 => BlockRefusal::of(status - 300).map_or(other, Error::Block),
+            101..=199 => TorrentRefusal::of(status - 100, more).map_or(other, Error::Torrent),
+            201..=299 => HashRefusal::of(status - 200, more).map_or(other, Error::Hashes),
+            301..=399 => BlockRefusal::of(status - 300, more).map_or(other, Error::Block),
             _ => other,
         })
     }

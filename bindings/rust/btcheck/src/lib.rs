@@ -22,6 +22,7 @@ mod check;
 mod error;
 mod files;
 mod holdings;
+mod keeping;
 mod messages;
 mod refusals;
 mod root;
@@ -32,8 +33,9 @@ pub use check::Check;
 pub use error::Error;
 pub use files::{File, Files, InfoHashes};
 pub use holdings::{HeldBlocks, Holdings, Run, Settled};
+pub use keeping::Cursor;
 pub use messages::{Blocks, Verdict};
-pub use refusals::{BlockRefusal, HashRefusal, TorrentRefusal};
+pub use refusals::{BlockRefusal, Fault, FaultKind, HashRefusal, Key, TorrentRefusal};
 pub use root::{FileRoot, Root};
 pub use session::{Counts, Place, Session};
 

@@ -59,10 +59,18 @@ impl Session {
             torrent: torrent.into(),
         };
         let bytes = &session.torrent;
+        let mut more = sys::btcheck_refusal::default();
         // SAFETY: the handle is empty and ours; nothing writes to the bytes, and they stay until it is freed.
-        Error::of(unsafe {
-            sys::btcheck_session_open(session.handle(), bytes.as_ptr(), bytes.len(), layers)
-        })?;
+        let status = unsafe {
+            sys::btcheck_session_open_explained(
+                session.handle(),
+                bytes.as_ptr(),
+                bytes.len(),
+                layers,
+                &mut more,
+            )
+        };
+        Error::explained(status, &more)?;
         Ok(session)
     }
 

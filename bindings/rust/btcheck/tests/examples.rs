@@ -2,8 +2,8 @@
 mod common;
 
 use btcheck::{
-    Ask, BlockRefusal, Blocks, Counts, Error, Hash, HashRefusal, Place, Root, Session,
-    TorrentRefusal, Verdict, BLOCK,
+    Ask, BlockRefusal, Blocks, Counts, Cursor, Error, Fault, FaultKind, Hash, HashRefusal, Key,
+    Place, Root, Session, TorrentRefusal, Verdict, BLOCK,
 };
 use common::{example, file, opened};
 use std::thread;
@@ -28,14 +28,51 @@ fn ask_of(content: &[u8]) -> Ask {
 
 #[test]
 fn a_torrent_that_is_none_is_refused() {
+    let fault = |kind| Error::Torrent(TorrentRefusal::NotBencode(Fault { kind, offset: 0 }));
     assert_eq!(
         Session::open(example("abc.txt"), true).unwrap_err(),
-        Error::Torrent(TorrentRefusal::NotBencode)
+        fault(FaultKind::BadStart)
     );
+    let refused = Session::open(Vec::new(), true).unwrap_err();
+    assert_eq!(refused, fault(FaultKind::Truncated));
     assert_eq!(
-        Session::open(Vec::new(), true).unwrap_err(),
-        Error::Torrent(TorrentRefusal::NotBencode)
+        refused.to_string(),
+        "The bytes are not canonical bencoding: Truncated at byte 0."
     );
+}
+
+#[test]
+fn a_refusal_names_the_key() {
+    let refused = Session::open(&b"d4:infodee"[..], true).unwrap_err();
+    assert_eq!(
+        refused,
+        Error::Torrent(TorrentRefusal::Missing(Key::MetaVersion))
+    );
+    assert_eq!(refused.status(), 103);
+    assert_eq!(
+        refused.to_string(),
+        "A key of the torrent is missing: meta version."
+    );
+}
+
+#[test]
+fn what_is_known_goes_to_another_session() {
+    let (mut session, content) = (opened(), file());
+    session
+        .take_hashes(&ask_of(&content), &leaves(&content))
+        .unwrap();
+    let (mut other, mut cursor) = (opened(), Cursor::default());
+    while let Some(frame) = session.export(&mut cursor).unwrap() {
+        other.frame(&frame[4..]).unwrap();
+    }
+    assert_eq!(other.counts(0).unwrap(), session.counts(0).unwrap());
+    let mut third = opened();
+    assert!(third.fill(0, 0, &leaves(&content)).unwrap() > 0);
+    assert_eq!(
+        third.fill(0, 0, &[]).unwrap_err(),
+        Error::Hashes(HashRefusal::BadCount)
+    );
+    assert_eq!(third.fill(99, 0, &[]).unwrap_err(), Error::NoSuch);
 }
 
 #[test]

@@ -10,7 +10,7 @@ ghost use Rattle.node_maps.specs.Places.{tree_height, IsTreePlace};
 ghost use Rattle.node_maps.specs.Runs.{AreKnown};
 ghost use Rattle.partial_tree.specs.Grown.{AddsRow, HasRow, parents_of};
 
-use crate::bytes::is_hash;
+use crate::bytes::recall_hash;
 use crate::message::row::{RowHashes, parents_of_rows};
 use hashtree::{Hash, NoMemory, parent, zero};
 use node_maps::NodeMap;
@@ -32,7 +32,7 @@ pub(crate) fn add<N: NodeMap>(
     ensures refused { OnErr result (N.seen map.new ≡ N.seen map.old) }
     ensures unheld { OnErr result (N.held map.new ≡ N.held map.old) }
 {
-    is_hash(&hash);
+    recall_hash(&hash);
     map.reserve(layer, index, 1)?;
     map.put(layer, index, hash);
     Ok(())

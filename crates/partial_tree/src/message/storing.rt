@@ -149,7 +149,7 @@ fn reserve_claimed<N: NodeMap>(
     requires place { IsTreePlace (tree_height (N.seen map.old).length) layer index }
     requires leads { LeadsTo evidence.now layer index }
     ensures seen { N.seen map.new ≡ N.seen map.old }
-    ensures ok { OnOk result (HasRoomFor (claimed_by evidence.now) (N.has_room map.new)) }
+    ensures room { OnOk result (HasRoomFor (claimed_by evidence.now) (N.has_room map.new)) }
     ensures few { OnOk result (N.held map.new ≤ N.held map.old + claimed_pages evidence.now layer) }
 {
     'rows: for below in evidence.base..layer {

@@ -14,7 +14,7 @@ bounds-trees-tree c =
     let d = c.args.torrent.now in let f = file_entry c.in-Some.file.now in
     let file : slice_get d.files c.args.number ≡ Some f = file_there d c.files.result.now c.args.number c.in-Some.file.now c.files.ensures
     c.in-Some.ensures.lookup.3.0 (c.in-Some.ensures.lookup.3.1 c.in-Some.file.now) in
-    info_inside d c.trees.result.now f c.in-Some-tree.tree c.trees.ensures (c.sound.ensures.files c.args.number f file) c.in-Some-tree.is
+    info_inside d c.trees.result.now f c.in-Some-tree.tree c.trees.ensures (c.recall_sound.ensures.files c.args.number f file) c.in-Some-tree.is
 
 pub offset_bounds-trees-tree : goal.offset_bounds-trees-tree
 offset_bounds-trees-tree c = let lt = bounds-trees-tree c in search rules
@@ -37,7 +37,8 @@ returns-in-Some-tree c =
     let d = c.args.torrent.now in let f = file_entry c.in-Some.file.now in
     let file : slice_get d.files c.args.number ≡ Some f = file_there d c.files.result.now c.args.number c.in-Some.file.now c.files.ensures
     c.in-Some.ensures.lookup.3.0 (c.in-Some.ensures.lookup.3.1 c.in-Some.file.now) in
-    let inside = info_inside d c.trees.result.now f c.in-Some-tree.tree c.trees.ensures (c.sound.ensures.files c.args.number f file) c.in-Some-tree.is in (
+    let inside = info_inside d c.trees.result.now f c.in-Some-tree.tree c.trees.ensures (c.recall_sound.ensures.files c.args.number f file)
+    c.in-Some-tree.is in (
       record {
         file = f;
         tree = c.in-Some-tree.tree;
@@ -45,5 +46,5 @@ returns-in-Some-tree c =
         tree_is = c.in-Some-tree.is;
         entry_is = info_there d c.trees.result.now c.in-Some-tree.tree none_there c.trees.ensures inside;
       },
-      info_sound d c.trees.result.now c.in-Some-tree.tree d.piece_length none_there c.trees.ensures inside c.sound.ensures refl,
+      info_sound d c.trees.result.now c.in-Some-tree.tree d.piece_length none_there c.trees.ensures inside c.recall_sound.ensures refl,
     )

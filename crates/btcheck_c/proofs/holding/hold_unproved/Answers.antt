@@ -75,6 +75,6 @@ pub pieces_of-pieces-requires-clause-few : goal.pieces_of-pieces-requires-clause
 pieces_of-pieces-requires-clause-few c =
     let v = c.args.blocks.now in
     let few : v.first + length v.refusals < 2 ^ 64 = few_blocks c.args.session.now v (length c.args.bytes.now) c.requires
-    (subst IsSound c.torrent.ensures c.sound.ensures) in
+    (subst IsSound c.torrent.ensures c.recall_sound.ensures) in
     let first : c.place-file.result.1 ≡ v.first + 0 = ap (λ (q : ℕ × ℕ). q.1) c.place-file.ensures in
     omega (arith, few, first, c.len.ensures.count)

@@ -6,7 +6,7 @@ use Rattle.c_layouts.proofs.file_info.file_info.Goals as goal
 
 pub tree_and_root-tree-requires : goal.tree_and_root-tree-requires
 tree_and_root-tree-requires c =
-    tree_inside c.args.torrent.now (file_entry c.in-Some.file.now) (c.sound.ensures.files c.args.number (file_entry c.in-Some.file.now)
+    tree_inside c.args.torrent.now (file_entry c.in-Some.file.now) (c.recall_sound.ensures.files c.args.number (file_entry c.in-Some.file.now)
     (file_there c.args.torrent.now c.files.result.now c.args.number c.in-Some.file.now c.files.ensures c.in-Some.ensures.lookup.3.0
     (c.in-Some.ensures.lookup.3.1 c.in-Some.file.now)))
 

@@ -2,8 +2,8 @@ use Rattle.std.proofs.Common.{◌∙◌, ap, refl, rules}
 use Rattle.commands.specs.Outcomes.{answer_status}
 use Rattle.commands.proofs.part_checks.check_part.Goals as goal
 
-pub returns-in-Ok-print_part-clause-checks : goal.returns-in-Ok-print_part-clause-checks
-returns-in-Ok-print_part-clause-checks g c = (
+pub returns-in-Ok-say_part-clause-checks : goal.returns-in-Ok-say_part-clause-checks
+returns-in-Ok-say_part-clause-checks g c = (
   c.in-Ok.report.files.items,
   c.in-Ok.report.v1,
   c.in-Ok.ensures.verdicts,
@@ -15,7 +15,7 @@ returns-in-Ok-print_part-clause-checks g c = (
       readable = c.in-Ok.ensures.readable;
     },
   ),
-  c.in-Ok-print_part.ensures,
+  c.in-Ok-say_part.ensures,
   c.status.ensures ∙ ap answer_status c.yes.ensures,
 )
 

@@ -14,9 +14,9 @@ add-requires g c =
     let file = given_is d (map (λ s. s.now) c.args.path.now) visits.0 c.in_ok-hashes.hashes hashes in
     record {
       cuts = has_cuts d _ _ _ file;
-      fits = fits_layer d _ visits.0 _ c.deref-2.result.now (subst IsPieceLength (sym c.requires.piece_length) c.is_legal.ensures) file
+      fits = fits_layer d _ visits.0 _ c.deref-2.result.now (subst IsPieceLength (sym c.requires.piece_length) c.recall_legal.ensures) file
           (c.deref-2.ensures.value ∙ hashes.layer_is)
-          (subst AreHashes (c.deref.ensures.value ∙ sym c.deref-2.ensures.value) c.are_hashes.ensures);
+          (subst AreHashes (c.deref.ensures.value ∙ sym c.deref-2.ensures.value) c.recall_hashes.ensures);
     }
 
 pub returns-clause-adds : goal.returns-clause-adds

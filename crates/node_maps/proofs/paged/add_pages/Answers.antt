@@ -15,11 +15,11 @@ returns-clause-keeps c =
     row-keeps rows.items c.args.layer c.index_mut-row.result.now c.reserve.new.self (omega (arith, rows.ok.0)) c.index_mut-row.ensures.value
     c.reserve.ensures.keeps
 
-pub returns-clause-ok : goal.returns-clause-ok
-returns-clause-ok c =
+pub returns-clause-there : goal.returns-clause-there
+returns-clause-there c =
     let rows = c.args.rows.now in
     on_ok_weaker c.reserve.result (row-has rows.items c.args.layer c.index_mut-row.result.now c.reserve.new.self (omega (arith, rows.ok.0))
-    c.index_mut-row.ensures.value c.args.first c.args.end) c.reserve.ensures.ok
+    c.index_mut-row.ensures.value c.args.first c.args.end) c.reserve.ensures.there
 
 pub returns-clause-few : goal.returns-clause-few
 returns-clause-few c =
@@ -31,7 +31,7 @@ pub returns-clause-refused : goal.returns-clause-refused
 returns-clause-refused c =
     let rows = c.args.rows.now in
     on_err_weaker c.reserve.result (row-as_many rows.items c.args.layer c.index_mut-row.result.now c.reserve.new.self (omega (arith, rows.ok.0))
-    c.index_mut-row.ensures.value) c.reserve.ensures.err
+    c.index_mut-row.ensures.value) c.reserve.ensures.refused
 
 pub returns-clause-no_memory : goal.returns-clause-no_memory
 returns-clause-no_memory c = λ there.

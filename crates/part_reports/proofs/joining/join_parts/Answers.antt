@@ -45,7 +45,7 @@ parts-preserved c =
     let parts = c.parts.invariant.0 in
     let part = c.parts.part in
     let parts_is = c.of-division.ensures.parts_is in
-    let did = c.in-Ok.ensures in
+    let did = c.in-Some-join_text.ensures in
     let p : MarkedPart = did.said in
     let old = c.parts.joined in
     let new = c.join_text.new.joined in
@@ -108,8 +108,8 @@ returns-in_default-clause-reason c =
     let there : c.parts.part < numbers.count = omega (arith, c.parts-test.true, c.parts.auto.part-end) in
     is_missing c.args.kind c.args.torrent.now texts numbers.parts.items numbers.count c.parts.part c.requires.named all there c.in_default.ensures.found
 
-pub returns-in-Err-NoReport-clause-reason : goal.returns-in-Err-NoReport-clause-reason
-returns-in-Err-NoReport-clause-reason c =
+pub returns-in-None-clause-reason : goal.returns-in-None-clause-reason
+returns-in-None-clause-reason c =
     let t = c.args.torrent.now in
     let k = c.args.kind in
     let none : Bor (List ℕ) = record { ref_ptr = (0, 0); now = [] } in
@@ -121,6 +121,6 @@ returns-in-Err-NoReport-clause-reason c =
     let within : place < length c.args.texts.now = omega (arith, c.in-Some.ensures.bound, c.requires.texts) in
     let at : slice_get texts place ≡ Some text = text_there c.args.texts.now place none text within refl in
     let head = c.requires.named.heads place part text at c.in-Some.ensures.found in
-    let why = rw c.in-Err-NoReport.field-0-is at c.in-Err-NoReport.ensures in
+    let why = c.in-None.ensures in
     reason_of_text k t texts part count place text at head
     (λ r. why (subst (λ n. IsReportOf k t part n text) (sym c.of-division.ensures.parts_is) r))

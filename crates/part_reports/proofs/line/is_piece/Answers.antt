@@ -10,7 +10,13 @@ overflow_add-end c =
     let t = c.args.torrent.now in
     let f = file_entry c.args.file.now in
     let end = sum_next (λ (g : FileEntry). piece_count t g) t c.requires.0 f c.requires.1 in
-    omega (arith, c.piece_count.ensures, end.1, c.sound.ensures.laid_out.first_pieces c.requires.0 f c.requires.1, c.sound.ensures.laid_out.pieces)
+    omega (
+      arith,
+      c.piece_count.ensures,
+      end.1,
+      c.recall_sound.ensures.laid_out.first_pieces c.requires.0 f c.requires.1,
+      c.recall_sound.ensures.laid_out.pieces,
+    )
 
 pub returns : goal.returns
 returns c = (

@@ -9,11 +9,10 @@ use Rattle.opening.specs.declared.torrent.File.{File}
 use Rattle.opening.proofs.Placing.{first_pieces_rise}
 use Rattle.folders.specs.declared.report.FileVerdict.{FileVerdict}
 use Rattle.parts.specs.Worse.{worse}
-use Rattle.part_reports.specs.Lines.{FailsToRead, HasFile, HasLines, JoinsLines}
+use Rattle.part_reports.specs.Lines.{HasFile, HasLines, JoinsLines}
 use Rattle.part_reports.specs.declared.marked_report.MarkedReport.{MarkedReport}
 use Rattle.part_reports.proofs.PassedFiles.{in_torrent}
 use Rattle.part_reports.proofs.Rooms.{room_for_file, room_stays}
-use Rattle.part_reports.proofs.Said.{fails_more}
 use Rattle.part_reports.proofs.SoFar.{LinesSoFar, end_there, file_there, joined_whole, so_far_next, so_far_none}
 use Rattle.part_reports.proofs.LinesAll.{so_far_all}
 use Rattle.part_reports.proofs.Windows.{off_before, off_behind, seen_length}
@@ -26,9 +25,9 @@ files-init c =
     let old = c.args.joined.now in
     let xs : List File = c.files-files.result.now in
     let of = c.files-files.ensures in
-    let rise = first_pieces_rise t.piece_length xs (subst (AreLaidOut t.piece_length) (sym of) c.sound.ensures.laid_out) in
+    let rise = first_pieces_rise t.piece_length xs (subst (AreLaidOut t.piece_length) (sym of) c.recall_sound.ensures.laid_out) in
     let begun = c.begun_before-begun.ensures in
-    let off = off_before t r xs c.begun_before-begun.result c.sound.ensures of (begun.point rise) begun.bound in
+    let off = off_before t r xs c.begun_before-begun.result c.recall_sound.ensures of (begun.point rise) begun.bound in
     let first = c.saturating_sub-i.ensures in
     let within : c.saturating_sub-i.result ≤ length t.files = omega (arith, first, begun.bound, seen_length t xs of) in
     record {
@@ -55,11 +54,11 @@ read_file-requires-clause-room c =
     let inside : i < length xs = omega (arith, c.files-test.true, c.begun_before-end.ensures.bound) in
     let file = c.index-files-i in
     let there = in_torrent t xs i file.result c.files-files.ensures inside ∙ ap (λ g. Some (file_entry g)) (sym file.is) in
-    room_for_file k t i (file_entry file.result) c.args.pieces c.files.joined.bad c.sound.ensures there c.requires.pieces
+    room_for_file k t i (file_entry file.result) c.args.pieces c.files.joined.bad c.recall_sound.ensures there c.requires.pieces
     (room_stays k c.args.pieces c.args.joined.now.bad c.files.joined.bad c.files.invariant.so_far.marks.count c.requires.room)
 
 pub returns-in_err-verdict : goal.returns-in_err-verdict
-returns-in_err-verdict c =
+returns-in_err-verdict c = rw c.from_residual.ensures (λ has.
     let t = c.args.torrent.now in
     let k = c.args.kind in
     let r = c.args.places in
@@ -68,17 +67,11 @@ returns-in_err-verdict c =
     let xs : List File = c.files-files.result.now in
     let i = c.files.i in
     let inside : i < length xs = omega (arith, c.files-test.true, c.begun_before-end.ensures.bound) in
-    let e = c.in_err-verdict.field-0.0 in
     let file = c.index-files-i in
     let f = file_entry file.result in
     let there = in_torrent t xs i file.result c.files-files.ensures inside ∙ ap (λ g. Some (file_entry g)) (sym file.is) in
-    let why : FailsToRead (HasLines k t r lines) e = fails_more (HasFile k t r f c.files.rest.now) (HasLines k t r lines) e
-    (file_there k t r lines old.report.files.items c.files.joined.report.files.items old.bad c.files.joined.bad i c.files.worst c.files.rest.now f
-    c.sound.ensures there c.files.invariant.so_far) c.in_err-verdict.ensures in
-    let p = err_from_is_err_and c.from_residual.result c.from_residual.ensures.1 in
-    let new : MarkedReport = record { report = c.files.joined.report; bad = c.read_file.new.bad } in
-    subst (λ x. MatchResult x (λ u. JoinsLines k t r lines old new) (FailsToRead (HasLines k t r lines))) (sym p.1)
-    (subst (FailsToRead (HasLines k t r lines)) (sym p.2) why)
+    c.in_err-verdict.ensures (file_there k t r lines old.report.files.items c.files.joined.report.files.items old.bad c.files.joined.bad i c.files.worst
+    c.files.rest.now f c.recall_sound.ensures there c.files.invariant.so_far has))
 
 pub files-preserved : goal.files-preserved
 files-preserved c =
@@ -102,7 +95,7 @@ files-preserved c =
     let len : length items ≡ length t.files = c.files.invariant.so_far.own ∙ c.requires.files in
     let a = item_at items i (omega (arith, within, len)) in
     let later = c.read_file.new.bad in
-    let next = so_far_next k t r lines old items was now later i c.files.worst c.files.rest.now f v a.0 more c.sound.ensures there a.1
+    let next = so_far_next k t r lines old items was now later i c.files.worst c.files.rest.now f v a.0 more c.recall_sound.ensures there a.1
     c.in_ok-verdict.ensures c.files.invariant.so_far in
     let worse_is : c.worse-worse_one.result ≡ worse a.0 v = c.worse-worse_one.ensures
     ∙ ap (λ z. worse z v) (c.index.ensures ∙ get_or_from_slice_get items i a.0 c.index.result.now a.1) in
@@ -113,20 +106,20 @@ files-preserved c =
       stays = c.files.invariant.stays;
     }
 
-pub returns-in_default : goal.returns-in_default
-returns-in_default c = λ has.
+pub returns-in_err-v1 : goal.returns-in_err-v1
+returns-in_err-v1 c = rw c.from_residual-in_err-v1.ensures (λ has.
     let t = c.args.torrent.now in
     let k = c.args.kind in
     let r = c.args.places in
     let old = c.args.joined.now in
     let xs : List File = c.files-files.result.now in
     let of = c.files-files.ensures in
-    let rise = first_pieces_rise t.piece_length xs (subst (AreLaidOut t.piece_length) (sym of) c.sound.ensures.laid_out) in
+    let rise = first_pieces_rise t.piece_length xs (subst (AreLaidOut t.piece_length) (sym of) c.recall_sound.ensures.laid_out) in
     let behind = off_behind t r xs c.begun_before-end.result of (c.begun_before-end.ensures.point rise) in
     let full = so_far_all k t r c.args.lines.now old.report.files.items c.files.joined.report.files.items old.bad c.files.joined.bad c.files.i c.files.worst
     c.files.rest.now c.files.invariant.within (λ n f le there. behind n f (omega (arith, le, c.files-test.false)) there) c.files.invariant.so_far in
-    c.in_default.ensures (end_there k t r c.args.lines.now old.report.files.items c.files.joined.report.files.items old.bad c.files.joined.bad c.files.worst
-    c.files.rest.now full has)
+    c.in_err-v1.ensures (end_there k t r c.args.lines.now old.report.files.items c.files.joined.report.files.items old.bad c.files.joined.bad c.files.worst
+    c.files.rest.now full has))
 
 pub returns : goal.returns
 returns c =
@@ -136,10 +129,10 @@ returns c =
     let old = c.args.joined.now in
     let xs : List File = c.files-files.result.now in
     let of = c.files-files.ensures in
-    let rise = first_pieces_rise t.piece_length xs (subst (AreLaidOut t.piece_length) (sym of) c.sound.ensures.laid_out) in
+    let rise = first_pieces_rise t.piece_length xs (subst (AreLaidOut t.piece_length) (sym of) c.recall_sound.ensures.laid_out) in
     let behind = off_behind t r xs c.begun_before-end.result of (c.begun_before-end.ensures.point rise) in
     let full = so_far_all k t r c.args.lines.now old.report.files.items c.files.joined.report.files.items old.bad c.files.joined.bad c.files.i c.files.worst
     c.files.rest.now c.files.invariant.within (λ n f le there. behind n f (omega (arith, le, c.files-test.false)) there) c.files.invariant.so_far in
-    joined_whole k t r c.args.lines.now old _ c.files.worst c.files.rest.now c.in-Some.v1 full c.in-Some.ensures
+    joined_whole k t r c.args.lines.now old _ c.files.worst c.files.rest.now c.in_ok-v1.v1 full c.in_ok-v1.ensures
     (c.join_v1.ensures.hybrid ∙ ap is_some c.files.invariant.stays)
     (λ a b one other. c.join_v1.ensures.version1 a b (c.files.invariant.stays ∙ one) other)

@@ -8,7 +8,7 @@ use Rattle.part_reports.proofs.runs.begins_rightly.Goals as goal
 pub overflow_add-result : goal.overflow_add-result
 overflow_add-result c =
     let r : Run = record { first = c.in-Some.first; last = c.in-Some.field-0-1 - 1 } in
-    let small = small_run c.args.torrent.now (file_entry c.args.file.now) c.args.from c.args.to r c.sound.ensures c.requires.file c.requires.inside
+    let small = small_run c.args.torrent.now (file_entry c.args.file.now) c.args.from c.args.to r c.recall_sound.ensures c.requires.file c.requires.inside
     c.in-Some.ensures.1 in
     omega (arith, small.0)
 
@@ -22,7 +22,8 @@ returns-in-Some c =
           (r, read.1, same_number (f.first_piece + r.first) c.in-Bad.piece on, (c.in-Some.field-0-2.now, read.2)),
       λ begins.
           let bad = subst (λ v. BeginsRightly t f c.args.from c.args.to v c.args.text.now) c.in-Bad.is begins in
-          let same = one_run t f c.args.from c.args.to r bad.0 c.in-Some.field-0-2.now bad.3.0 c.sound.ensures c.requires.file c.requires.inside read.1 bad.1
+          let same = one_run t f c.args.from c.args.to r bad.0 c.in-Some.field-0-2.now bad.3.0 c.recall_sound.ensures c.requires.file c.requires.inside
+          read.1 bad.1
           (sym read.2 ∙ bad.3.1) in
           number_same (f.first_piece + r.first) c.in-Bad.piece (ap (λ (x : Run). f.first_piece + x.first) same.0 ∙ bad.2),
     )

@@ -56,7 +56,7 @@ returns c =
       marks = c.runs.invariant.4;
       some = stopped t f c.args.from c.args.to c.runs.at runs c.args.text.now rest c.runs.invariant.2 c.runs.invariant.3 c.in_default.ensures;
       only = λ others more other is ends.
-          greedy t f c.args.from c.args.to runs others rest more c.sound.ensures c.requires.file c.requires.inside c.runs.invariant.1 other
+          greedy t f c.args.from c.args.to runs others rest more c.recall_sound.ensures c.requires.file c.requires.inside c.runs.invariant.1 other
           (sym c.runs.invariant.3 ∙ is) ends
           (subst (λ n. HasOneRun t f n c.args.to rest → ⊥) c.runs.invariant.2 c.in_default.ensures);
     }

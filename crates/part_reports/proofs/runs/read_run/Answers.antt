@@ -1,7 +1,6 @@
 use Rattle.std.proofs.Common.{◌≡◌, ◌+◌, ◌-◌, ◌++◌, ℕ, List, sym, ap, ap₂, ◌∙◌, arith}
 use Rattle.opening.specs.Seen.{file_entry}
 use Rattle.parts.specs.Runs.{Run, run_text}
-use Rattle.part_reports.proofs.Fronts.{front_same, front_there}
 use Rattle.part_reports.proofs.RunLines.{no_numbers, numbers_are}
 use Rattle.part_reports.proofs.runs.read_run.Goals.{then-from-at-via-then-from-at, then-from-at-via-else-from-at+then-end-from}
 use Rattle.part_reports.proofs.runs.read_run.Goals.{then-from-at-via-else-from-at+else-end-from+then-to-end}
@@ -9,32 +8,32 @@ use Rattle.part_reports.proofs.runs.read_run.Goals as goal
 
 pub returns-in_err-first : goal.returns-in_err-first
 returns-in_err-first c = rw c.from_residual.ensures (λ has.
-    no_numbers c.args.torrent.now (file_entry c.args.file.now) c.args.at c.args.to c.args.text.now c.sound.ensures c.requires.file c.requires.inside
+    no_numbers c.args.torrent.now (file_entry c.args.file.now) c.args.at c.args.to c.args.text.now c.recall_sound.ensures c.requires.file c.requires.inside
     c.in_err-first.ensures has)
 
 pub returns-in_err-from : goal.returns-in_err-from
 returns-in_err-from c = rw c.from_residual-in_err-from.ensures (λ has.
     let are = numbers_are c.args.torrent.now (file_entry c.args.file.now) c.args.at c.args.to c.args.text.now c.in_ok-first.first c.in_ok-first.last
-    c.sound.ensures c.requires.file c.requires.inside c.in_ok-first.ensures has in
+    c.recall_sound.ensures c.requires.file c.requires.inside c.in_ok-first.ensures has in
     c.in_err-from.ensures (omega (arith, are.0)))
 
 pub returns-in_err-checked_sub : goal.returns-in_err-checked_sub
 returns-in_err-checked_sub c = rw c.from_residual-in_err-checked_sub.ensures (λ has.
     let are = numbers_are c.args.torrent.now (file_entry c.args.file.now) c.args.at c.args.to c.args.text.now c.in_ok-first.first c.in_ok-first.last
-    c.sound.ensures c.requires.file c.requires.inside c.in_ok-first.ensures has in
+    c.recall_sound.ensures c.requires.file c.requires.inside c.in_ok-first.ensures has in
     c.in_err-checked_sub.ensures (omega (arith, are.1)))
 
 pub returns-in_err-end : goal.returns-in_err-end
 returns-in_err-end c = rw c.from_residual-in_err-end.ensures (λ has.
     let are = numbers_are c.args.torrent.now (file_entry c.args.file.now) c.args.at c.args.to c.args.text.now c.in_ok-first.first c.in_ok-first.last
-    c.sound.ensures c.requires.file c.requires.inside c.in_ok-first.ensures has in
+    c.recall_sound.ensures c.requires.file c.requires.inside c.in_ok-first.ensures has in
     c.in_err-end.ensures (omega (arith, c.in_ok-checked_sub.ensures.1, are.1, has.1.inside, c.ranges.to.fits)))
 
 pub returns-then-from-at : goal.returns-then-from-at
 returns-then-from-at c = λ has.
     let r = has.0 in
     let are = numbers_are c.args.torrent.now (file_entry c.args.file.now) c.args.at c.args.to c.args.text.now c.in_ok-first.first c.in_ok-first.last
-    c.sound.ensures c.requires.file c.requires.inside c.in_ok-first.ensures has in
+    c.recall_sound.ensures c.requires.file c.requires.inside c.in_ok-first.ensures has in
     let first : c.in_ok-from.from ≡ r.first = omega (arith, are.0, c.in_ok-from.ensures.1) in
     let last : c.in_ok-end.end ≡ r.last + 1 = omega (arith, are.1, c.in_ok-checked_sub.ensures.1, c.in_ok-end.ensures.1) in
     elim c.then-from-at.branch [
@@ -49,26 +48,19 @@ returns-in_err-rest c = rw c.from_residual-in_err-rest.ensures (λ has.
     let f = file_entry c.args.file.now in
     let r = has.0 in
     let are = numbers_are t f c.args.at c.args.to c.args.text.now c.in_ok-first.first c.in_ok-first.last
-    c.sound.ensures c.requires.file c.requires.inside c.in_ok-first.ensures has in
+    c.recall_sound.ensures c.requires.file c.requires.inside c.in_ok-first.ensures has in
     let first : c.in_ok-from.from ≡ r.first = omega (arith, are.0, c.in_ok-from.ensures.1) in
     let last : c.in_ok-end.end - 1 ≡ r.last = omega (arith, are.1, c.in_ok-checked_sub.ensures.1, c.in_ok-end.ensures.1) in
-    let front : List ℕ = c.as_slice.result.now in
     let run : ℕ → ℕ → Run = λ a b. record { first = a; last = b } in
-    let front_is : front ≡ run_text t f r = c.as_slice.ensures ∙ c.run_line.ensures ∙ ap (run_text t f) (ap₂ run first last) in
-    front_same front c.args.text.now has.2.0 (has.2.1 ∙ ap (λ x. x ++ has.2.0) (sym front_is)) (sym c.in_err-rest.ensures.cases))
+    c.in_err-rest.ensures (has.2.0, has.2.1 ∙ ap (λ s. run_text t f s ++ has.2.0) (sym (ap₂ run first last))))
 
 pub returns : goal.returns
-returns c =
-    let t = c.args.torrent.now in
-    let f = file_entry c.args.file.now in
-    let front : List ℕ = c.as_slice.result.now in
-    let rest : List ℕ = c.in_ok-rest.rest.now in
-    let front_is = c.as_slice.ensures ∙ c.run_line.ensures in (
-      omega (arith, c.if-end-from.false),
-      record {
-        low = omega (arith, c.if-from-at.false);
-        order = omega (arith, c.if-end-from.false);
-        inside = omega (arith, c.if-end-from.false, c.if-to-end.false);
-      },
-      front_there front c.args.text.now rest (sym c.in_ok-rest.ensures.cases.0) c.in_ok-rest.ensures.cases.1 ∙ ap (λ x. x ++ rest) front_is,
-    )
+returns c = (
+  omega (arith, c.if-end-from.false),
+  record {
+    low = omega (arith, c.if-from-at.false);
+    order = omega (arith, c.if-end-from.false);
+    inside = omega (arith, c.if-end-from.false, c.if-to-end.false);
+  },
+  c.in_ok-rest.ensures,
+)

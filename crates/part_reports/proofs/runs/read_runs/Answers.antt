@@ -23,6 +23,6 @@ returns-then-not-begins_rightly c =
 pub returns : goal.returns
 returns c =
     all_read c.args.torrent.now c.args.places (file_entry c.args.file.now) c.args.verdict c.args.text.now c.read_all.result.now c.args.bad.now
-    c.read_all.new.bad c.first_in-from.result c.end_in-to.result c.sound.ensures c.requires.file
+    c.read_all.new.bad c.first_in-from.result c.end_in-to.result c.recall_sound.ensures c.requires.file
     (record { from_is = c.first_in-from.ensures; to_is = c.end_in-to.ensures }) (sym c.has_runs.ensures ∙ c.if-not-has_runs.false)
     (c.begins_rightly.ensures.0 c.if-not-begins_rightly.false) c.read_all.ensures

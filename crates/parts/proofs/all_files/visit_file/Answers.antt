@@ -41,7 +41,7 @@ of_whole-requires g c =
     (ReadsPieces t f (up_to c.piece_count-count.result) c.taken.result c.visit-visited.new.reader.bits) c.args.shelf.now
     c.visit-visited.new.shelf _ f.path c.visit-visited.result c.in-Ok-Some.found c.visit-visited.ensures.visits path
     (c.in-Ok-Some.is ∙ ap Ok some) in
-    small_pieces t file.0 f _ c.in-Ok-Some.found c.sound.ensures file.1 (whole_shape t f _ all) v.handed.reading.inside
+    small_pieces t file.0 f _ c.in-Ok-Some.found c.recall_sound.ensures file.1 (whole_shape t f _ all) v.handed.reading.inside
 
 pub returns-in-Ok-Some-clause-found : goal.returns-in-Ok-Some-clause-found
 returns-in-Ok-Some-clause-found g c =
@@ -54,7 +54,7 @@ returns-in-Ok-Some-clause-found g c =
     (ReadsPieces t f (up_to c.piece_count-count.result) c.taken.result c.visit-visited.new.reader.bits) c.args.shelf.now
     c.visit-visited.new.shelf _ f.path c.visit-visited.result c.in-Ok-Some.found c.visit-visited.ensures.visits path
     (c.in-Ok-Some.is ∙ ap Ok some) in
-    whole_finds_it g.S.Shelf g.S.File.Source.seen t file.0 f c.sound.ensures file.1 _ (all_of t f c.piece_count-count.result c.piece_count-count.ensures)
+    whole_finds_it g.S.Shelf g.S.File.Source.seen t file.0 f c.recall_sound.ensures file.1 _ (all_of t f c.piece_count-count.result c.piece_count-count.ensures)
     c.taken.result c.visit-visited.new.reader.bits c.args.shelf.now c.visit-visited.new.shelf c.in-Ok-Some.found c.of_whole.result c.of_whole.ensures v
 
 pub returns-in-Ok-Some-clause-visits : goal.returns-in-Ok-Some-clause-visits
@@ -68,7 +68,8 @@ returns-in-Ok-Some-clause-visits g c =
     (ReadsPieces t f (up_to c.piece_count-count.result) c.taken.result c.visit-visited.new.reader.bits) c.args.shelf.now
     c.visit-visited.new.shelf _ f.path c.visit-visited.result c.in-Ok-Some.found c.visit-visited.ensures.visits path
     (c.in-Ok-Some.is ∙ ap Ok some) in
-    whole_visits_it g.S.Shelf g.S.File.Source.seen t file.0 f c.sound.ensures file.1 _ (all_of t f c.piece_count-count.result c.piece_count-count.ensures)
+    whole_visits_it g.S.Shelf g.S.File.Source.seen t file.0 f c.recall_sound.ensures file.1 _
+    (all_of t f c.piece_count-count.result c.piece_count-count.ensures)
     c.taken.result c.visit-visited.new.reader.bits c.args.shelf.now c.visit-visited.new.shelf c.in-Ok-Some.found c.of_whole.result c.of_whole.ensures v
 
 pub returns-in-Ok-None-clause-visits : goal.returns-in-Ok-None-clause-visits

@@ -18,8 +18,8 @@ first_byte-offset-requires g c =
     let s = c.args.span in
     let file = c.requires.file in
     let f = file_entry c.args.file.now in
-    let low = begins_within _ _ (begins t f s (pieces_are_positive t c.sound.ensures) (span_shape t c.args._places f s c.requires.span)) in
-    omega (arith, low, (c.sound.ensures.files file.0 f file.1).bound)
+    let low = begins_within _ _ (begins t f s (pieces_are_positive t c.recall_sound.ensures) (span_shape t c.args._places f s c.requires.span)) in
+    omega (arith, low, (c.recall_sound.ensures.files file.0 f file.1).bound)
 
 pub visit_at-visited-requires-clause-ready : goal.visit_at-visited-requires-clause-ready
 visit_at-visited-requires-clause-ready g c = record {
@@ -39,7 +39,7 @@ of_found-requires g c =
     let v = found_at g.S.Shelf g.S.SeekShelf.opens_at g.S.File.Source.seen (ReadsPieces t f s c.taken.result c.visit_at-visited.new.reader.bits)
     c.args.shelf.now c.visit_at-visited.new.shelf _ f.path c.first_byte-offset.result (t.piece_length * s.from) c.visit_at-visited.result c.in-Ok-Some.found
     c.visit_at-visited.ensures.visits path c.first_byte-offset.ensures (c.in-Ok-Some.is ∙ ap Ok some) in
-    small_pieces t file.0 f s c.in-Ok-Some.found c.sound.ensures file.1 (span_shape t c.args._places f s c.requires.span) v.handed.reading.inside
+    small_pieces t file.0 f s c.in-Ok-Some.found c.recall_sound.ensures file.1 (span_shape t c.args._places f s c.requires.span) v.handed.reading.inside
 
 pub returns-in-Ok-Some-clause-found : goal.returns-in-Ok-Some-clause-found
 returns-in-Ok-Some-clause-found g c =

@@ -9,4 +9,4 @@ returns-then-span-clause-judged g c =
     let f = file_entry c.args.file.now in
     let s = c.args.span in
     let same : s.from ≡ s.to = omega (arith, c.if-span.true) in
-    no_row t f s (g.F.Source.seen c.args.source.now) c.args.bits.now.items c.sound.ensures c.requires.span same c.requires.clear
+    no_row t f s (g.F.Source.seen c.args.source.now) c.args.bits.now.items c.recall_sound.ensures c.requires.span same c.requires.clear

@@ -50,7 +50,7 @@ returns-then-not-span-clause-found g c =
       each = λ bytes at. record {
         ends = λ on. absurd (off on);
         whole = row_whole t f s.from s.to row.own more.0 bytes _ _ row.judged
-            (begins_before t f s (pieces_are_positive t c.sound.ensures) c.requires.span) at;
+            (begins_before t f s (pieces_are_positive t c.recall_sound.ensures) c.requires.span) at;
         judged = row.judged.judged bytes more.0 at (λ all. absurd (off (c.requires.span.ends.1 all)));
         bits_of = row.bits_of bytes more.0 at;
         root = λ first on. absurd (off on);
@@ -82,7 +82,7 @@ returns-then-branch-gt0-clause-found g c =
     (Gave-take (S.seen c.judge.new.source) (S.seen c.read.new.self) n buf e.bound e.bytes.0 e.falls) in
     let more = agrees_more _ _ (row.own ++ take n buf) all.given in
     let on : s.ends ≡ true = let h = c.if-not-span.false in cc in
-    let over = all_read t f s.to (pieces_are_positive t c.sound.ensures) (c.requires.span.ends.0 on) in
+    let over = all_read t f s.to (pieces_are_positive t c.recall_sound.ensures) (c.requires.span.ends.0 on) in
     record {
       rest = (row.own ++ take n buf) ++ more.0;
       agrees = more.1;
@@ -122,25 +122,26 @@ returns-clause-found g c =
     let none : row.own ++ take n buf ≡ row.own = ap (λ k. row.own ++ take k buf) zero ∙ append-nil row.own in
     let ended = e.bytes.1 zero (omega (arith, c.read.auto.buf)) in
     let on : s.ends ≡ true = let h = c.if-not-span.false in cc in
-    let over = all_read t f s.to (pieces_are_positive t c.sound.ensures) (c.requires.span.ends.0 on) in
+    let over = all_read t f s.to (pieces_are_positive t c.recall_sound.ensures) (c.requires.span.ends.0 on) in
     record {
       rest = row.own ++ take n buf;
       agrees = agrees_end _ _ (row.own ++ take n buf) all.given ended;
       each = λ bytes at.
-          let len = as_long t f s.from s.to row.own bytes _ _ row.judged over (begins t f s (pieces_are_positive t c.sound.ensures) c.requires.span)
+          let len = as_long t f s.from s.to row.own bytes _ _ row.judged over (begins t f s (pieces_are_positive t c.recall_sound.ensures) c.requires.span)
           (at ∙ none) in
           let split = at ∙ none ∙ sym (append-nil row.own) in
           record {
             ends = λ _. len;
             whole = row_whole t f s.from s.to row.own [] bytes _ _ row.judged
-                (begins_before t f s (pieces_are_positive t c.sound.ensures) c.requires.span) split;
+                (begins_before t f s (pieces_are_positive t c.recall_sound.ensures) c.requires.span) split;
             judged = row.judged.judged bytes [] split (λ _. len);
             bits_of = row.bits_of bytes [] split;
             root = λ first _ tree is.
                 let start : t.piece_length * s.from ≡ 0 = ap (λ k. t.piece_length * k) first ∙ omega arith in
                 let same : bytes ≡ row.own = ap (λ k. drop k bytes) (sym start) ∙ at ∙ none in
                 let file = c.requires.file in
-                let some = some_pieces t.piece_length f.length (pieces_are_positive t c.sound.ensures) (has_tree t file.0 f tree c.sound.ensures file.1 is).1 in
+                let some = some_pieces t.piece_length f.length (pieces_are_positive t c.recall_sound.ensures)
+                (has_tree t file.0 f tree c.recall_sound.ensures file.1 is).1 in
                 let piece : s.from < s.to = omega (arith, first, c.requires.span.ends.0 on, some) in
                 let r = row.root piece tree is in (
                   λ yes. ap root_of same ∙ r.0 yes,

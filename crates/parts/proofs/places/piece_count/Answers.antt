@@ -5,10 +5,10 @@ use Rattle.pieces.specs.Pieces.{pieces_of}
 use Rattle.parts.proofs.places.piece_count.Goals as goal
 
 pub div_ceil-requires : goal.div_ceil-requires
-div_ceil-requires c = let p = pieces_are_positive c.args.torrent.now c.sound.ensures in omega (arith, p, c.piece_length.ensures)
+div_ceil-requires c = let p = pieces_are_positive c.args.torrent.now c.recall_sound.ensures in omega (arith, p, c.piece_length.ensures)
 
 pub returns : goal.returns
 returns c =
-    let p = pieces_are_positive c.args.torrent.now c.sound.ensures in
+    let p = pieces_are_positive c.args.torrent.now c.recall_sound.ensures in
     c.div_ceil.ensures ∙ ceil_is c.args.length c.piece_length.result (omega (arith, p, c.piece_length.ensures))
     ∙ ap (λ p. pieces_of p c.args.length) c.piece_length.ensures

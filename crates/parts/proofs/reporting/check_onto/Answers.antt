@@ -4,7 +4,7 @@ use Rattle.folders.specs.Printed.{report_as}
 use Rattle.folders.specs.Stopping.{BreaksOffAs}
 use Rattle.folders.proofs.AsTexts.{worded_is}
 use Rattle.parts.specs.Checking.{ChecksAndSays, shelf_and_sink}
-use Rattle.parts.specs.declared.all_files.CheckFault.TheVariants as stopped
+use Rattle.lines.specs.declared.out_fault.OutFault.TheVariants as stopped
 use Rattle.parts.specs.declared.telling.Telling.TheVariants as telling
 use Rattle.parts.proofs.AsTexts.{words_are}
 use Rattle.parts.proofs.reporting.check_onto.Goals as goal

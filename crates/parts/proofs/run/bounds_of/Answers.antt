@@ -33,25 +33,27 @@ fits t f from to sound file lt le =
 pub overflow_add-result : goal.overflow_add-result
 overflow_add-result c = omega (
   arith,
-  (fits c.args.torrent.now (file_entry c.args.file.now) c.args.from c.args.to c.sound.ensures c.requires.file
+  (fits c.args.torrent.now (file_entry c.args.file.now) c.args.from c.args.to c.recall_sound.ensures c.requires.file
       c.requires.some c.requires.inside).first,
 )
 
 pub overflow_add-result-2 : goal.overflow_add-result-2
 overflow_add-result-2 c = omega (
   arith,
-  (fits c.args.torrent.now (file_entry c.args.file.now) c.args.from c.args.to c.sound.ensures c.requires.file
+  (fits c.args.torrent.now (file_entry c.args.file.now) c.args.from c.args.to c.recall_sound.ensures c.requires.file
       c.requires.some c.requires.inside).last,
 )
 
 pub overflow_mul-result : goal.overflow_mul-result
 overflow_mul-result c =
     let same = ap (λ p. p * c.args.from) c.piece_length-piece_length.ensures in
-    let fit = fits c.args.torrent.now (file_entry c.args.file.now) c.args.from c.args.to c.sound.ensures c.requires.file c.requires.some c.requires.inside in
+    let fit = fits c.args.torrent.now (file_entry c.args.file.now) c.args.from c.args.to c.recall_sound.ensures c.requires.file c.requires.some
+    c.requires.inside in
     omega (arith, same, fit.begins)
 
 pub overflow_mul-piece_length : goal.overflow_mul-piece_length
 overflow_mul-piece_length c =
     let same = ap (λ p. p * c.args.to) c.piece_length-piece_length.ensures in
-    let fit = fits c.args.torrent.now (file_entry c.args.file.now) c.args.from c.args.to c.sound.ensures c.requires.file c.requires.some c.requires.inside in
+    let fit = fits c.args.torrent.now (file_entry c.args.file.now) c.args.from c.args.to c.recall_sound.ensures c.requires.file c.requires.some
+    c.requires.inside in
     omega (arith, same, fit.ends)

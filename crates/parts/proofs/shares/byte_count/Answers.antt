@@ -10,7 +10,7 @@ overflow_add-bytes c =
     let t = c.args.torrent.now in
     let there = file_there t c.files-file-items.result.now c.files.file-index c.file-item.result c.files-file-items.ensures c.files-test.true c.file-item.is in
     let next = sum_next (λ (f : FileEntry). f.length) t c.files.file-index (file_entry c.file-item.result) there in
-    omega (arith, c.files.invariant, next.1, bytes_fit t c.sound.ensures)
+    omega (arith, c.files.invariant, next.1, bytes_fit t c.recall_sound.ensures)
 
 pub files-preserved : goal.files-preserved
 files-preserved c =

@@ -11,7 +11,7 @@ overflow_add-pieces c =
     let t = c.args.torrent.now in
     let there = file_there t c.files-file-items.result.now c.files.file-index c.file-item.result c.files-file-items.ensures c.files-test.true c.file-item.is in
     let next = sum_next (λ (f : FileEntry). pieces_of t.piece_length f.length) t c.files.file-index (file_entry c.file-item.result) there in
-    omega (arith, c.files.invariant, c.piece_count-pieces.ensures, next.1, c.sound.ensures.laid_out.pieces)
+    omega (arith, c.files.invariant, c.piece_count-pieces.ensures, next.1, c.recall_sound.ensures.laid_out.pieces)
 
 pub files-preserved : goal.files-preserved
 files-preserved c =

@@ -12,9 +12,9 @@ overflow_add-result c =
     let t = c.args.torrent.now in
     let f = file_entry c.file-item.result in
     let there = file_there t c.files-file-items.result.now c.files.file-index c.file-item.result c.files-file-items.ensures c.files-test.true c.file-item.is in
-    let low = start_fits t c.files.file-index f c.sound.ensures there in
+    let low = start_fits t c.files.file-index f c.recall_sound.ensures there in
     let within : c.files.left / c.piece_length-piece_length.result ≤ c.files.left = div-le_self c.files.left c.piece_length-piece_length.result in
-    let bound = (c.sound.ensures.files c.files.file-index f there).bound in
+    let bound = (c.recall_sound.ensures.files c.files.file-index f there).bound in
     omega (arith, low.0, within, bound, c.if-left-file.true)
 
 pub returns-then-left-file : goal.returns-then-left-file

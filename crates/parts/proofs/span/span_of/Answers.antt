@@ -18,9 +18,9 @@ overflow_add-last c =
       c.piece_count-count.ensures,
       c.max.ensures,
       pieces_next t file.0 (file_entry c.args.file.now) file.1,
-      c.sound.ensures.laid_out.first_pieces file.0 (file_entry c.args.file.now) file.1,
+      c.recall_sound.ensures.laid_out.first_pieces file.0 (file_entry c.args.file.now) file.1,
       sum_by-take-le f_pieces t.files (file.0 + 1),
-      c.sound.ensures.laid_out.pieces,
+      c.recall_sound.ensures.laid_out.pieces,
     )
 
 -- the last place, as it is computed

@@ -132,7 +132,8 @@ returns-clause-ends g c =
       c.files.files.small,
     ) in
     told_all V (words_as g.L.LineSink.spelled) t c.args.telling (shelf_and_sink c.args.shelf.now (g.L.LineSink.seen c.args.out.now))
-    (shelf_and_sink c.files.shelf (g.L.LineSink.seen c.files.out)) c.files.file-index c.files.files.items c.files.v1 c.match-v1.v1 c.sound.ensures all few
+    (shelf_and_sink c.files.shelf (g.L.LineSink.seen c.files.out)) c.files.file-index c.files.files.items c.files.v1 c.match-v1.v1 c.recall_sound.ensures all
+    few
     (elim c.match-v1.branch [
       | in-Some w ↦ ap is_some w.v1-is ∙ sym (hybrid ∙ ap is_some w.in-Some.is)
       | in-None w ↦ ap is_some w.v1-is ∙ sym (hybrid ∙ ap is_some w.in-None.is)

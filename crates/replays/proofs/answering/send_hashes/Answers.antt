@@ -8,4 +8,4 @@ returns-in_default g c = search rules
 
 pub write_answer-requires : goal.write_answer-requires
 write_answer-requires g c =
-    few_hashes c.args.session.now c.args.ask c.in-Ok.answer (subst IsSound c.torrent.ensures c.sound.ensures) c.in-Ok.ensures.answer
+    few_hashes c.args.session.now c.args.ask c.in-Ok.answer (subst IsSound c.torrent.ensures c.recall_sound.ensures) c.in-Ok.ensures.answer

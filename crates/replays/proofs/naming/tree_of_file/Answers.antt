@@ -10,7 +10,7 @@ pub returns-then-file-files-clause-there : goal.returns-then-file-files-clause-t
 returns-then-file-files-clause-there c =
     let count : length c.files.result.now ≡ length c.args.torrent.now.files =
     sym (length-map c.files.result.now file_entry) ∙ ap length c.files.ensures in
-    tree-there c.args.torrent.now c.args.file c.tree_of.result c.sound.ensures (omega (arith, count, c.if-file-files.true)) c.tree_of.ensures
+    tree-there c.args.torrent.now c.args.file c.tree_of.result c.recall_sound.ensures (omega (arith, count, c.if-file-files.true)) c.tree_of.ensures
 
 pub returns-else-file-files-clause-value : goal.returns-else-file-files-clause-value
 returns-else-file-files-clause-value c =

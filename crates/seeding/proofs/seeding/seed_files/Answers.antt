@@ -3,8 +3,8 @@ use Rattle.std.proofs.lemmas.Result.{err_from_is_err_and}
 use Rattle.benc.specs.Device.{SinkSeen, SourceSeen}
 use Rattle.folders.specs.declared.shelf.Shelf.{Ghosts}
 use Rattle.session.specs.Session.{SessionSeen}
-use Rattle.seeding.specs.declared.seed_fault.SeedFault.{SeedFault}
-use Rattle.seeding.specs.declared.seed_fault.SeedFault.TheVariants as fault
+use Rattle.lines.specs.declared.out_fault.OutFault.{OutFault as SeedFault}
+use Rattle.lines.specs.declared.out_fault.OutFault.TheVariants as fault
 use Rattle.opening.specs.Description.{FileEntry}
 use Rattle.opening.specs.Seen.{file_entry}
 use Rattle.opening.proofs.Placing.{file_there}

@@ -18,4 +18,4 @@ returns g c =
     ∙ ap (λ n. height (block_count n)) (subst (λ o. IfSome o (λ s. s ≡ c.bytes.result)) c.unwrap.ensures c.of.ensures.value ∙ c.bytes.ensures.value) in
     planted_layers c.args.piece_length _ (subst IsPieceLength c.bytes.ensures.value c.bytes.ensures.legal) c.requires.sound c.requires.longer c.args.tree.now
     c.requires.planted c.height-layer.result at
-    c.plant.new.self _ c.are_hashes.ensures c.in_ok-plant.ensures.planted
+    c.plant.new.self _ c.recall_hashes.ensures c.in_ok-plant.ensures.planted

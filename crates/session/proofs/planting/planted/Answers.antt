@@ -17,14 +17,14 @@ add_layers-requires-clause-longer g c = omega (arith, c.if-info-bytes.true, c.by
 pub add_layers-requires-clause-planted : goal.add_layers-requires-clause-planted
 add_layers-requires-clause-planted g c =
     let shape : c.unwrap.result ≡ c.args.info.now.length = subst (λ o. IfSome o (λ s. s ≡ c.args.info.now.length)) c.unwrap.ensures c.of.ensures.value in
-    planted_root c.args.piece_length (tree_entry c.args.info.now) c.in_ok-tree.tree c.requires c.is_hash.ensures
+    planted_root c.args.piece_length (tree_entry c.args.info.now) c.in_ok-tree.tree c.requires c.recall_hash.ensures
     (c.in_ok-tree.ensures ∙ ap (root_only c.args.info.now.root) shape)
 
 pub returns : goal.returns
 returns g c =
     let shape : c.unwrap.result ≡ c.args.info.now.length = subst (λ o. IfSome o (λ s. s ≡ c.args.info.now.length)) c.unwrap.ensures c.of.ensures.value in
     let root : IsPlanted c.args.piece_length false (tree_entry c.args.info.now) c.in_ok-tree.tree =
-    planted_root c.args.piece_length (tree_entry c.args.info.now) c.in_ok-tree.tree c.requires c.is_hash.ensures
+    planted_root c.args.piece_length (tree_entry c.args.info.now) c.in_ok-tree.tree c.requires c.recall_hash.ensures
     (c.in_ok-tree.ensures ∙ ap (root_only c.args.info.now.root) shape) in
     elim c.if-with_layers.branch [
       | then-with_layers+then-info-bytes+in_ok-add_layers w ↦

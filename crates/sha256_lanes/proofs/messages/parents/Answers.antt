@@ -10,5 +10,5 @@ returns c j lt =
     let value =
     c.pair_values-state.ensures j lt
     ∙ ap (λ bytes. final_hash initial_hash_256 (message bytes 64 j)) c.as_flattened.ensures.value
-    ∙ ap (final_hash initial_hash_256) (message_of_pair c.args.hashes.now j c.are_hashes.ensures (omega arith)) in
+    ∙ ap (final_hash initial_hash_256) (message_of_pair c.args.hashes.now j c.recall_hashes.ensures (omega arith)) in
     c.digests_of.ensures j lt ∙ ap (λ (h : List ℕ). digest_bytes h 8) value

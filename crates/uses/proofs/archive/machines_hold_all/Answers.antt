@@ -11,5 +11,5 @@ on_yes false Holds holds = tt
 pub returns : goal.returns
 returns c = on_yes c.yes.result (HoldAllApart c.args.torrent.now (map (λ x. x.now) c.args.reports.now)) (λ yes own are.
     let report = c.in_ok-report.report in
-    c.yes_of_texts_apart.ensures c.args.torrent.now (map (λ x. x.now) c.args.reports.now) own report.files.items report.v1 c.sound.ensures are
+    c.yes_of_texts_apart.ensures c.args.torrent.now (map (λ x. x.now) c.args.reports.now) own report.files.items report.v1 c.recall_sound.ensures are
     c.in_ok-report.ensures.joined (sym c.yes.ensures ∙ yes))

@@ -28,5 +28,6 @@ invariant_of-self-2 c =
           (subst (λ h. c.args.from + c.args.count ≤ 2 ^ (h - c.args.layer)) (sym flat.is_height) c.requires.range);
       leaves_have_marks = lengthened-marks c.args.layer (c.args.from + c.args.count) (vec_len c.add_marks.new.marks) c.add_rows.new.rows.items
           c.lengthen.new.rows.items
-          (omega (arith, c.add_rows.ensures.same 0, c.add_marks.ensures.longer)) c.lengthen.ensures.others c.lengthen.ensures.most c.in_ok-add_marks.ensures.ok;
+          (omega (arith, c.add_rows.ensures.same 0, c.add_marks.ensures.longer)) c.lengthen.ensures.others c.lengthen.ensures.most
+          c.in_ok-add_marks.ensures.reaches;
     }

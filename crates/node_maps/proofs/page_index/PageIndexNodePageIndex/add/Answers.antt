@@ -31,22 +31,22 @@ invariant_of-self-in-Err g c =
           ∙ sym (ap length numbers);
     }
 
-pub returns-in-Ok-clause-ok : goal.returns-in-Ok-clause-ok
-returns-in-Ok-clause-ok g c =
+pub returns-in-Ok-clause-added : goal.returns-in-Ok-clause-added
+returns-in-Ok-clause-added g c =
     let s = c.args.self.now in
     let is = subst (λ ns. IsNumberAt ns (c.args.number / 2 ^ s.shift) c.in-Ok.at) c.deref.ensures.value c.in-Ok.ensures.at in
     on_ok_weaker c.add.result (λ changed. under-set g.D.PageIndex.find s.numbers.items s.lists.items s.rising s.beside s.shift c.args.number c.in-Ok.at is
-    c.index_mut-list.result.now c.add.new.self c.index_mut-list.ensures.value (Some c.args.page) changed) c.add.ensures.ok
+    c.index_mut-list.result.now c.add.new.self c.index_mut-list.ensures.value (Some c.args.page) changed) c.add.ensures.added
 
-pub returns-in-Ok-clause-err : goal.returns-in-Ok-clause-err
-returns-in-Ok-clause-err g c =
+pub returns-in-Ok-clause-unchanged : goal.returns-in-Ok-clause-unchanged
+returns-in-Ok-clause-unchanged g c =
     let s = c.args.self.now in
     let is = subst (λ ns. IsNumberAt ns (c.args.number / 2 ^ s.shift) c.in-Ok.at) c.deref.ensures.value c.in-Ok.ensures.at in
     on_err_weaker c.add.result (λ alike. under-alike g.D.PageIndex.find s.numbers.items s.lists.items s.rising s.beside s.shift c.args.number c.in-Ok.at is
-    c.index_mut-list.result.now c.add.new.self c.index_mut-list.ensures.value alike) c.add.ensures.err
+    c.index_mut-list.result.now c.add.new.self c.index_mut-list.ensures.value alike) c.add.ensures.unchanged
 
-pub returns-in_ok-add-in-Err-clause-ok : goal.returns-in_ok-add-in-Err-clause-ok
-returns-in_ok-add-in-Err-clause-ok g c =
+pub returns-in_ok-add-in-Err-clause-added : goal.returns-in_ok-add-in-Err-clause-added
+returns-in_ok-add-in-Err-clause-added g c =
     let s = c.args.self.now in
     let find = g.D.PageIndex.find in
     let key : ℕ = c.args.number / 2 ^ s.shift in
@@ -59,7 +59,7 @@ returns-in_ok-add-in-Err-clause-ok g c =
     ∙ ap (λ ys. find_under find (insert s.numbers.items c.in-Err.at key) ys s.shift n) lists
     ∙ under-insert find s.numbers.items s.lists.items s.rising s.beside s.shift c.args.number c.in-Err.at gap (find c.new-list.result) c.new-list.ensures.none
     c.add-in-Err.new.self (Some c.args.page)
-    c.in_ok-add-in-Err.ensures.ok n
+    c.in_ok-add-in-Err.ensures.added n
 
 pub insert_reserved-requires-in-Err-clause-within : goal.insert_reserved-requires-in-Err-clause-within
 insert_reserved-requires-in-Err-clause-within g c =

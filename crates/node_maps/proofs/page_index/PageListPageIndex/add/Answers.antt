@@ -6,8 +6,8 @@ use Rattle.node_maps.specs.declared.page.Page.{Page}
 use Rattle.node_maps.proofs.Rising.{rising-insert, insert-beside, insert-found, found_some}
 use Rattle.node_maps.proofs.page_index.PageListPageIndex.add.Goals as goal
 
-pub returns-in-Err-clause-ok : goal.returns-in-Err-clause-ok
-returns-in-Err-clause-ok c =
+pub returns-in-Err-clause-added : goal.returns-in-Err-clause-added
+returns-in-Err-clause-added c =
     let s = c.args.self.now in
     let ns : List ℕ = s.numbers.items in
     let ps : List Page = s.pages.items in
@@ -20,8 +20,8 @@ returns-in-Err-clause-ok c =
     ∙ ap (λ ys. page_numbered (insert ns c.in-Err.at c.args.number) ys n) pages
     ∙ insert-found ns ps s.rising s.beside c.args.number c.in-Err.at gap c.args.page n
 
-pub returns-in_default-clause-ok : goal.returns-in_default-clause-ok
-returns-in_default-clause-ok c =
+pub returns-in_default-clause-added : goal.returns-in_default-clause-added
+returns-in_default-clause-added c =
     let s = c.args.self.now in
     let is = subst (λ xs. IsNumberAt xs c.args.number c.in_default.field-0) (c.deref.ensures.value ∙ c.make_room.ensures.numbers) c.in_default.ensures.at in
     absurd (false≢true (sym (ap is_some c.requires) ∙ found_some s.numbers.items s.pages.items c.args.number c.in_default.field-0 s.beside is))

@@ -15,9 +15,9 @@ returns-in-Err-clause-keeps c =
     let back : AreAlike base (pages_of c.give_back.new.self) = (c.give_back.ensures.restored base row.fresh.items row.count long grown).0 in
     λ n was. subst IsSome (sym (back n)) was
 
-pub returns-in-Err-clause-err : goal.returns-in-Err-clause-err
+pub returns-in-Err-clause-refused : goal.returns-in-Err-clause-refused
 unfolding pages_of
-returns-in-Err-clause-err c =
+returns-in-Err-clause-refused c =
     let row = c.args.self.now in
     let base = pages_of row in
     let grown = grown-one base row.fresh.items row.count (pages_of c.numbers.self) c.numbers.self.fresh.items c.numbers.self.count (pages_of c.make.new.self)
@@ -35,7 +35,7 @@ numbers-preserved c =
       cells = λ i. now.cells i ∙ before.cells i;
       keeps = λ n was. now.keeps n (before.keeps n was);
       done = λ n low high. elim (eq-or-lt_of_le (let to : n ≤ c.numbers.number = omega arith in to)) [
-        | inl same ↦ subst (HasRowPage c.make.new.self) (sym same) c.in_default.ensures.ok
+        | inl same ↦ subst (HasRowPage c.make.new.self) (sym same) c.in_default.ensures.there
         | inr less ↦ now.keeps n (before.done n low less)
       ];
       few = omega (arith, before.few, now.few);

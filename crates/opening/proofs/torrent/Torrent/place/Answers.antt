@@ -7,21 +7,21 @@ use Rattle.opening.proofs.torrent.Torrent.place.Goals as goal
 
 pub overflow_mul-address : goal.overflow_mul-address
 overflow_mul-address c =
-    let bounds = legal_bounds c.args.self.now.piece_length c.sound.ensures.legal in
+    let bounds = legal_bounds c.args.self.now.piece_length c.recall_sound.ensures.legal in
     let small : c.piece_length-piece_length.result ≤ 2 ^ 30 = omega (arith, bounds.1) in
     let product = mul-le-mul_left c.from.result small in omega (arith, product)
 
 pub overflow_add-address : goal.overflow_add-address
 overflow_add-address c =
-    let bounds = legal_bounds c.args.self.now.piece_length c.sound.ensures.legal in
+    let bounds = legal_bounds c.args.self.now.piece_length c.recall_sound.ensures.legal in
     let small : c.piece_length-piece_length.result ≤ 2 ^ 30 = omega (arith, bounds.1) in
     let product = mul-le-mul_left c.from.result small in omega (arith, product)
 
 pub place_at-requires-clause-some : goal.place_at-requires-clause-some
-place_at-requires-clause-some c = let bounds = legal_bounds c.args.self.now.piece_length c.sound.ensures.legal in omega (arith, bounds.0)
+place_at-requires-clause-some c = let bounds = legal_bounds c.args.self.now.piece_length c.recall_sound.ensures.legal in omega (arith, bounds.0)
 
 pub place_at-requires-clause-bound : goal.place_at-requires-clause-bound
-place_at-requires-clause-bound c = let bounds = legal_bounds c.args.self.now.piece_length c.sound.ensures.legal in omega (arith, bounds.1)
+place_at-requires-clause-bound c = let bounds = legal_bounds c.args.self.now.piece_length c.recall_sound.ensures.legal in omega (arith, bounds.1)
 
 pub returns-clause-found : goal.returns-clause-found
 returns-clause-found c =
@@ -31,5 +31,5 @@ returns-clause-found c =
 pub returns-clause-only : goal.returns-clause-only
 returns-clause-only c =
     let value : c.place_at.result ≡ place_of c.args.self.now c.args.index c.args.begin = search rules in
-    let bounds = legal_bounds c.args.self.now.piece_length c.sound.ensures.legal in
-    λ f b place. value ∙ place_is_only c.args.self.now c.args.index c.args.begin f b (omega (arith, bounds.0)) c.sound.ensures.laid_out place
+    let bounds = legal_bounds c.args.self.now.piece_length c.recall_sound.ensures.legal in
+    λ f b place. value ∙ place_is_only c.args.self.now c.args.index c.args.begin f b (omega (arith, bounds.0)) c.recall_sound.ensures.laid_out place

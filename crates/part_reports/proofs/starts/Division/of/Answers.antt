@@ -11,14 +11,14 @@ overflow_add-bytes c =
     let t = c.args.torrent.now in
     let there = file_there t c.files-file-items.result.now c.files.file-index c.file-item.result c.files-file-items.ensures c.files-test.true c.file-item.is in
     let next = sum_next (λ (f : FileEntry). f.length) t c.files.file-index (file_entry c.file-item.result) there in
-    omega (arith, c.files.invariant.bytes, next.1, bytes_fit t c.sound.ensures)
+    omega (arith, c.files.invariant.bytes, next.1, bytes_fit t c.recall_sound.ensures)
 
 pub overflow_add-pieces : goal.overflow_add-pieces
 overflow_add-pieces c =
     let t = c.args.torrent.now in
     let there = file_there t c.files-file-items.result.now c.files.file-index c.file-item.result c.files-file-items.ensures c.files-test.true c.file-item.is in
     let next = sum_next (λ (f : FileEntry). piece_count t f) t c.files.file-index (file_entry c.file-item.result) there in
-    omega (arith, c.files.invariant.pieces, c.piece_count-pieces.ensures, next.1, c.sound.ensures.laid_out.pieces)
+    omega (arith, c.files.invariant.pieces, c.piece_count-pieces.ensures, next.1, c.recall_sound.ensures.laid_out.pieces)
 
 pub files-preserved : goal.files-preserved
 files-preserved c =

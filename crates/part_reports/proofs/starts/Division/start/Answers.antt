@@ -9,4 +9,4 @@ overflow_mul-self c =
     let parts = c.args.self.now.parts in
     let le = part_byte (all_bytes t) parts c.args.part c.requires.there in
     let is : c.args.self.now.part_bytes * c.args.part ≡ all_bytes t / parts * c.args.part = ap (λ k. k * c.args.part) c.requires.division.bytes_is in
-    omega (arith, is, le, bytes_fit t c.sound.ensures)
+    omega (arith, is, le, bytes_fit t c.recall_sound.ensures)

@@ -37,9 +37,18 @@ overflow_add-result c =
     let f = file_entry (get_or xs i d) in
     let end = sum_next (λ (g : FileEntry). piece_count t g) t i f there in
     let within : c.files.left / c.piece_length-piece_length.result ≤ c.files.left = div-le_self c.files.left c.piece_length-piece_length.result in
-    let bound = (c.sound.ensures.files i f there).bound in
+    let bound = (c.recall_sound.ensures.files i f there).bound in
     let same = ap (λ (g : File). g.length) (same_default xs i c.index-files-i.result d inside) in
-    omega (arith, end.1, c.sound.ensures.laid_out.first_pieces i f there, c.sound.ensures.laid_out.pieces, within, bound, same, c.if-left-files.true)
+    omega (
+      arith,
+      end.1,
+      c.recall_sound.ensures.laid_out.first_pieces i f there,
+      c.recall_sound.ensures.laid_out.pieces,
+      within,
+      bound,
+      same,
+      c.if-left-files.true,
+    )
 
 pub returns-then-left-files-clause-place : goal.returns-then-left-files-clause-place
 returns-then-left-files-clause-place c =

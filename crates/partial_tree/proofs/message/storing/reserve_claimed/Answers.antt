@@ -49,13 +49,13 @@ rows-preserved g c =
             let from : c.row-first.result.0 ≤ i = omega (arith, subst (λ l. row_first e l ≤ i) same at.1, c.row-first.ensures.first) in
             let to : i < c.row-first.result.0 + c.row-first.result.1 =
             omega (arith, subst (λ l. i < row_first e l + 2 ^ row_height e l) same at.2, c.row-first.ensures.first, c.row-first.ensures.count) in
-            subst (λ l. has l i) (sym same) (now.ok i (omega (arith, from)) (omega (arith, to)))
+            subst (λ l. has l i) (sym same) (now.room i (omega (arith, from)) (omega (arith, to)))
         | inr low ↦ now.keeps k i (before.room k i is low)
       ];
     }
 
-pub returns-clause-ok : goal.returns-clause-ok
-returns-clause-ok g c = on_ok_weaker c.reserve-2.result (λ top l i is.
+pub returns-clause-room : goal.returns-clause-room
+returns-clause-room g c = on_ok_weaker c.reserve-2.result (λ top l i is.
     let under = c.requires.leads.under_top l i is.0 is.1 in
     elim (eq-or-lt_of_le under.0) [
       | inl same ↦
@@ -63,7 +63,7 @@ returns-clause-ok g c = on_ok_weaker c.reserve-2.result (λ top l i is.
           let here : i ≡ c.args.index = sym (div-one i) ∙ sym (ap (λ k. i / 2 ^ k) none) ∙ under.1 in
           subst (λ k. g.N.NodeMap.has_room c.reserve-2.new.self k i) (sym same) (top i (omega arith) (omega arith))
       | inr low ↦ c.reserve-2.ensures.keeps l i (c.rows.invariant.room l i is (omega (arith, c.rows-test.false)))
-    ]) c.reserve-2.ensures.ok
+    ]) c.reserve-2.ensures.room
 
 pub returns-clause-few : goal.returns-clause-few
 returns-clause-few g c = on_ok_weaker c.reserve-2.result (λ few.

@@ -19,7 +19,7 @@ returns-then-is_err-clause-refused g c = (
 )
 
 pub put_found-gained-requires-clause-room : goal.put_found-gained-requires-clause-room
-put_found-gained-requires-clause-room g c = on_ok c.reserve_claimed.result _ c.reserve_claimed.ensures.ok (sym c.is_err.ensures.value ∙ c.if-is_err.false)
+put_found-gained-requires-clause-room g c = on_ok c.reserve_claimed.result _ c.reserve_claimed.ensures.room (sym c.is_err.ensures.value ∙ c.if-is_err.false)
 
 pub put_found-gained-requires-clause-handled : goal.put_found-gained-requires-clause-handled
 put_found-gained-requires-clause-handled g c =

@@ -22,7 +22,7 @@ overflow_add-self g c =
     let filled = c.in_ok-gained.ensures.filled in
     let fewer : len old.nodes.known + c.in_ok-gained.gained < 2 ^ suc (tree_height old.nodes.length) =
     filled-len t old.nodes.known c.fill.new.self.known c.args.layer c.args.hashes.now c.in_ok-gained.gained
-    good.closed c.are_hashes.ensures filled.0 filled.1 in
+    good.closed c.recall_hashes.ensures filled.0 filled.1 in
     let low : suc (tree_height old.nodes.length) ≤ 33 = omega (arith, c.self.invariant.low) in
     let wide : 2 ^ suc (tree_height old.nodes.length) ≤ 2 ^ 33 = pow_more (suc (tree_height old.nodes.length)) 33 low in
     omega (arith, fewer, wide, c.self.invariant.known_is)

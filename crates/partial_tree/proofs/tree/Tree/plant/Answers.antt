@@ -28,7 +28,7 @@ overflow_add-self g c =
     subst (λ (v : KeptTree). IsFillAccepted v.length (look v.state.known) c.args.layer c.args.hashes.now) (sym c.self.view_is) c.requires.accepted in
     let fewer : len old.nodes.known + c.in_ok-gained.gained < 2 ^ suc (tree_height old.nodes.length) =
     filled-len t old.nodes.known c.plant.new.self.known c.args.layer c.args.hashes.now c.in_ok-gained.gained
-    good.closed c.are_hashes.ensures accepted (c.in_ok-gained.ensures.planted) in
+    good.closed c.recall_hashes.ensures accepted (c.in_ok-gained.ensures.planted) in
     let low : suc (tree_height old.nodes.length) ≤ 33 = omega (arith, c.self.invariant.low) in
     let wide : 2 ^ suc (tree_height old.nodes.length) ≤ 2 ^ 33 = pow_more (suc (tree_height old.nodes.length)) 33 low in
     omega (arith, fewer, wide, c.self.invariant.known_is)

@@ -22,7 +22,7 @@ overflow_add-self g c =
     let taken = c.in_ok-gained.ensures.taken in
     let fewer : len old.nodes.known + c.in_ok-gained.gained < 2 ^ suc (tree_height old.nodes.length) =
     joined-len t old.nodes.known c.take.new.self.known c.args.ask.now c.args.hashes.now c.in_ok-gained.gained
-    good.closed c.are_hashes.ensures taken.0 taken.1 in
+    good.closed c.recall_hashes.ensures taken.0 taken.1 in
     let low : suc (tree_height old.nodes.length) ≤ 33 = omega (arith, c.self.invariant.low) in
     let wide : 2 ^ suc (tree_height old.nodes.length) ≤ 2 ^ 33 = pow_more (suc (tree_height old.nodes.length)) 33 low in
     omega (arith, fewer, wide, c.self.invariant.known_is)

@@ -25,7 +25,7 @@ overflow_add-self g c =
     let taken = c.in_ok-gained.ensures.taken in
     let fewer : len old.nodes.known + c.in_ok-gained.gained < 2 ^ suc (tree_height old.nodes.length) =
     row-len t old.nodes.known c.take_leaves.new.self.known c.args.first c.args.span c.args.hashes c.in_ok-gained.gained row
-    good.closed c.are_hashes.ensures taken.0 taken.1 in
+    good.closed c.recall_hashes.ensures taken.0 taken.1 in
     let low : suc (tree_height old.nodes.length) ≤ 33 = omega (arith, c.self.invariant.low) in
     let wide : 2 ^ suc (tree_height old.nodes.length) ≤ 2 ^ 33 = pow_more (suc (tree_height old.nodes.length)) 33 low in
     omega (arith, fewer, wide, c.self.invariant.known_is)
@@ -52,4 +52,4 @@ returns-clause-good g c =
     let taken : TreeTakesRow c.args.self.now c.args.first c.args.span c.args.hashes.now c.in_ok-gained.gained new =
     subst (λ v. TreeTakesRow v c.args.first c.args.span c.args.hashes.now c.in_ok-gained.gained new) c.self.view_is
     (c.in_ok-gained.ensures.taken, ap₂ (λ n m. kept old.root n after m) c.take_leaves.ensures.stays.length c.take_leaves.ensures.stays.marked) in
-    good_row c.args.self.now new c.args.first c.args.span c.args.hashes c.in_ok-gained.gained c.requires.row c.requires.good c.are_hashes.ensures taken
+    good_row c.args.self.now new c.args.first c.args.span c.args.hashes c.in_ok-gained.gained c.requires.row c.requires.good c.recall_hashes.ensures taken

@@ -38,7 +38,7 @@ returns-in-Some-clause-answer g c =
     let root : a.root ≡ c.args.ask.now.root = (some_number c.self.inside.torrent.now ts c.self.invariant c.args.ask.now.root c.tree_with_root.result n
     c.tree_with_root.ensures.found c.in-Some.is).1 a at in
     subst (λ (v : SessionSeen). IfOk c.answer.result (IsAnswerTo v c.args.ask.now)) c.self.view_is
-    (answer_all c.self.inside.torrent.now ts c.self.invariant c.self.inside.asks c.sound.ensures n a c.args.ask.now c.answer.result at root
+    (answer_all c.self.inside.torrent.now ts c.self.invariant c.self.inside.asks c.recall_sound.ensures n a c.args.ask.now c.answer.result at root
     c.answer.ensures.answer)
 
 pub returns-in-Some-clause-no_memory : goal.returns-in-Some-clause-no_memory

@@ -43,7 +43,7 @@ returns-in-Some g c =
     c.tree_with_root.ensures.found c.in-Some.is).1 a at in
     let back : IsAnswered c.args.self.now c.args.ask.now → CanAnswer (tree_height a.length) (look a.state.known) c.args.ask.now =
     subst (λ (v : SessionSeen). IsAnswered v c.args.ask.now → CanAnswer (tree_height a.length) (look a.state.known) c.args.ask.now) c.self.view_is
-    (answered_in c.self.inside.torrent.now ts c.self.invariant c.sound.ensures c.self.inside.asks n a c.args.ask.now at root) in
+    (answered_in c.self.inside.torrent.now ts c.self.invariant c.recall_sound.ensures c.self.inside.asks n a c.args.ask.now at root) in
     let forth : CanAnswer (tree_height a.length) (look a.state.known) c.args.ask.now → IsAnswered c.args.self.now c.args.ask.now =
     subst (λ (v : SessionSeen). CanAnswer (tree_height a.length) (look a.state.known) c.args.ask.now → IsAnswered v c.args.ask.now) c.self.view_is
     (asked_in c.self.inside.torrent.now ts c.self.invariant c.self.inside.asks n a c.args.ask.now at root) in (

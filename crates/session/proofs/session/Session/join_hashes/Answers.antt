@@ -34,7 +34,7 @@ invariant_of-self g c =
     let at : slice_get ts c.in-Some.number ≡ Some a = found_at ts c.in-Some.number a inside c.index_mut.ensures.value in
     kept-after c.self.inside.torrent.now ts c.self.invariant c.in-Some.number a b at
     (good_after_take a b c.args.ask.now c.args.hashes.now c.take.result (good_at c.self.inside.torrent.now ts c.self.invariant c.in-Some.number a at)
-    c.are_hashes.ensures
+    c.recall_hashes.ensures
     c.take.ensures.taken c.take.ensures.refused)
 
 pub returns-in-None-clause-refused : goal.returns-in-None-clause-refused

@@ -36,7 +36,7 @@ invariant_of-self g c =
     let b : KeptTree = c.fill.new.self in
     kept-after d ts c.self.invariant c.args.tree a b at
     (good_after_fill a b c.args.layer c.args.hashes.now c.fill.result
-    (good_at d ts c.self.invariant c.args.tree a at) c.are_hashes.ensures c.fill.ensures.filled
+    (good_at d ts c.self.invariant c.args.tree a at) c.recall_hashes.ensures c.fill.ensures.filled
     c.fill.ensures.refused)
 
 pub returns-clause-filled : goal.returns-clause-filled

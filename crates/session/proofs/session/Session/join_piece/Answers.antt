@@ -15,7 +15,7 @@ take_from-requires-clause-aligned g c =
     let d = c.self.inside.torrent.now in
     let f : IsBlockPlace d c.args.index 0 c.in-Some.file c.in-Some.first = c.in-Some.ensures.found in
     subst (λ (v : SessionSeen). c.in-Some.first % 2 ^ piece_layer v.torrent.piece_length ≡ 0) c.self.view_is
-    (first-aligned d.piece_length c.sound.ensures.legal c.args.index f.file.first_piece c.in-Some.first f.address)
+    (first-aligned d.piece_length c.recall_sound.ensures.legal c.args.index f.file.first_piece c.in-Some.first f.address)
 
 pub returns-in-Err-clause-refused : goal.returns-in-Err-clause-refused
 returns-in-Err-clause-refused g c =

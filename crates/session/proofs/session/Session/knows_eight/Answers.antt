@@ -12,17 +12,17 @@ tree_of-requires g c =
 pub unwrap-tree-requires : goal.unwrap-tree-requires
 unwrap-tree-requires g c =
     let has = block_in _ c.args.self.now c.args.file c.args.block c.self.view_is c.requires in
-    some_tree c.self.inside.torrent.now c.sound.ensures c.args.file c.args.block has c.tree_of.result c.tree_of.ensures
+    some_tree c.self.inside.torrent.now c.recall_sound.ensures c.args.file c.args.block has c.tree_of.result c.tree_of.ensures
 
 pub index-requires : goal.index-requires
 index-requires g c =
     let has = block_in _ c.args.self.now c.args.file c.args.block c.self.view_is c.requires in
     let inside : c.unwrap-tree.result < length c.self.inside.trees.items =
-    tree_within c.self.inside.torrent.now c.self.inside.trees.items c.self.invariant c.sound.ensures c.args.file c.args.block has
+    tree_within c.self.inside.torrent.now c.self.inside.trees.items c.self.invariant c.recall_sound.ensures c.args.file c.args.block has
     c.tree_of.result c.tree_of.ensures c.unwrap-tree.result c.unwrap-tree.ensures in
     omega (arith, inside, c.self.inside.trees.ok)
 
 pub knows_leaves-requires : goal.knows_leaves-requires
 knows_leaves-requires g c =
-    has-low c.self.inside.torrent.now c.sound.ensures c.args.file c.args.block
+    has-low c.self.inside.torrent.now c.recall_sound.ensures c.args.file c.args.block
     (block_in _ c.args.self.now c.args.file c.args.block c.self.view_is c.requires)

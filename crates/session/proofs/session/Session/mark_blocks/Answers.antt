@@ -16,7 +16,7 @@ returns-in-None-clause-refused g c =
     let d : Description = c.self.inside.torrent.now in
     let ts : List KeptTree = c.self.inside.trees.items in
     let f : IsBlockPlace d c.args.index c.args.begin c.in-Some.file c.in-Some.first = c.in-Some.ensures.found in
-    let (p, same) = in_file_of c.self.inside.asks d ts c.self.invariant c.sound.ensures c.in-Some.file c.in-Some.first f.file f.there f.in_file in
+    let (p, same) = in_file_of c.self.inside.asks d ts c.self.invariant c.recall_sound.ensures c.in-Some.file c.in-Some.first f.file f.there f.in_file in
     let at : place_of d c.args.index c.args.begin ≡ Some (c.in-Some.file, c.in-Some.first) = sym c.place.ensures.value ∙ c.in-Some.is in
     let none : (k : ℕ) → ¬ IsBlockRun p.tree.length c.in-Some.first (length c.args.bytes.now) k = λ k run.
     none-some k (sym c.in-None.is ∙ c.block_run.ensures.only f.file k f.there (subst (λ n. IsBlockRun n c.in-Some.first (length c.args.bytes.now) k) same run))
@@ -30,7 +30,7 @@ returns-in-Some-block_run-clause-taken g c =
     let d : Description = c.self.inside.torrent.now in
     let ts : List KeptTree = c.self.inside.trees.items in
     let f : IsBlockPlace d c.args.index c.args.begin c.in-Some.file c.in-Some.first = c.in-Some.ensures.found in
-    let (p, same) = in_file_of c.self.inside.asks d ts c.self.invariant c.sound.ensures c.in-Some.file c.in-Some.first f.file f.there f.in_file in
+    let (p, same) = in_file_of c.self.inside.asks d ts c.self.invariant c.recall_sound.ensures c.in-Some.file c.in-Some.first f.file f.there f.in_file in
     let at : place_of d c.args.index c.args.begin ≡ Some (c.in-Some.file, c.in-Some.first) = sym c.place.ensures.value ∙ c.in-Some.is in
     let run : IsBlockRun p.tree.length c.in-Some.first (length c.args.bytes.now) c.in-Some-block_run.count =
     subst (λ n. IsBlockRun n c.in-Some.first (length c.args.bytes.now) c.in-Some-block_run.count) (sym same) (c.in-Some-block_run.ensures.found f.file f.there)

@@ -16,27 +16,27 @@ tree_of-requires g c =
 pub unwrap-tree-requires : goal.unwrap-tree-requires
 unwrap-tree-requires g c =
     let has = block_in _ c.args.self.now c.args.file c.args.block c.self.view_is c.requires.block in
-    some_tree c.self.inside.torrent.now c.sound.ensures c.args.file c.args.block has c.tree_of.result c.tree_of.ensures
+    some_tree c.self.inside.torrent.now c.recall_sound.ensures c.args.file c.args.block has c.tree_of.result c.tree_of.ensures
 
 pub index_mut-requires : goal.index_mut-requires
 index_mut-requires g c =
     let has = block_in _ c.args.self.now c.args.file c.args.block c.self.view_is c.requires.block in
     let inside : c.unwrap-tree.result < length c.self.inside.trees.items =
-    tree_within c.self.inside.torrent.now c.self.inside.trees.items c.self.invariant c.sound.ensures c.args.file c.args.block has
+    tree_within c.self.inside.torrent.now c.self.inside.trees.items c.self.invariant c.recall_sound.ensures c.args.file c.args.block has
     c.tree_of.result c.tree_of.ensures c.unwrap-tree.result c.unwrap-tree.ensures in
     omega (arith, inside, c.self.inside.trees.ok)
 
 pub take_hashed-requires-clause-good : goal.take_hashed-requires-clause-good
 take_hashed-requires-clause-good g c =
     let has = block_in _ c.args.self.now c.args.file c.args.block c.self.view_is c.requires.block in
-    let x = in_tree c.self.inside.torrent.now c.self.inside.trees.items c.self.invariant c.sound.ensures c.args.file c.args.block has
+    let x = in_tree c.self.inside.torrent.now c.self.inside.trees.items c.self.invariant c.recall_sound.ensures c.args.file c.args.block has
     c.tree_of.result c.tree_of.ensures c.unwrap-tree.result c.unwrap-tree.ensures c.index_mut.result.now c.index_mut.ensures.value in
     x.good
 
 pub take_hashed-requires-clause-inside : goal.take_hashed-requires-clause-inside
 take_hashed-requires-clause-inside g c =
     let has = block_in _ c.args.self.now c.args.file c.args.block c.self.view_is c.requires.block in
-    let x = in_tree c.self.inside.torrent.now c.self.inside.trees.items c.self.invariant c.sound.ensures c.args.file c.args.block has
+    let x = in_tree c.self.inside.torrent.now c.self.inside.trees.items c.self.invariant c.recall_sound.ensures c.args.file c.args.block has
     c.tree_of.result c.tree_of.ensures c.unwrap-tree.result c.unwrap-tree.ensures c.index_mut.result.now c.index_mut.ensures.value in
     x.inside
 
@@ -51,7 +51,7 @@ invariant_of-self g c =
     let old = c.index_mut.result.now in
     let new = c.take_hashed.new.self in
     let has = block_in _ c.args.self.now c.args.file c.args.block c.self.view_is c.requires.block in
-    let x = in_tree d ts c.self.invariant c.sound.ensures c.args.file c.args.block has c.tree_of.result c.tree_of.ensures number c.unwrap-tree.ensures
+    let x = in_tree d ts c.self.invariant c.recall_sound.ensures c.args.file c.args.block has c.tree_of.result c.tree_of.ensures number c.unwrap-tree.ensures
     old c.index_mut.ensures.value in
     kept-after d ts c.self.invariant number old new x.tree_is
     (good_after_block old new c.args.block c.args.bytes.now c.take_hashed.result x.good c.take_hashed.ensures.taken c.take_hashed.ensures.refused)
@@ -64,7 +64,7 @@ returns-clause-marked g c =
     let old = c.index_mut.result.now in
     let new = c.take_hashed.new.self in
     let has = block_in _ c.args.self.now c.args.file c.args.block c.self.view_is c.requires.block in
-    let x = in_tree d ts c.self.invariant c.sound.ensures c.args.file c.args.block has c.tree_of.result c.tree_of.ensures number c.unwrap-tree.ensures
+    let x = in_tree d ts c.self.invariant c.recall_sound.ensures c.args.file c.args.block has c.tree_of.result c.tree_of.ensures number c.unwrap-tree.ensures
     old c.index_mut.ensures.value in
     subst (λ (v : SessionSeen). IfOk c.take_hashed.result (λ _. IsMarkedBlock v c.args.file c.args.block c.args.bytes.now
     (seen d c.self.inside.asks (set ts number new)))) c.self.view_is
@@ -79,7 +79,7 @@ returns-clause-refused g c =
     let old = c.index_mut.result.now in
     let new = c.take_hashed.new.self in
     let has = block_in _ c.args.self.now c.args.file c.args.block c.self.view_is c.requires.block in
-    let x = in_tree d ts c.self.invariant c.sound.ensures c.args.file c.args.block has c.tree_of.result c.tree_of.ensures number c.unwrap-tree.ensures
+    let x = in_tree d ts c.self.invariant c.recall_sound.ensures c.args.file c.args.block has c.tree_of.result c.tree_of.ensures number c.unwrap-tree.ensures
     old c.index_mut.ensures.value in
     subst (λ (v : SessionSeen). IfErr c.take_hashed.result (λ r. IsUnmarkedBlock v c.args.file c.args.block c.args.bytes.now r
     × (seen d c.self.inside.asks (set ts number new) ≡ v))) c.self.view_is

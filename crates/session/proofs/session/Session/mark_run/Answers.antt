@@ -13,7 +13,7 @@ use Rattle.session.proofs.session.Session.mark_run.Goals as goal
 
 pub new-blocks-requires : goal.new-blocks-requires
 new-blocks-requires g c =
-    run-first c.self.inside.torrent.now c.sound.ensures c.args.file c.args.first (length c.args.bytes.now) c.args.count
+    run-first c.self.inside.torrent.now c.recall_sound.ensures c.args.file c.args.first (length c.args.bytes.now) c.args.count
     (subst (λ (v : SessionSeen). HasRun v.torrent c.args.file c.args.first (length c.args.bytes.now) c.args.count) (sym c.self.view_is) c.requires)
 
 pub numbers-init : goal.numbers-init
@@ -28,7 +28,8 @@ numbers-init g c = record {
 
 pub overflow_add-block : goal.overflow_add-block
 overflow_add-block g c =
-    let low : c.args.first + 17 < 2 ^ 64 = run-first c.self.inside.torrent.now c.sound.ensures c.args.file c.args.first (length c.args.bytes.now) c.args.count
+    let low : c.args.first + 17 < 2 ^ 64 = run-first c.self.inside.torrent.now c.recall_sound.ensures c.args.file c.args.first (length c.args.bytes.now)
+    c.args.count
     (subst (λ (v : SessionSeen). HasRun v.torrent c.args.file c.args.first (length c.args.bytes.now) c.args.count) (sym c.self.view_is) c.requires) in
     let most = at_most_seventeen c.requires.0.length c.args.first (length c.args.bytes.now) c.args.count c.requires.2 in
     omega (arith, low, most, c.numbers-test.true)

@@ -35,7 +35,7 @@ pub planted-requires : goal.planted-requires
 planted-requires g c =
     let same : c.unwrap-piece_length.result ≡ c.args.torrent.now.piece_length = piece_length_is _ _ _ _ c.unwrap-piece_length.ensures c.new.ensures
     c.piece_length.ensures in
-    sound_at c.args.torrent.now c.sound.ensures c.trees-infos.result.now c.trees-infos.ensures c.unwrap-piece_length.result same c.infos.info-index _
+    sound_at c.args.torrent.now c.recall_sound.ensures c.trees-infos.result.now c.trees-infos.ensures c.unwrap-piece_length.result same c.infos.info-index _
     c.infos-test.true
 
 pub infos-preserved : goal.infos-preserved
@@ -45,7 +45,7 @@ infos-preserved g c =
     record {
       same = subst (λ (ts : List KeptTree). map info_of ts ≡ take (c.infos.info-index + 1) (map root_of_entry (map tree_entry c.trees-infos.result.now)))
           (sym c.push_reserved.ensures.items)
-          (same_more c.args.torrent.now c.sound.ensures c.trees-infos.result.now c.trees-infos.ensures c.infos.info-index _ c.infos.trees.items b
+          (same_more c.args.torrent.now c.recall_sound.ensures c.trees-infos.result.now c.trees-infos.ensures c.infos.info-index _ c.infos.trees.items b
           c.infos-test.true c.in_ok-planted.ensures.root_is c.in_ok-planted.ensures.length_is c.infos.invariant.same);
       planted = subst (λ (ts : List KeptTree). ArePlanted c.unwrap-piece_length.result c.args.with_layers (map tree_entry c.trees-infos.result.now) ts)
           (sym c.push_reserved.ensures.items)
@@ -61,7 +61,7 @@ invariant_of-result g c =
     c.piece_length.ensures in
     let planted : ArePlanted c.args.torrent.now.piece_length c.args.with_layers c.args.torrent.now.trees c.infos.trees.items =
     subst₂ (λ p es. ArePlanted p c.args.with_layers es c.infos.trees.items) same c.trees-infos.ensures c.infos.invariant.planted in
-    kept_all c.args.torrent.now c.sound.ensures c.trees-infos.result.now c.trees-infos.ensures c.args.with_layers c.infos.info-index c.infos.trees.items
+    kept_all c.args.torrent.now c.recall_sound.ensures c.trees-infos.result.now c.trees-infos.ensures c.args.with_layers c.infos.info-index c.infos.trees.items
     c.infos-test.false c.infos.invariant.same planted
 
 pub returns-clause-fresh : goal.returns-clause-fresh
@@ -70,14 +70,14 @@ returns-clause-fresh g c =
     c.piece_length.ensures in
     let planted : ArePlanted c.args.torrent.now.piece_length c.args.with_layers c.args.torrent.now.trees c.infos.trees.items =
     subst₂ (λ p es. ArePlanted p c.args.with_layers es c.infos.trees.items) same c.trees-infos.ensures c.infos.invariant.planted in
-    fresh c.args.torrent.now c.sound.ensures c.trees-infos.result.now c.trees-infos.ensures c.args.with_layers c.infos.trees.items c.new-2.result
+    fresh c.args.torrent.now c.recall_sound.ensures c.trees-infos.result.now c.trees-infos.ensures c.args.with_layers c.infos.trees.items c.new-2.result
     c.new-2.ensures
-    (kept_all c.args.torrent.now c.sound.ensures c.trees-infos.result.now c.trees-infos.ensures c.args.with_layers c.infos.info-index c.infos.trees.items
+    (kept_all c.args.torrent.now c.recall_sound.ensures c.trees-infos.result.now c.trees-infos.ensures c.args.with_layers c.infos.info-index c.infos.trees.items
     c.infos-test.false c.infos.invariant.same planted) planted
 
 pub unwrap-piece_length-requires : goal.unwrap-piece_length-requires
 unwrap-piece_length-requires g c =
-    made_of c.new.result c.piece_length.result c.new.ensures (subst IsPieceLength (sym c.piece_length.ensures) c.sound.ensures.legal)
+    made_of c.new.result c.piece_length.result c.new.ensures (subst IsPieceLength (sym c.piece_length.ensures) c.recall_sound.ensures.legal)
 
 pub returns-in_err-trees-clause-no_memory : goal.returns-in_err-trees-clause-no_memory
 returns-in_err-trees-clause-no_memory g c =

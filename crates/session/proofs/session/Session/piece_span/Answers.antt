@@ -13,7 +13,7 @@ use Rattle.session.proofs.session.Session.piece_span.Goals as goal
 
 pub unwrap-requires : goal.unwrap-requires
 unwrap-requires g c =
-    let bounds = legal_bounds c.self.inside.torrent.now.piece_length c.sound.ensures.legal in
+    let bounds = legal_bounds c.self.inside.torrent.now.piece_length c.recall_sound.ensures.legal in
     c.of.ensures.some.1 (omega (arith, bounds.0, c.piece_length.ensures), omega (arith, bounds.1, c.piece_length.ensures))
 
 pub returns-clause-value : goal.returns-clause-value

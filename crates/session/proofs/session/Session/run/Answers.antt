@@ -17,7 +17,7 @@ messages-preserved g c = record {
       (Chain-next IsSafeStep c.args.self.now c.messages.self c.step.new.self c.args.messages.now c.messages.message-index c.messages.verdicts.items _
       c.step.result
       c.messages-test.true c.messages.invariant.run c.step.ensures.is_safe);
-  hashes = All-take-more c.args.messages.now c.messages.message-index _ c.messages-test.true c.messages.invariant.hashes c.has_hashes.ensures;
+  hashes = All-take-more c.args.messages.now c.messages.message-index _ c.messages-test.true c.messages.invariant.hashes c.recall_message_hashes.ensures;
   stated = omega (arith, c.push_reserved.ensures.len, c.messages.invariant.stated);
   room = omega (arith, c.push_reserved.ensures.capacity, c.messages.invariant.room);
 }
@@ -38,7 +38,7 @@ pub returns-clause-round : goal.returns-clause-round
 returns-clause-round g c =
     let whole : take c.messages.message-index c.args.messages.now ≡ c.args.messages.now = take_all c.messages.message-index c.args.messages.now
     c.messages-test.false in
-    round-fewer c.args.self.now c.distinct_roots.ensures c.args.messages.now c.messages.verdicts.items c.messages.self c.closed_trees.ensures
+    round-fewer c.args.self.now c.recall_distinct_roots.ensures c.args.messages.now c.messages.verdicts.items c.messages.self c.recall_closed_trees.ensures
     (subst (All HasHashes) whole c.messages.invariant.hashes)
     (Chain-weaker IsSafeStep Step (λ S m v S' s. s.allowed) c.args.self.now c.args.messages.now c.messages.verdicts.items c.messages.self
     (returns-clause-is_safe g c))

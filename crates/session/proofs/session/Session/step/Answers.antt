@@ -3,6 +3,6 @@ use Rattle.session.proofs.session.Session.step.Goals as goal
 
 pub returns : goal.returns
 returns g c = record {
-  is_safe = safe_step c.args.self.now c.closed_trees.ensures c.distinct_roots.ensures c.args.message.now c.take.result c.take.new.self
+  is_safe = safe_step c.args.self.now c.recall_closed_trees.ensures c.recall_distinct_roots.ensures c.args.message.now c.take.result c.take.new.self
       c.take.ensures;
 }

@@ -3,7 +3,7 @@ use Rattle.session.proofs.session.Session.take_block.Goals as goal
 
 pub returns-clause-verified_is_the_block : goal.returns-clause-verified_is_the_block
 returns-clause-verified_is_the_block g c =
-    block-is c.args.self.now c.closed_trees.ensures c.args.index c.args.begin c.args.block.now c.mark_block.result c.mark_block.new.self
+    block-is c.args.self.now c.recall_closed_trees.ensures c.args.index c.args.begin c.args.block.now c.mark_block.result c.mark_block.new.self
     c.mark_block.ensures.verified
 
 pub returns-clause-keeps_known : goal.returns-clause-keeps_known
@@ -13,5 +13,5 @@ returns-clause-keeps_known g c =
 
 pub returns-clause-verifies_true_block : goal.returns-clause-verifies_true_block
 returns-clause-verifies_true_block g c =
-    block-taken c.args.self.now c.closed_trees.ensures c.args.index c.args.begin c.args.block.now c.mark_block.result c.mark_block.new.self
+    block-taken c.args.self.now c.recall_closed_trees.ensures c.args.index c.args.begin c.args.block.now c.mark_block.result c.mark_block.new.self
     c.mark_block.ensures.verified c.mark_block.ensures.refused

@@ -24,26 +24,26 @@ piece_span-span-requires g c =
     let d = c.self.inside.torrent.now in
     let has = block_in _ c.args.self.now c.args.file c.args.first c.self.view_is c.requires.block in
     subst (λ (v : SessionSeen). c.unwrap-tree.result < length v.torrent.trees) c.self.view_is
-    (tree_in_torrent d c.self.inside.trees.items c.self.invariant c.sound.ensures c.args.file c.args.first has c.tree_of.result c.tree_of.ensures
+    (tree_in_torrent d c.self.inside.trees.items c.self.invariant c.recall_sound.ensures c.args.file c.args.first has c.tree_of.result c.tree_of.ensures
     c.unwrap-tree.result c.unwrap-tree.ensures)
 
 pub unwrap-tree-requires : goal.unwrap-tree-requires
 unwrap-tree-requires g c =
     let has = block_in _ c.args.self.now c.args.file c.args.first c.self.view_is c.requires.block in
-    some_tree c.self.inside.torrent.now c.sound.ensures c.args.file c.args.first has c.tree_of.result c.tree_of.ensures
+    some_tree c.self.inside.torrent.now c.recall_sound.ensures c.args.file c.args.first has c.tree_of.result c.tree_of.ensures
 
 pub index_mut-requires : goal.index_mut-requires
 index_mut-requires g c =
     let has = block_in _ c.args.self.now c.args.file c.args.first c.self.view_is c.requires.block in
     let inside : c.unwrap-tree.result < length c.self.inside.trees.items =
-    tree_within c.self.inside.torrent.now c.self.inside.trees.items c.self.invariant c.sound.ensures c.args.file c.args.first has
+    tree_within c.self.inside.torrent.now c.self.inside.trees.items c.self.invariant c.recall_sound.ensures c.args.file c.args.first has
     c.tree_of.result c.tree_of.ensures c.unwrap-tree.result c.unwrap-tree.ensures in
     omega (arith, inside, c.self.inside.trees.ok)
 
 pub take_piece-requires-clause-good : goal.take_piece-requires-clause-good
 take_piece-requires-clause-good g c =
     let has = block_in _ c.args.self.now c.args.file c.args.first c.self.view_is c.requires.block in
-    let x = in_tree c.self.inside.torrent.now c.self.inside.trees.items c.self.invariant c.sound.ensures c.args.file c.args.first has
+    let x = in_tree c.self.inside.torrent.now c.self.inside.trees.items c.self.invariant c.recall_sound.ensures c.args.file c.args.first has
     c.tree_of.result c.tree_of.ensures c.unwrap-tree.result c.unwrap-tree.ensures c.index_mut.result.now c.index_mut.ensures.value in
     x.good
 
@@ -55,7 +55,7 @@ returns-then-bytes-size_of_piece-clause-refused g c =
     let sizes : (f : FileEntry) → slice_get d.files c.args.file ≡ Some f → c.size_of_piece.result ≡ piece_size d.piece_length f.length c.args.first =
     subst (λ (v : SessionSeen). (f : FileEntry) → slice_get v.torrent.files c.args.file ≡ Some f
     → c.size_of_piece.result ≡ piece_size v.torrent.piece_length f.length c.args.first) (sym c.self.view_is) c.size_of_piece.ensures in
-    let (p, same) = in_file_of c.self.inside.asks d ts c.self.invariant c.sound.ensures c.args.file c.args.first has.0 has.1 has.2 in (
+    let (p, same) = in_file_of c.self.inside.asks d ts c.self.invariant c.recall_sound.ensures c.args.file c.args.first has.0 has.1 has.2 in (
       subst (λ (v : SessionSeen). IsRefusedFrom v c.args.file c.args.first c.args.bytes.now BadSize) c.self.view_is
           (p, λ e. c.if-bytes-size_of_piece.true (e ∙ ap (λ n. piece_size d.piece_length n c.args.first) same ∙ sym (sizes has.0 has.1))),
       refl,
@@ -71,9 +71,10 @@ take_piece-requires-clause-row g c =
     → c.size_of_piece.result ≡ piece_size v.torrent.piece_length f.length c.args.first) (sym c.self.view_is) c.size_of_piece.ensures in
     let old = c.index_mut.result.now in
     let number = c.unwrap-tree.result in
-    let x = in_tree d ts c.self.invariant c.sound.ensures c.args.file c.args.first has
+    let x = in_tree d ts c.self.invariant c.recall_sound.ensures c.args.file c.args.first has
     c.tree_of.result c.tree_of.ensures number c.unwrap-tree.ensures old c.index_mut.ensures.value in
-    let same : old.length ≡ x.entry.length = same_length d ts c.self.invariant c.sound.ensures c.args.file number x.entry old x.there x.number_is x.tree_is in
+    let same : old.length ≡ x.entry.length = same_length d ts c.self.invariant c.recall_sound.ensures c.args.file number x.entry old x.there x.number_is
+    x.tree_is in
     let size : length c.args.bytes.now ≡ piece_size d.piece_length x.entry.length c.args.first =
     c.if-bytes-size_of_piece.false ∙ sizes x.entry x.there in
     let span : c.piece_span-span.result ≡ piece_span d.piece_length x.entry.length =
@@ -82,7 +83,7 @@ take_piece-requires-clause-row g c =
     let aligned : c.args.first % 2 ^ piece_layer d.piece_length ≡ 0 =
     subst (λ (v : SessionSeen). c.args.first % 2 ^ piece_layer v.torrent.piece_length ≡ 0) (sym c.self.view_is) c.requires.aligned in
     subst (λ k. IsPieceRow old.length c.args.first k (length c.args.bytes.now)) (sym (span ∙ ap (piece_span d.piece_length) (sym same)))
-    (row-of-piece d.piece_length c.sound.ensures.legal old.length c.args.first (length c.args.bytes.now) x.inside aligned
+    (row-of-piece d.piece_length c.recall_sound.ensures.legal old.length c.args.first (length c.args.bytes.now) x.inside aligned
     (size ∙ ap (λ n. piece_size d.piece_length n c.args.first) (sym same)))
 
 pub invariant_of-self : goal.invariant_of-self
@@ -95,9 +96,10 @@ invariant_of-self g c =
     → c.size_of_piece.result ≡ piece_size v.torrent.piece_length f.length c.args.first) (sym c.self.view_is) c.size_of_piece.ensures in
     let old = c.index_mut.result.now in
     let number = c.unwrap-tree.result in
-    let x = in_tree d ts c.self.invariant c.sound.ensures c.args.file c.args.first has
+    let x = in_tree d ts c.self.invariant c.recall_sound.ensures c.args.file c.args.first has
     c.tree_of.result c.tree_of.ensures number c.unwrap-tree.ensures old c.index_mut.ensures.value in
-    let same : old.length ≡ x.entry.length = same_length d ts c.self.invariant c.sound.ensures c.args.file number x.entry old x.there x.number_is x.tree_is in
+    let same : old.length ≡ x.entry.length = same_length d ts c.self.invariant c.recall_sound.ensures c.args.file number x.entry old x.there x.number_is
+    x.tree_is in
     let size : length c.args.bytes.now ≡ piece_size d.piece_length x.entry.length c.args.first =
     c.if-bytes-size_of_piece.false ∙ sizes x.entry x.there in
     let span : c.piece_span-span.result ≡ piece_span d.piece_length x.entry.length =
@@ -117,9 +119,10 @@ returns-clause-taken g c =
     → c.size_of_piece.result ≡ piece_size v.torrent.piece_length f.length c.args.first) (sym c.self.view_is) c.size_of_piece.ensures in
     let old = c.index_mut.result.now in
     let number = c.unwrap-tree.result in
-    let x = in_tree d ts c.self.invariant c.sound.ensures c.args.file c.args.first has
+    let x = in_tree d ts c.self.invariant c.recall_sound.ensures c.args.file c.args.first has
     c.tree_of.result c.tree_of.ensures number c.unwrap-tree.ensures old c.index_mut.ensures.value in
-    let same : old.length ≡ x.entry.length = same_length d ts c.self.invariant c.sound.ensures c.args.file number x.entry old x.there x.number_is x.tree_is in
+    let same : old.length ≡ x.entry.length = same_length d ts c.self.invariant c.recall_sound.ensures c.args.file number x.entry old x.there x.number_is
+    x.tree_is in
     let size : length c.args.bytes.now ≡ piece_size d.piece_length x.entry.length c.args.first =
     c.if-bytes-size_of_piece.false ∙ sizes x.entry x.there in
     let span : c.piece_span-span.result ≡ piece_span d.piece_length x.entry.length =
@@ -129,7 +132,7 @@ returns-clause-taken g c =
     subst (λ (v : SessionSeen). c.args.first % 2 ^ piece_layer v.torrent.piece_length ≡ 0) (sym c.self.view_is) c.requires.aligned in
     let row : IsPieceRow old.length c.args.first c.piece_span-span.result (length c.args.bytes.now) =
     subst (λ k. IsPieceRow old.length c.args.first k (length c.args.bytes.now)) (sym (span ∙ ap (piece_span d.piece_length) (sym same)))
-    (row-of-piece d.piece_length c.sound.ensures.legal old.length c.args.first (length c.args.bytes.now) x.inside aligned
+    (row-of-piece d.piece_length c.recall_sound.ensures.legal old.length c.args.first (length c.args.bytes.now) x.inside aligned
     (size ∙ ap (λ n. piece_size d.piece_length n c.args.first) (sym same))) in
     let new = c.take_piece.new.self in
     subst (λ (v : SessionSeen). IfOk c.take_piece.result (λ _. IsTakenFrom v c.args.file c.args.first c.args.bytes.now
@@ -147,9 +150,10 @@ returns-clause-refused g c =
     → c.size_of_piece.result ≡ piece_size v.torrent.piece_length f.length c.args.first) (sym c.self.view_is) c.size_of_piece.ensures in
     let old = c.index_mut.result.now in
     let number = c.unwrap-tree.result in
-    let x = in_tree d ts c.self.invariant c.sound.ensures c.args.file c.args.first has
+    let x = in_tree d ts c.self.invariant c.recall_sound.ensures c.args.file c.args.first has
     c.tree_of.result c.tree_of.ensures number c.unwrap-tree.ensures old c.index_mut.ensures.value in
-    let same : old.length ≡ x.entry.length = same_length d ts c.self.invariant c.sound.ensures c.args.file number x.entry old x.there x.number_is x.tree_is in
+    let same : old.length ≡ x.entry.length = same_length d ts c.self.invariant c.recall_sound.ensures c.args.file number x.entry old x.there x.number_is
+    x.tree_is in
     let size : length c.args.bytes.now ≡ piece_size d.piece_length x.entry.length c.args.first =
     c.if-bytes-size_of_piece.false ∙ sizes x.entry x.there in
     let span : c.piece_span-span.result ≡ piece_span d.piece_length x.entry.length =
@@ -159,7 +163,7 @@ returns-clause-refused g c =
     subst (λ (v : SessionSeen). c.args.first % 2 ^ piece_layer v.torrent.piece_length ≡ 0) (sym c.self.view_is) c.requires.aligned in
     let row : IsPieceRow old.length c.args.first c.piece_span-span.result (length c.args.bytes.now) =
     subst (λ k. IsPieceRow old.length c.args.first k (length c.args.bytes.now)) (sym (span ∙ ap (piece_span d.piece_length) (sym same)))
-    (row-of-piece d.piece_length c.sound.ensures.legal old.length c.args.first (length c.args.bytes.now) x.inside aligned
+    (row-of-piece d.piece_length c.recall_sound.ensures.legal old.length c.args.first (length c.args.bytes.now) x.inside aligned
     (size ∙ ap (λ n. piece_size d.piece_length n c.args.first) (sym same))) in
     let new = c.take_piece.new.self in
     subst (λ (v : SessionSeen). IfErr c.take_piece.result (λ r. IsRefusedFrom v c.args.file c.args.first c.args.bytes.now r

@@ -9,15 +9,15 @@ returns-clause-keeps_known g c =
 
 pub returns-clause-stores_true_hashes : goal.returns-clause-stores_true_hashes
 returns-clause-stores_true_hashes g c =
-    hashes-stored c.args.self.now c.closed_trees.ensures c.distinct_roots.ensures c.args.ask.now c.args.hashes.now c.join_hashes.result
+    hashes-stored c.args.self.now c.recall_closed_trees.ensures c.recall_distinct_roots.ensures c.args.ask.now c.args.hashes.now c.join_hashes.result
     c.join_hashes.new.self c.join_hashes.ensures.stored c.join_hashes.ensures.refused
 
 pub returns-clause-stores_answers : goal.returns-clause-stores_answers
 returns-clause-stores_answers g c =
-    answers-stored c.args.self.now c.closed_trees.ensures c.distinct_roots.ensures c.args.ask.now c.args.hashes.now c.join_hashes.result
+    answers-stored c.args.self.now c.recall_closed_trees.ensures c.recall_distinct_roots.ensures c.args.ask.now c.args.hashes.now c.join_hashes.result
     c.join_hashes.new.self c.join_hashes.ensures.stored c.join_hashes.ensures.refused
 
 pub returns-clause-closes_one_gap : goal.returns-clause-closes_one_gap
 returns-clause-closes_one_gap g c =
-    wanted-closes c.args.self.now c.closed_trees.ensures c.distinct_roots.ensures c.args.ask.now c.args.hashes.now c.join_hashes.result
+    wanted-closes c.args.self.now c.recall_closed_trees.ensures c.recall_distinct_roots.ensures c.args.ask.now c.args.hashes.now c.join_hashes.result
     c.join_hashes.new.self c.join_hashes.ensures.stored c.join_hashes.ensures.refused

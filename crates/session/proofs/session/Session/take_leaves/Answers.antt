@@ -19,5 +19,5 @@ returns-clause-gaps g c =
 
 pub returns-clause-takes_true_leaves : goal.returns-clause-takes_true_leaves
 returns-clause-takes_true_leaves g c =
-    true-leaves c.args.self.now c.closed_trees.ensures c.args.tree c.args.first c.args.leaves.now c.requires.piece c.join_leaves.new.self
+    true-leaves c.args.self.now c.recall_closed_trees.ensures c.args.tree c.args.first c.args.leaves.now c.requires.piece c.join_leaves.new.self
     c.join_leaves.result c.join_leaves.ensures.refused

@@ -1,0 +1,2 @@
+mod FileBlocks
+mod Orders

@@ -1,0 +1,3 @@
+-- What contracts of windows of blocks cite.
+pub mod Files
+pub mod Window

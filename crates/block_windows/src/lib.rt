@@ -1,0 +1,10 @@
+//! The leaves of a window of blocks, hashed side by side whatever their lengths, and the roots of
+//! the files that these blocks make up (BEP 52, "pieces root").
+#![tactic(auto)]
+
+mod files;
+mod order;
+mod window;
+
+pub use files::Window;
+pub use window::WINDOW;

@@ -1,0 +1,63 @@
+use Rattle.std.proofs.Common.{◌≡◌, ◌≤◌, length, refl, inl, inr, sym, ap, ◌∙◌, subst, arith}
+use Rattle.partial_tree.specs.declared.answer.Answer.{Answer}
+use Rattle.session.specs.Answers.{IsAnswerTo}
+use Rattle.session_exports.specs.Exports.{IsExport, NothingFrom}
+use Rattle.c_layouts.specs.Cursors.{cursor_of}
+use Rattle.btcheck_c.specs.Keeping.{NextLeaves}
+use Rattle.btcheck_c.proofs.Exporting.{export-answered, range-can, IsFewFrom}
+use Rattle.btcheck_c.proofs.keeping_calls.write_export.Goals as goal
+use Rattle.btcheck_c.proofs.keeping_calls.write_export.Goals.{then-status-eq-DONE, else-status-eq-DONE}
+
+pub returns-in_default-clause-done : goal.returns-in_default-clause-done
+returns-in_default-clause-done c =
+    inr (inl (refl, subst (NothingFrom c.args.session.now) c.read_cursor.ensures c.in_default.ensures.end))
+
+pub unreachable-requires : goal.unreachable-requires
+unreachable-requires c =
+    let next = c.in-Some.ensures.found in let ask = c.in-Some.export.ask in let S' = c.next_export.new.self in
+    let refused = subst (λ (a : Answer). IsAnswerTo S' ask a) c.in-Some-Reject.field-0-is c.in-Some-Reject.ensures.answer in
+    refused (range-can c.args.session.now S' c.in-Some.export.tree next.block ask c.next_export.ensures.same next.range)
+
+pub returns-in-None-clause-done : goal.returns-in-None-clause-done
+returns-in-None-clause-done c =
+    let next = c.in-Some.ensures.found in
+    inr (inr (
+      refl,
+      (
+        c.in-Some.export,
+        subst (λ p. IsExport c.args.session.now p c.in-Some.export) c.read_cursor.ensures next,
+        range-can c.args.session.now c.args.session.now c.in-Some.export.tree next.block c.in-Some.export.ask refl next.range,
+      ),
+    ))
+
+pub write_hashes_frame-status-requires : goal.write_hashes_frame-status-requires
+write_hashes_frame-status-requires c =
+    let next = c.in-Some.ensures.found in let ask = c.in-Some.export.ask in let S' = c.next_export.new.self in
+    let given = subst (λ (a : Answer). IsAnswerTo S' ask a) c.in-Some-Hashes.field-0-is c.in-Some-Hashes.ensures.answer in
+    let few : IsFewFrom c.args.session.now ask c.deref.result.now =
+    export-answered c.args.session.now S' c.torrent.result.now c.in-Some.export.tree next.block ask c.in-Some-Hashes.hashes.items c.deref.result.now
+    c.next_export.ensures.same c.torrent.ensures c.recall_sound.ensures c.next_export.ensures.closed c.next_export.ensures.distinct next.range
+    c.deref.ensures.value given in
+    omega (arith, few.few)
+
+pub returns-after-status-eq-DONE-clause-done : goal.returns-after-status-eq-DONE-clause-done
+returns-after-status-eq-DONE-clause-done c =
+    let next = c.in-Some.ensures.found in let ask = c.in-Some.export.ask in let S' = c.next_export.new.self in
+    let given = subst (λ (a : Answer). IsAnswerTo S' ask a) c.in-Some-Hashes.field-0-is c.in-Some-Hashes.ensures.answer in
+    let few : IsFewFrom c.args.session.now ask c.deref.result.now =
+    export-answered c.args.session.now S' c.torrent.result.now c.in-Some.export.tree next.block ask c.in-Some-Hashes.hashes.items c.deref.result.now
+    c.next_export.ensures.same c.torrent.ensures c.recall_sound.ensures c.next_export.ensures.closed c.next_export.ensures.distinct next.range
+    c.deref.ensures.value given in
+    let is_next = subst (λ p. IsExport c.args.session.now p c.in-Some.export) c.read_cursor.ensures next in
+    inl (record {
+      next = c.in-Some.export;
+      is_next = is_next;
+      hashes = c.deref.result.now;
+      answers = few.from;
+      few = few.few;
+      frame = c.write_hashes_frame-status.ensures.done;
+      moves = elim c.if-status-eq-DONE.branch [
+        | then-status-eq-DONE w ↦ λ _. w.cursor-is ∙ w.lay_out_cursor.ensures ∙ ap cursor_of w.end.ensures
+        | else-status-eq-DONE w ↦ λ done. absurd (w.if-status-eq-DONE.false done)
+      ];
+    })

@@ -1,0 +1,127 @@
+//! The calls that keep what a session knows between two runs of a program: its leaves, as messages
+//! and as layers.
+
+ghost use Rattle.std.specs.Prelude.{◌≡◌, ◌≢◌};
+ghost use Rattle.btcheck_c.specs.Keeping.{ExportWritten, Exports, TakesLayer};
+ghost use Rattle.btcheck_c.specs.Holds.{Through};
+
+use crate::handle::Handle;
+use crate::thing::{Kind, Thing};
+use c_layouts::cursor_info::{CursorInfo, lay_out_cursor, read_cursor};
+use c_layouts::hashes_frame::write_hashes_frame;
+use c_layouts::status::{DONE, NO_MEMORY, NO_SUCH, NOTHING, WRONG_HANDLE, status_of_hashes};
+use owned_sessions::OwnedSession;
+use partial_tree::Answer;
+use std::alloc::Global;
+use wire::Hash;
+
+fn take_layer(thing: &mut Thing, tree: usize, layer: u32, hashes: &[Hash], places: &mut u64) -> u32
+    ensures done { TakesLayer tree layer hashes.now places.new thing.old.kind result
+        thing.new.kind }
+    ensures unwritten { result ≢ 0 → places.new ≡ places.old }
+{
+    match &mut thing.kind {
+        Kind::Root(_) | Kind::Check(_) | Kind::Holdings(_) => WRONG_HANDLE,
+        Kind::Session(session) => {
+            if tree >= session.torrent().trees().len() {
+                return NO_SUCH;
+            }
+            status_of_hashes(session.fill(tree, layer, hashes), places)
+        }
+    }
+}
+
+// Writes the leaves that are exported next, and moves the cursor behind them.
+fn write_export(
+    session: &mut OwnedSession,
+    cursor: &mut CursorInfo,
+    room: &mut [u8],
+    length: &mut u64,
+) -> u32
+    ensures done { ExportWritten session.old cursor.old room.old result cursor.new room.new
+        length.new }
+    ensures same { session.new ≡ session.old }
+    ensures unwritten { result ≢ 0 → (cursor.new ≡ cursor.old) × (room.new ≡ room.old)
+        × (result ≢ 7 → length.new ≡ length.old) }
+{
+    session.torrent().recall_sound();
+    let Some(export) = session.next_export(read_cursor(cursor)) else {
+        return NOTHING;
+    };
+    match session.answer(&export.ask) {
+        None => NO_MEMORY,
+        Some(Answer::Reject) => unreachable!(),
+        Some(Answer::Hashes(hashes)) => {
+            let status = write_hashes_frame(&export.ask, &hashes, room, length);
+            if status == DONE {
+                *cursor = lay_out_cursor(export.end());
+            }
+            status
+        }
+    }
+}
+
+fn export(thing: &mut Thing, cursor: &mut CursorInfo, room: &mut [u8], length: &mut u64) -> u32
+    ensures done { Exports cursor.old room.old cursor.new room.new length.new thing.old.kind
+        result thing.new.kind }
+    ensures unwritten { result ≢ 0 → (cursor.new ≡ cursor.old) × (room.new ≡ room.old)
+        × (result ≢ 7 → length.new ≡ length.old) }
+{
+    match &mut thing.kind {
+        Kind::Root(_) | Kind::Check(_) | Kind::Holdings(_) => WRONG_HANDLE,
+        Kind::Session(session) => write_export(session, cursor, room, length),
+    }
+}
+
+/// Takes a whole layer of a tree, the leaves say, without the pads at its end, and writes how many
+/// places are newly known. Status 1: the handle holds no session. Status 5: there is no such tree.
+/// Status 202: the layer is above the root. Status 203: it has another number of hashes. Status
+/// 206: a hash differs from a known one. Status 207: memory was refused. Then the session is as
+/// before.
+#[unsafe(no_mangle)]
+pub extern "C" fn btcheck_session_fill(
+    alloc: Global,
+    handle: &mut Handle,
+    tree: usize,
+    layer: u32,
+    hashes: &[[u8; 32]],
+    places: &mut u64,
+) -> u32
+    ensures done { Through (TakesLayer tree layer hashes.now places.new) handle.old.slot.held
+        result handle.new.slot.held }
+    ensures unwritten { result ≢ 0 → places.new ≡ places.old }
+{
+    let Some(mut thing) = handle.take(alloc) else {
+        return WRONG_HANDLE;
+    };
+    let status = take_layer(&mut thing, tree, layer, hashes, places);
+    handle.put(thing);
+    status
+}
+
+/// Writes the frame of a hashes message, with its length, to the front of the room, and how many
+/// bytes it has, and moves the cursor behind its leaves: the first range of known leaves from the
+/// cursor on, with proof up to the root, which any session of the torrent takes. Status 1: the
+/// handle holds no session. Status 2: memory was refused. Status 6: no leaf is known from the
+/// cursor on. Status 7: the room has fewer bytes than the frame. Then cursor and room stay as they
+/// are. The session is as before.
+#[unsafe(no_mangle)]
+pub extern "C" fn btcheck_session_export(
+    alloc: Global,
+    handle: &mut Handle,
+    cursor: &mut CursorInfo,
+    room: &mut [u8],
+    length: &mut u64,
+) -> u32
+    ensures done { Through (Exports cursor.old room.old cursor.new room.new length.new)
+        handle.old.slot.held result handle.new.slot.held }
+    ensures unwritten { result ≢ 0 → (cursor.new ≡ cursor.old) × (room.new ≡ room.old)
+        × (result ≢ 7 → length.new ≡ length.old) }
+{
+    let Some(mut thing) = handle.take(alloc) else {
+        return WRONG_HANDLE;
+    };
+    let status = export(&mut thing, cursor, room, length);
+    handle.put(thing);
+    status
+}

@@ -1,0 +1,93 @@
+//! What the making of a torrent in parts answers.
+ghost use Rattle.std.specs.Prelude.{◌≡◌, ◌-◌};
+ghost use Rattle.commands.specs.Creations.{AnswersPart};
+
+use crate::outcomes::{fault_of_listing, refuse};
+use actions::{Create, Part};
+use assembling::AssembleFault;
+use benc::Sink;
+use drafts::Draft;
+use filetree::Refusal;
+use folders::{SeekShelf, Shelf};
+use part_drafts::PartFault;
+use part_texts::Listing;
+use pieces::PieceLength;
+use printing::{Fault, OUTPUT};
+use std::alloc::Global;
+
+/// Lists the files of a shelf, in the order of their paths. If there is no torrent of the piece
+/// length, it prints the refusal, answers the exit status, 1, and does not look at the shelf.
+pub fn list_files<'a, S: Shelf, W: Sink>(
+    alloc: Global,
+    asked: &Create<'a>,
+    shelf: &mut S,
+    out: &mut W,
+) -> Result<Result<Vec<Vec<String>>, u8>, Fault<'a>>
+    ensures stays { S.contents shelf.new ≡ S.contents shelf.old }
+{
+    if PieceLength::new(asked.piece_length).is_none() {
+        return Ok(Err(refuse(&Refusal::PieceLength, &Vec::new(alloc), out)?));
+    }
+    match shelf.list() {
+        Ok(mut paths) => {
+            paths.sort_unstable();
+            Ok(Ok(paths))
+        }
+        Err(fault) => Err(fault_of_listing(fault, asked.dir)),
+    }
+}
+
+/// Hashes one part of the listed files, and gives its text. If there is no torrent of the piece
+/// length, it prints the refusal and answers the exit status, 1. A fault names the file that could
+/// not be read.
+pub fn hash_part<'a, S: SeekShelf, W: Sink>(
+    alloc: Global,
+    listing: &Listing,
+    shelf: &mut S,
+    part: Part,
+    out: &mut W,
+) -> Result<Result<Vec<u8>, u8>, Fault<'a>>
+    ensures text { AnswersPart (S.Shelf.contents shelf.old).under listing.now (part.number - 1)
+        part.count result }
+    ensures stays { S.Shelf.contents shelf.new ≡ S.Shelf.contents shelf.old }
+{
+    match part_drafts::hash_part(alloc, shelf, listing, part.number - 1, part.count) {
+        Ok(text) => Ok(Ok(text)),
+        Err(PartFault::PieceLength) => {
+            Ok(Err(refuse(&Refusal::PieceLength, &Vec::new(alloc), out)?))
+        }
+        Err(PartFault::Device(place) | PartFault::Changed(place)) => {
+            Err(unread(alloc, listing, place))
+        }
+        Err(PartFault::NoMemory) => Err(Fault::NoMemory),
+    }
+}
+
+// The fault that the file at this place of a listing cannot be read.
+fn unread<'a>(alloc: Global, listing: &Listing, place: usize) -> Fault<'a> {
+    match listing.files.get(place) {
+        Some(file) => match file.path.clone() {
+            Ok(path) => Fault::ReadBelow(path),
+            Err(_) => Fault::NoMemory,
+        },
+        None => Fault::ReadBelow(Vec::new(alloc)),
+    }
+}
+
+/// Assembles a draft of what all parts hashed. If the files cannot be a torrent, it prints the
+/// refusal and answers the exit status, 1. If the texts are not those of all parts of one folder,
+/// it answers why, and prints nothing.
+pub fn assemble<'a, W: Sink>(
+    alloc: Global,
+    texts: &[&[u8]],
+    out: &mut W,
+) -> Result<Result<Result<Draft, u8>, AssembleFault>, Fault<'a>> {
+    match assembling::assemble(alloc, texts) {
+        Ok(draft) => Ok(Ok(Ok(draft))),
+        // Nothing is written yet, so no draft answers this.
+        Err(AssembleFault::Refused(Refusal::Write, _)) => Err(Fault::Write(OUTPUT)),
+        Err(AssembleFault::Refused(refusal, path)) => Ok(Ok(Err(refuse(&refusal, &path, out)?))),
+        Err(AssembleFault::NoMemory) => Err(Fault::NoMemory),
+        Err(fault) => Ok(Err(fault)),
+    }
+}

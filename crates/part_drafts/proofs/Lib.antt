@@ -1,0 +1,4 @@
+-- Lemmas on hashing one part.
+pub mod Halves
+pub mod Found
+pub mod Gathered

@@ -1,0 +1,3 @@
+-- What contracts of hashing one part cite.
+pub mod Parts
+pub mod Rows

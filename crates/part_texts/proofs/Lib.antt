@@ -1,0 +1,2 @@
+-- Lemmas on the parts in which a torrent is made.
+pub mod Fronts

@@ -1,0 +1,158 @@
+-- Files that are held, and judged together.
+use Rattle.std.proofs.Common.{◌≡◌, ◌∙◌, ℕ, suc, ◌+◌, ◌-◌, ◌<◌, ◌≤◌, min, inl, inr, List, [], ◌∷◌, ◌++◌, length, take, drop, get_or, slice_get, Some, refl}
+use Rattle.std.proofs.Common.{sym, ap, ap₂, subst, arith, take-take}
+use Rattle.std.proofs.lemmas.List.{drop-take, get_or-drop, get_or-take, length-drop, length-take, length_push}
+use Rattle.std.proofs.lemmas.Option.{get_or_from_slice_get, same_Some, slice_get-get_or, slice_get_within}
+use Rattle.benc.specs.Device.{SourceSeen}
+use Rattle.block_windows.specs.Files.{HasFile, bytes_at}
+use Rattle.block_windows.specs.declared.files.Window.{Window}
+use Rattle.chains.specs.Chain.{Chain}
+use Rattle.chains.proofs.Cases.{item_at, pushed_at}
+use Rattle.chains.proofs.Chains.{Chain-next}
+use Rattle.folders.specs.declared.shelf.Shelf.{Ghosts}
+use Rattle.opening.specs.Description.{Description, FileEntry}
+use Rattle.parts.specs.Batches.{AreJudged, AreKept, HasKept, HoldsFrom, VisitsFrom}
+use Rattle.parts.specs.Held.{IsJudged, Promises, VisitsFound}
+use Rattle.parts.specs.declared.batch.HeldFiles.{HeldFiles}
+use Rattle.parts.specs.declared.batch.Kept.{Kept}
+use Rattle.parts.specs.declared.held.Held.{Held}
+use Rattle.parts.specs.declared.verdicts.Verdicts.{Verdicts}
+
+-- an item of a part of a list
+pub item_of_part : {A : Type 0} (n c : ℕ) (xs : List A) (k : ℕ) (x : A) → slice_get (take c (drop n xs)) k ≡ Some x → (k < c) × (slice_get xs (n + k) ≡ Some x)
+item_of_part {A} n c xs k x is =
+    let inside : k < length (take c (drop n xs)) = slice_get_within (take c (drop n xs)) k x is in
+    let size : length (take c (drop n xs)) ≡ min c (length xs - n) =
+    length-take c (drop n xs) ∙ ap (min c) (length-drop n xs) in
+    let here : k < c = omega (arith, inside, size) in
+    let there : n + k < length xs = omega (arith, inside, size) in (
+      here,
+      slice_get-get_or xs (n + k) x there
+          ∙ ap (λ y. Some y) (sym (get_or-take c (drop n xs) k x here ∙ get_or-drop n xs k x) ∙ get_or_from_slice_get (take c (drop n xs)) k x x is),
+    )
+
+-- what stands before a place of a room stays
+same_bytes : (used start size : ℕ) (room room' : List ℕ) → take used room' ≡ take used room → start + size ≤ used
+    → bytes_at room' start size ≡ bytes_at room start size
+same_bytes used start size room room' same le = within room' ∙ ap (λ r. take size (drop start r)) same ∙ sym (within room)
+  where
+    within : (r : List ℕ) → take size (drop start r) ≡ take size (drop start (take used r))
+    within r =
+        let m : ℕ = used - start in
+        let split : start + m ≡ used = omega (arith, le) in
+        sym (ap (λ k. take size (drop start (take k r))) (sym split) ∙ ap (take size) (drop-take start m r)
+        ∙ take-take size m (drop start r) (omega (arith, le)))
+
+module _ {S F : Type 0} (shelf : Ghosts S F) (seen : F → SourceSeen) (t : Description) (from : ℕ) where
+  -- nothing is held yet
+  pub holds_none : (s : S) (h : HeldFiles) (room : List ℕ) → h.count ≡ 0 → from ≤ length t.files → HoldsFrom shelf seen t from s h room 0 s
+  holds_none s h room none few = record {
+    all = [];
+    count = sym none;
+    few = omega (arith, none, few);
+    run = subst (λ n. Chain (Promises shelf seen t) s (take n (drop from t.files)) [] s) (sym none) refl;
+    each = λ k f e x there kept at. (let no : ⊥ = cc in absurd no);
+  }
+
+  -- one more file
+  pub holds_more : (s mid s' : S) (h h' : HeldFiles) (room room' : List ℕ) (used n : ℕ) (f : FileEntry) (a : Held)
+      → HoldsFrom shelf seen t from s h room used mid
+      → n ≡ from + h.count → slice_get t.files n ≡ Some f → Promises shelf seen t mid f (a, bytes_at room' used f.length) s' → take used room' ≡ take used room
+      → h'.count ≡ h.count + 1 → ((k : ℕ) → k < h.count → slice_get h'.kept k ≡ slice_get h.kept k)
+      → ((e : Kept) → slice_get h'.kept h.count ≡ Some e → (e.held ≡ a) × (e.start ≡ used) × HasKept h'.window (used + f.length) f.length e)
+      → ((first start size : ℕ) → HasFile h.window first start size → HasFile h'.window first start size)
+      → HoldsFrom shelf seen t from s h' room' (used + f.length) s'
+  holds_more s mid s' h h' room room' used n f a held number there promised same count before last window =
+      let x : Held × List ℕ = (a, bytes_at room' used f.length) in
+      let at : slice_get t.files (from + h.count) ≡ Some f = ap (slice_get t.files) (sym number) ∙ there in
+      let inside : from + h.count < length t.files = slice_get_within t.files (from + h.count) f at in
+      let step : Promises shelf seen t mid (get_or (drop from t.files) h.count f) x s' =
+      subst (λ g. Promises shelf seen t mid g x s') (sym (get_or-drop from t.files h.count f ∙ get_or_from_slice_get t.files (from + h.count) f f at))
+      promised in
+      record {
+        all = held.all ++ x ∷ [];
+        count = length_push held.all x ∙ ap (λ k. k + 1) held.count ∙ sym count;
+        few = omega (arith, inside, count);
+        run = subst (λ k. Chain (Promises shelf seen t) s (take k (drop from t.files)) (held.all ++ x ∷ []) s') (sym count)
+            (Chain-next (Promises shelf seen t) s mid s' (drop from t.files) h.count held.all f x (omega (arith, inside, length-drop from t.files)) held.run
+            step);
+        each = λ k g e y here kept said. elim (pushed_at held.all x y k said) [
+          | inl old ↦
+              let lt : k < h.count = omega (arith, slice_get_within held.all k y old, held.count) in
+              let was = held.each k g e y here (sym (before k lt) ∙ kept) old in
+              record {
+                has = record { inside = omega (arith, was.has.inside); blocks = λ whole. window e.first e.start g.length (was.has.blocks whole) };
+                held_is = was.held_is;
+                bytes_are = was.bytes_are ∙ sym (same_bytes used e.start g.length room room' same was.has.inside);
+              }
+          | inr now ↦
+              let spot : k ≡ h.count = now.0 ∙ held.count in
+              let e_is = last e (ap (slice_get h'.kept) (sym spot) ∙ kept) in
+              let g_is : f ≡ g = same_Some f g (sym at ∙ ap (λ i. slice_get t.files (from + i)) (sym spot) ∙ here) in
+              record {
+                has = subst (λ i. HasKept h'.window (used + f.length) i.length e) g_is e_is.2;
+                held_is = ap (λ i. i.0) (sym now.1) ∙ sym e_is.0;
+                bytes_are = ap (λ i. i.1) (sym now.1) ∙ ap₂ (λ start i. bytes_at room' start i.length) (sym e_is.1) g_is;
+              }
+        ];
+      }
+
+  -- what is held was judged
+  judged_all : (s : S) (fs : List FileEntry) (all : List (Held × List ℕ)) (vs : List Verdicts) (s' : S) → Chain (Promises shelf seen t) s fs all s'
+      → length vs ≡ length all
+      → ((k : ℕ) (f : FileEntry) (x : Held × List ℕ) (v : Verdicts) → slice_get fs k ≡ Some f → slice_get all k ≡ Some x → slice_get vs k ≡ Some v
+      → IsJudged t f x.0 x.1 v) → Chain (VisitsFound shelf seen t) s fs vs s'
+  judged_all s [] [] [] s' run long judged = run
+  judged_all s [] [] (v ∷ vs) s' run long judged = absurd (omega (arith, long))
+  judged_all s [] (x ∷ all) vs s' run long judged = absurd run
+  judged_all s (f ∷ fs) [] vs s' run long judged = absurd run
+  judged_all s (f ∷ fs) (x ∷ all) [] s' run long judged = absurd (omega (arith, long))
+  judged_all s (f ∷ fs) (x ∷ all) (v ∷ vs) s' (mid, step, rest) long judged = (
+    mid,
+    step v (judged 0 f x v refl refl refl),
+    judged_all mid fs all vs s' rest (omega (arith, long)) (λ k g y w fi yi wi. judged (suc k) g y w fi yi wi),
+  )
+
+  pub visits_from : (s s' : S) (h : HeldFiles) (room : List ℕ) (used : ℕ) (vs : List Verdicts) → HoldsFrom shelf seen t from s h room used s'
+      → h.count ≤ length h.kept
+      → length vs ≡ h.count → AreJudged t from h room vs → VisitsFrom shelf seen t from s vs s'
+  visits_from s s' h room used vs held few long judged = record {
+    few = omega (arith, held.few, long);
+    run = subst (λ n. Chain (VisitsFound shelf seen t) s (take n (drop from t.files)) vs s') (sym long)
+        (judged_all s (take h.count (drop from t.files)) held.all vs s' held.run (long ∙ sym held.count) (λ k f x v there at said.
+        let file = item_of_part from h.count t.files k f there in
+        let e = item_at h.kept k (omega (arith, file.0, few)) in
+        let is = held.each k f e.0 x file.1 e.1 at in
+        subst (λ (y : Held × List ℕ). IsJudged t f y.0 y.1 v) (sym (pair x (e.0.held) (bytes_at room e.0.start f.length) is.held_is is.bytes_are))
+        (judged k f e.0 v file.0 file.1 e.1 said)));
+  }
+    where
+      pair : (x : Held × List ℕ) (a : Held) (b : List ℕ) → x.0 ≡ a → x.1 ≡ b → x ≡ (a, b)
+      pair x a b one two = ap₂ (λ y z. (y, z)) one two
+
+  -- what is held has its places
+  pub has_places : (s s' : S) (h : HeldFiles) (window : Window) (room : List ℕ) (used bytes : ℕ) → HoldsFrom shelf seen t from s h room used s' → used ≤ bytes
+      → ((first start size : ℕ) → HasFile h.window first start size → HasFile window first start size)
+      → AreKept t from (record { kept = h.kept; count = h.count; window = window }) bytes
+  has_places s s' h window room used bytes held le same k f e lt there kept =
+      let x = item_at held.all k (omega (arith, lt, held.count)) in
+      let is = held.each k f e x.0 there kept x.1 in
+      record { inside = omega (arith, is.has.inside, le); blocks = λ whole. same e.first e.start f.length (is.has.blocks whole) }
+
+  -- the window's blocks were hashed
+  pub holds_hashed : (s s' : S) (h : HeldFiles) (window : Window) (room : List ℕ) (used : ℕ) → HoldsFrom shelf seen t from s h room used s'
+      → ((first start size : ℕ) → HasFile h.window first start size → HasFile window first start size)
+      → HoldsFrom shelf seen t from s (record { kept = h.kept; count = h.count; window = window }) room used s'
+  holds_hashed s s' h window room used held same = record {
+    all = held.all;
+    count = held.count;
+    few = held.few;
+    run = held.run;
+    each = λ k f e x there kept at.
+        let is = held.each k f e x there kept at in
+        record {
+          has = record { inside = is.has.inside; blocks = λ whole. same e.first e.start f.length (is.has.blocks whole) };
+          held_is = is.held_is;
+          bytes_are = is.bytes_are;
+        };
+  }

@@ -1,0 +1,44 @@
+-- What follows from the bytes of a file that is held.
+use Rattle.std.proofs.Common.{◌≡◌, ◌∙◌, ℕ, List, [], length, slice_get, Option, Some, None, Ok, refl, sym, ap, subst}
+use Rattle.hashtree.specs.Tree.{root_of}
+use Rattle.opening.specs.Description.{Description, FileEntry, TreeEntry}
+use Rattle.opening.specs.Sound.{IsSound}
+use Rattle.folders.specs.Folder.{tree_entry_of}
+use Rattle.folders.specs.Verdicts.{is_whole}
+use Rattle.parts.specs.FilePieces.{FindsPieces}
+use Rattle.parts.specs.Finding.{FindsWhole}
+use Rattle.parts.specs.Held.{IsJudged, IsJudgedGood}
+use Rattle.parts.specs.Saying.{SaysWhole}
+use Rattle.parts.specs.declared.held.Held.TheVariants as held
+use Rattle.parts.specs.declared.row.Found.{Found}
+use Rattle.parts.specs.declared.span.Span.{Span}
+use Rattle.parts.specs.declared.verdicts.Verdicts.{Verdicts}
+use Rattle.parts.proofs.WholeFiles.{IsWholeSpan, from_start, good_by_root, is_whole_says, whole_found}
+
+-- bytes with the root of the tree are the file
+pub judged_good : (t : Description) (n : ℕ) (f : FileEntry) (bytes : List ℕ) → IsSound t → slice_get t.files n ≡ Some f → length bytes ≡ f.length → t.v1 ≡ None
+    → ((e : TreeEntry) → tree_entry_of t f ≡ Some e → root_of bytes ≡ e.root) → IsJudgedGood t f bytes
+judged_good t n f bytes sound there long single root = (
+  record {
+    content = Some bytes;
+    agrees = λ stands is. (let same : stands ≡ Some bytes = cc in same);
+    verdict = (bytes, refl, good_by_root t n f bytes sound there long root);
+    version1 = λ w hybrid. (let no : ⊥ = cc in absurd no);
+    checked = refl;
+    marks = λ runs. (let no : ⊥ = cc in absurd no);
+  },
+  refl,
+)
+
+-- bytes that were judged as a row of pieces
+pub judged_row : (t : Description) (n : ℕ) (f : FileEntry) (bytes bits : List ℕ) (s : Span) (found : Option Found) (v : Verdicts) → IsSound t
+    → slice_get t.files n ≡ Some f → IsWholeSpan t f s → length bytes ≡ f.length → bits ≡ [] → FindsPieces t f s (Some bytes) bits found
+    → SaysWhole f.first_piece (Ok found) v → IsJudged t f held.Whole bytes v
+judged_row t n f bytes bits s None v sound there whole long none finds says =
+    let so = finds.each finds.rest (from_start t s f finds.rest whole) in
+    absurd (so.other (ap length (sym (finds.agrees bytes refl)) ∙ long))
+judged_row t n f bytes bits s (Some found) v sound there whole long none finds says = (
+  subst (λ b. FindsWhole t f (Some (Some bytes)) b v) none
+      (whole_found t n f s (Some (Some bytes)) (Some bytes) bits (Ok (Some found)) v sound there whole refl finds says),
+  ap is_whole says.0 ∙ is_whole_says f.first_piece found.root_is found.bad,
+)

@@ -1,0 +1,68 @@
+-- Small files that are visited one after the other and judged together.
+use Rattle.std.specs.Prelude.{◌≡◌, ℕ, ◌+◌, ◌<◌, ◌≤◌, List, length, take, drop, slice_get, Some}
+use Rattle.benc.specs.Device.{SourceSeen}
+use Rattle.block_windows.specs.Files.{HasFile, bytes_at}
+use Rattle.block_windows.specs.declared.files.Window.{Window}
+use Rattle.chains.specs.Chain.{Chain}
+use Rattle.folders.specs.declared.shelf.Shelf.{Ghosts}
+use Rattle.opening.specs.Description.{Description, FileEntry}
+use Rattle.parts.specs.Held.{IsJudged, Promises, VisitsFound}
+use Rattle.parts.specs.declared.ahead.Ahead.{Ahead}
+use Rattle.parts.specs.declared.batch.HeldFiles.{HeldFiles}
+use Rattle.parts.specs.declared.batch.Kept.{Kept}
+use Rattle.parts.specs.declared.held.Held.{Held}
+use Rattle.parts.specs.declared.held.Held.TheVariants as held
+use Rattle.parts.specs.declared.verdicts.Verdicts.{Verdicts}
+
+-- the verdicts that are left
+abbrev pub left : Ahead → List Verdicts
+left a = drop a.next (take a.count a.verdicts)
+
+-- what is kept of a file of this size has a place in the first bytes of a room, and in the window
+-- if it is whole
+pub record HasKept (w : Window) (used size : ℕ) (e : Kept) : Type 0 where
+  pub inside : e.start + size ≤ used
+  pub blocks : e.held ≡ held.Whole → HasFile w e.first e.start size
+
+-- and this is held of it
+pub record IsKeptAs (w : Window) (room : List ℕ) (used size : ℕ) (e : Kept) (h : Held × List ℕ)
+    : Type 0 where
+  pub has : HasKept w used size e
+  pub held_is : h.0 ≡ e.held
+  pub bytes_are : h.1 ≡ bytes_at room e.start size
+
+-- of the files from this one on this many are kept
+abbrev pub AreKept : Description → ℕ → HeldFiles → ℕ → Type 0
+AreKept t from h used = (k : ℕ) (f : FileEntry) (e : Kept) → k < h.count
+    → slice_get t.files (from + k) ≡ Some f → slice_get h.kept k ≡ Some e
+    → HasKept h.window used f.length e
+
+-- each of these verdicts follows from what is kept
+abbrev pub AreJudged : Description → ℕ → HeldFiles → List ℕ → List Verdicts → Type 0
+AreJudged t from h room vs = (k : ℕ) (f : FileEntry) (e : Kept) (v : Verdicts) → k < h.count
+    → slice_get t.files (from + k) ≡ Some f → slice_get h.kept k ≡ Some e
+    → slice_get vs k ≡ Some v → IsJudged t f e.held (bytes_at room e.start f.length) v
+
+module _ {S F : Type 0} (shelf : Ghosts S F) (seen : F → SourceSeen) (t : Description) where
+  -- the files from this one on were visited, and this is held of them
+  pub record HoldsFrom (from : ℕ) (s : S) (h : HeldFiles) (room : List ℕ) (used : ℕ) (s' : S)
+      : Type 0 where
+    pub all : List (Held × List ℕ)
+    pub count : length all ≡ h.count
+    pub few : from + h.count ≤ length t.files
+    pub run : Chain (Promises shelf seen t) s (take h.count (drop from t.files)) all s'
+    pub each : (k : ℕ) (f : FileEntry) (e : Kept) (x : Held × List ℕ)
+        → slice_get t.files (from + k) ≡ Some f → slice_get h.kept k ≡ Some e
+        → slice_get all k ≡ Some x → IsKeptAs h.window room used f.length e x
+
+  -- the files from this one on were visited for these verdicts
+  pub record VisitsFrom (from : ℕ) (s : S) (vs : List Verdicts) (s' : S) : Type 0 where
+    pub few : from + length vs ≤ length t.files
+    pub run : Chain (VisitsFound shelf seen t) s (take (length vs) (drop from t.files)) vs s'
+
+  -- the next file was visited for these verdicts; or it was before, and the files of which the
+  -- verdicts are left are those behind it
+  abbrev pub NextVisits : ℕ → List Verdicts → S → Verdicts → List Verdicts → S → Type 0
+  NextVisits n before s v after s' = (mid : S) → VisitsFrom n mid before s
+      → (next : S) × (f : FileEntry) × (slice_get t.files n ≡ Some f) × VisitsFound shelf seen t mid f v next
+      × VisitsFrom (n + 1) next after s'

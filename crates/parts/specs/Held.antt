@@ -1,0 +1,70 @@
+-- Files that are read whole and judged later, several of them together.
+use Rattle.std.specs.Prelude.{◌≡◌, ◌≢◌, ℕ, ◌+◌, ◌≤◌, true, List, [], length, take, drop, Some, Result, Ok, Err, IfOk, OnErr}
+use Rattle.benc.specs.Device.{CountsFault, SourceSeen}
+use Rattle.benc.specs.declared.device.DeviceFault.{DeviceFault}
+use Rattle.folders.specs.Shelf.{more}
+use Rattle.folders.specs.TakeAll.{Fills, IsReadWithin}
+use Rattle.folders.specs.Verdicts.{fault_count, is_whole}
+use Rattle.folders.specs.Visits.{Visits}
+use Rattle.folders.specs.declared.report.FileVerdict.TheVariants as file
+use Rattle.folders.specs.declared.report.V1Verdict.TheVariants as version1
+use Rattle.folders.specs.declared.shelf.Shelf.{Ghosts}
+use Rattle.opening.specs.Description.{Description, FileEntry}
+use Rattle.parts.specs.Finding.{FindsWhole}
+use Rattle.parts.specs.declared.held.Held.{Held}
+use Rattle.parts.specs.declared.held.Held.TheVariants as held
+use Rattle.parts.specs.declared.held.HeldReader.{HeldReader}
+use Rattle.parts.specs.declared.verdicts.Verdicts.{Verdicts}
+
+-- ---- reading
+
+-- the reader has room for the file and one byte more
+abbrev pub FitsIn : HeldReader → Type 0
+FitsIn r = r.at + r.size + 1 ≤ length r.room.items
+
+-- the file was read into the room, at most to one byte past its stated size; what stands before it
+-- in the room stays
+pub record ReadsHeld (r s : HeldReader) (answer : Result ℕ DeviceFault) (old new : SourceSeen)
+    : Type 0 where
+  pub filled : IfOk answer (Fills old new (take (r.size + 1) (drop r.at s.room.items)))
+  pub no_further : IsReadWithin (r.size + 1) old new
+  pub blamed : OnErr answer (IsReadWithin r.size old new)
+  pub counts : CountsFault old.faults new.faults answer
+  pub kept : take r.at s.room.items ≡ take r.at r.room.items
+  pub count : length s.room.items ≡ length r.room.items
+
+-- what is held of a file of this stated size, by how many of its bytes were read
+abbrev pub IsHeldFor : Result ℕ DeviceFault → ℕ → Held → Type 0
+IsHeldFor (Ok count) size held.Missing = ⊥
+IsHeldFor (Ok count) size held.Unreadable = ⊥
+IsHeldFor (Ok count) size held.Other = count ≢ size
+IsHeldFor (Ok count) size held.Whole = count ≡ size
+IsHeldFor (Err fault) size h = h ≡ held.Unreadable
+
+-- ---- judging
+
+-- these verdicts follow from what is held of a file, and are true of its bytes if it is whole
+abbrev pub IsJudged : Description → FileEntry → Held → List ℕ → Verdicts → Type 0
+IsJudged t f held.Missing bytes v = (v.file ≡ file.Missing) × (v.v1 ≡ version1.NotChecked)
+IsJudged t f held.Unreadable bytes v = (v.file ≡ file.Unreadable) × (v.v1 ≡ version1.NotChecked)
+IsJudged t f held.Other bytes v = (v.file ≡ file.WrongLength) × (v.v1 ≡ version1.NotChecked)
+IsJudged t f held.Whole bytes v = FindsWhole t f (Some (Some bytes)) [] v
+    × (is_whole v.file ≡ true)
+
+-- a file with these bytes is good
+abbrev pub IsJudgedGood : Description → FileEntry → List ℕ → Type 0
+IsJudgedGood t f bytes =
+    IsJudged t f held.Whole bytes (record { file = file.Good; v1 = version1.Good })
+
+module _ {S F : Type 0} (shelf : Ghosts S F) (seen : F → SourceSeen) (t : Description) where
+  -- a file was visited for these verdicts, which are true of what stands at its path
+  pub record VisitsFound (s : S) (f : FileEntry) (v : Verdicts) (s' : S) : Type 0 where
+    pub finds : FindsWhole t f ((shelf.contents s).under f.path) [] v
+    pub visits : Visits shelf seen t s f v.file s'
+    pub counts : shelf.faults s' ≡ more (shelf.faults s) (fault_count v.file)
+    pub stays : shelf.contents s' ≡ shelf.contents s
+
+  -- a file was read, and this is held of it: whatever verdicts follow from that, it was visited for
+  -- them
+  abbrev pub Promises : S → FileEntry → Held × List ℕ → S → Type 0
+  Promises s f h s' = (v : Verdicts) → IsJudged t f h.0 h.1 v → VisitsFound s f v s'

@@ -1,0 +1,50 @@
+//! `assemble`: a torrent of what all parts hashed.
+use crate::assemble_faults::refuse_assembly;
+use crate::file_bytes::read_bytes;
+use actions::Assemble;
+use benc::FromWrite;
+use commands::{creations, outcomes};
+use drafts::Draft;
+use printing::Fault;
+use real_files::{Noted, System, create_output};
+use std::alloc::AllocError;
+use std::io::BufWriter;
+
+/// Makes a torrent of what all parts hashed. Its file is opened once all parts are read, and stays
+/// untouched if it is refused. It is none of the parts. Gives the exit status.
+pub(crate) fn perform_assemble<'a>(system: &System, asked: &Assemble<'a>) -> Result<u8, Fault<'a>> {
+    let texts = read_parts(system, asked.parts.as_slice())?;
+    let slices = texts
+        .iter()
+        .map(|text| text.as_slice())
+        .collect::<Vec<&[u8]>>(system.alloc())?;
+    let mut out = FromWrite::new(system.output());
+    match creations::assemble(system.alloc(), slices.as_slice(), &mut out)? {
+        Ok(Ok(draft)) => write_assembled(system, asked, &draft),
+        Ok(Err(status)) => Ok(status),
+        Err(fault) => refuse_assembly(system, fault, asked.parts.as_slice()),
+    }
+}
+
+// The bytes of each part.
+fn read_parts<'a>(system: &System, paths: &[&'a str]) -> Result<Vec<Vec<u8>>, Fault<'a>> {
+    let mut texts = Vec::new(system.alloc());
+    for path in paths {
+        let text = read_bytes(system, path, u64::MAX)?;
+        texts.push(text).map_err(AllocError::from)?;
+    }
+    Ok(texts)
+}
+
+fn write_assembled<'a>(
+    system: &System,
+    asked: &Assemble<'a>,
+    draft: &Draft,
+) -> Result<u8, Fault<'a>> {
+    let file = create_output(system, asked.out, asked.parts.as_slice())?;
+    let Ok(buffered) = BufWriter::new(system.alloc(), Noted::new(file, system)) else {
+        return Err(Fault::NoMemory);
+    };
+    let mut out = FromWrite::new(system.output());
+    outcomes::write_torrent(draft, asked.out, &mut FromWrite::new(buffered), &mut out)
+}

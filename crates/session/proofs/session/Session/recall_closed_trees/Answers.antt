@@ -1,0 +1,10 @@
+use Rattle.std.proofs.Common.{subst}
+use Rattle.session.specs.Session.{HasClosedTrees}
+use Rattle.session.specs.Layouts.{SessionSeen}
+use Rattle.session.proofs.Sessions.{kept-closed}
+use Rattle.session.proofs.session.Session.recall_closed_trees.Goals as goal
+
+pub returns : goal.returns
+returns g c =
+    subst (λ (v : SessionSeen). HasClosedTrees v) c.self.view_is (kept-closed c.self.inside.torrent.now c.self.inside.trees.items c.self.invariant
+    c.self.inside.asks)

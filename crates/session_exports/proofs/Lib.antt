@@ -1,0 +1,5 @@
+-- Lemmas of exports.
+pub mod Leaves
+pub mod Entries
+pub mod KnownRanges
+pub mod Order

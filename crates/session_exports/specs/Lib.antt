@@ -1,0 +1,2 @@
+-- What is exported of a session, and in which order.
+pub mod Exports
