@@ -1,10 +1,11 @@
 """Many torrents at once, as docs/MANY.md has it: `xargs` with four checks at a time beside one at a time, on folders of
-one file each. The time of the clock counts."""
+one file each; the time of the clock counts. Then `btcheck-many archive` once over small torrents, five times as many as
+--files says: what each costs beside its digests."""
 import os
 import statistics
 import sys
 
-from measuring import BTCHECK, TOP, measured, need_program, report, write_random
+from measuring import BTCHECK, TOP, measure, measured, need_program, report, write_random
 
 sys.path.insert(0, os.path.join(TOP, "tests"))
 import torrents  # noqa: E402
@@ -13,6 +14,8 @@ COUNT = 16
 PIECE_LENGTH = 1 << 20
 # How many times as fast four at once are, on four cores that nothing else uses.
 MARK = 3.5
+# How many small torrents for each file that --files says.
+TORRENTS = 5
 
 
 def make(folder, mib):
@@ -32,6 +35,26 @@ def by_xargs(folder, jobs):
     return ["sh", "-c", f"echo {numbers} | tr ' ' '\\n' | xargs -P {jobs} -I {{}} {one}"]
 
 
+def archive(folder, count):
+    """Checks as many small torrents, each with a file of its own, and prints what one costs."""
+    for kind in ("torrents", "content"):
+        os.makedirs(f"{folder}/{kind}")
+    for number in range(count):
+        content = b"%d" % number
+        os.makedirs(f"{folder}/content/{number}")
+        with open(f"{folder}/content/{number}/file", "wb") as out:
+            out.write(content)
+        with open(f"{folder}/torrents/{number}.torrent", "wb") as out:
+            out.write(torrents.torrent_of([("file", content)], PIECE_LENGTH))
+    path = f"PATH={os.path.dirname(BTCHECK)}:{os.environ['PATH']}"
+    wall, processor, _ = measure(["env", path, f"{TOP}/tools/btcheck-many", "archive", f"{folder}/torrents", f"{folder}/content",
+                                  f"{folder}/reports"])
+    reports = sum(name.endswith(".report") for name in os.listdir(f"{folder}/reports"))
+    print(f"btcheck-many archive of {count} small torrents: {wall:.0f} s on {os.cpu_count()} processors, {1000 * processor / count:.1f} ms "
+          f"of processor time a torrent")
+    return [] if reports == count else [f"{count - reports} of {count} small torrents have no report"]
+
+
 def run(folder, words):
     """Measures both, and gives the mark that they miss, in words."""
     need_program()
@@ -42,6 +65,7 @@ def run(folder, words):
     pairs = zip(found["one at a time"].walls, found["four at once"].walls)
     ratio = statistics.median(one / four for one, four in pairs)
     print(f"four at once are {ratio:.2f} x as fast on {os.cpu_count()} cores")
+    missed = archive(folder, TORRENTS * words.files)
     if (os.cpu_count() or 1) >= 4 and ratio < MARK:
-        return [f"four checks at once are not {MARK} x as fast as one at a time"]
-    return []
+        missed.append(f"four checks at once are not {MARK} x as fast as one at a time")
+    return missed

@@ -1,12 +1,15 @@
 """`btcheck-many`: one torrent and a whole archive over cores and machines, stopped at any time, with hostile names."""
+import getpass
 import os
 import re
+import shutil
 import signal
+import socket
 import subprocess
 import time
 
 from slurm import Cluster
-from support import BTCHECK, TOP, folder, need, write, written
+from support import BTCHECK, TOP, LeftOut, folder, need, write, written
 from test_many import FAULTS, NOT_GOOD, REASONS, Archive, Big, whole_reports
 import torrents
 
@@ -244,6 +247,112 @@ def test_a_torrent_is_made_in_parts_whatever_the_names():
             assert (done.returncode, done.stdout) == (0, b""), (name, done)
             assert written(f"{place}/{out}") == written(f"{place}/whole") and not many.left(), name
         assert not os.path.exists(f"{place}/hit")
+
+
+def some_files(many):
+    """A folder of some files, and the bytes of the hybrid that `create` makes of it; CREATE makes it in parts."""
+    os.makedirs(f"{many.place}/some/below")
+    for at, name in enumerate(["a", "below/b", "c d"]):
+        write(f"{many.place}/some/{name}", os.urandom(1) * (70000 * at + 100000))
+    words = ["create", "some", "whole", "--name", "some", "--piece-length", "16384", "--hybrid"]
+    subprocess.run([BTCHECK, *words], cwd=many.place, check=True)
+    return written(f"{many.place}/whole")
+
+
+CREATE = "btcheck-many create -j 1 --parts 9 --keep kept some out --name some --piece-length 16384 --hybrid"
+
+
+def test_a_torrent_in_parts_that_is_stopped():
+    """Parts that are there are not made again; OUT is not there before all are."""
+    for how in [signal.SIGTERM, signal.SIGINT]:
+        with folder() as place:
+            many = Many(Archive(place, slow=True))
+            whole, parts = some_files(many), f"{place}/kept/parts"
+            assert stopped(many, "exec " + CREATE, how, lambda: os.path.isdir(parts) and len(os.listdir(parts)) > 2) == -how
+            there = [name for name in os.listdir(parts) if not name.startswith(".")]
+            before = len(many.archive.checked())
+            assert 1 < len(there) < 9 and not os.path.exists(f"{place}/out"), there
+            status, lines, error = many.run(CREATE)
+            assert (status, lines) == (0, []) and f"{len(there)} of 9 parts" in error, (status, lines, error)
+            assert written(f"{place}/out") == whole and not os.path.exists(f"{place}/kept")
+            # each part that was missing, and what assembles them
+            assert len(many.archive.checked()) - before == 9 - len(there) + 1
+
+
+def test_a_torrent_in_parts_on_machines():
+    """One of three does not answer: the others make its parts."""
+    with folder() as place:
+        many = Many(Archive(place))
+        whole = some_files(many)
+        write(f"{place}/hosts", b"2/:\n2/alpha\n2/beta\n")
+        status, lines, error = many.run(CREATE.replace("-j 1", "--hosts hosts"))
+        assert (status, lines) == (0, []) and written(f"{place}/out") == whole, (status, lines, error)
+
+
+class Daemon:
+    """An ssh daemon of this machine's own, on a port of the loopback, for a `with`: `ssh` is the command that reaches it
+    under any name. A login finds what is in `bin`."""
+
+    def __init__(self, place, bin):
+        self.place, self.daemon = place, shutil.which("sshd", path=f"{os.environ['PATH']}:/usr/sbin")
+        if not self.daemon or not shutil.which("ssh-keygen"):
+            raise LeftOut("there is no sshd here: the Debian package is openssh-server")
+        os.makedirs(f"{place}/ssh")
+        for name in ("host", "user"):
+            subprocess.run(["ssh-keygen", "-q", "-t", "ed25519", "-N", "", "-f", f"{place}/ssh/{name}"], check=True)
+        with socket.create_server(("127.0.0.1", 0)) as server:
+            self.port = server.getsockname()[1]
+        write(f"{place}/ssh/sshd", f"""Port {self.port}
+ListenAddress 127.0.0.1
+HostKey {place}/ssh/host
+AuthorizedKeysFile {place}/ssh/user.pub
+PidFile {place}/ssh/pid
+StrictModes no
+UsePAM no
+PermitRootLogin yes
+PasswordAuthentication no
+SetEnv PATH={bin}:{os.environ['PATH']} PYTHONPATH=
+""".encode())
+        write(f"{place}/ssh/client", f"""Host *
+HostName 127.0.0.1
+Port {self.port}
+User {getpass.getuser()}
+IdentityFile {place}/ssh/user
+StrictHostKeyChecking no
+UserKnownHostsFile /dev/null
+LogLevel ERROR
+BatchMode yes
+""".encode())
+        self.ssh = f"ssh -F {place}/ssh/client"
+
+    def __enter__(self):
+        if os.geteuid() == 0:
+            os.makedirs("/run/sshd", exist_ok=True)
+        self.running = subprocess.Popen([self.daemon, "-D", "-e", "-f", f"{self.place}/ssh/sshd"], stderr=subprocess.DEVNULL)
+        for _ in range(100):
+            if subprocess.run([*self.ssh.split(), "here", "true"], stdin=subprocess.DEVNULL, stderr=subprocess.DEVNULL, check=False).returncode == 0:
+                return self
+            time.sleep(0.1)
+        self.__exit__()
+        raise LeftOut("no login by ssh on the loopback: the system allows none")
+
+    def __exit__(self, *_):
+        self.running.terminate()
+        self.running.wait()
+
+
+def test_machines_by_ssh():
+    """The same over a daemon of ssh on the loopback, under two names."""
+    with folder() as place:
+        many = Many(Big(place))
+        whole = some_files(many)
+        with Daemon(place, f"{place}/bin") as daemon:
+            many.archive.environment["PARALLEL_SSH"] = daemon.ssh
+            write(f"{place}/hosts", b"1/:\n2/alpha\n2/gamma\n")
+            status, lines, error = many.run("btcheck-many check --hosts hosts --parts 7 big.torrent content/big")
+            assert (status, sorted(lines)) == many.archive.whole, (status, lines, error)
+            status, lines, error = many.run(CREATE.replace("-j 1", "--hosts hosts"))
+            assert (status, lines) == (0, []) and written(f"{place}/out") == whole, (status, lines, error)
 
 
 def test_a_torrent_in_parts_is_refused_as_one():

@@ -369,6 +369,16 @@ def test_one_torrent_in_parts():
             archive.forget_parts()
 
 
+def test_one_torrent_that_is_made_in_parts():
+    """What one `create` makes, by the recipe."""
+    with folder() as place:
+        archive = Big(place)
+        words = ["create", "content/big", "whole", "--name", "big", "--piece-length", "1048576"]
+        subprocess.run([BTCHECK, *words], cwd=place, check=True)
+        assert archive.run(in_few(block("assemble big.torrent"))) == (0, [])
+        assert written(f"{place}/big.torrent") == written(f"{place}/whole")
+
+
 def test_a_part_that_is_stopped_is_run_again():
     """Whatever stops the run, each part has a whole report or none, and the run goes on."""
     for recipe in BY_PARTS:
