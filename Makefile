@@ -92,12 +92,12 @@ check:
 
 # On the program whose C library stands apart, so that tests can stand before it.
 test: build/$(KIND)/btcheck build/memory_tests build/device_tests build/piece_tests
-	BTCHECK=$< tests/run
+	BTCHECK=$< tests/run --jobs "$$(nproc)"
 
 test-all: build/$(KIND)/btcheck build/memory_tests build/device_tests build/piece_tests
 	tests/packages
 	$(MAKE) both lib
-	BTCHECK=$< tests/run --all $(if $(shell command -v go),,-test_go) $(if $(shell command -v cargo),,-test_rust)
+	BTCHECK=$< tests/run --all --jobs "$$(nproc)" $(if $(shell command -v go),,-test_go) $(if $(shell command -v cargo),,-test_rust)
 
 run: build/btcheck
 	@build/btcheck root README.md
