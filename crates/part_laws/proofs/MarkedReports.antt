@@ -27,10 +27,9 @@ use Rattle.part_reports.specs.Heads.{HasHead}
 use Rattle.part_reports.specs.Lines.{CanReportMarked, IsSmall, MarkedPart, part_of}
 use Rattle.part_reports.specs.MarkedJoins.{IsReadAs}
 use Rattle.part_reports.specs.Marks.{AreRunsWithin, CanTell}
-use Rattle.part_reports.specs.Reasons.{own_words}
 use Rattle.part_reports.specs.Texts.{IsTrueReport, reported}
 use Rattle.part_reports.specs.declared.kind.Kind.TheVariants as kind
-use Rattle.part_reports.proofs.Faults.{marked_head, own_inside}
+use Rattle.part_reports.proofs.Faults.{marked_head}
 use Rattle.part_reports.proofs.Heads.{one_head}
 use Rattle.part_reports.proofs.MarkedFiles.{off_silent, verdict_at}
 use Rattle.part_reports.proofs.Readings.{says_small}
@@ -174,8 +173,8 @@ told_by : (t : Description) (contents : Contents) (part count : ℕ) (marked : L
     → IsToldBy t contents part count (marked_text t part count marked v1)
 told_by t contents part count marked v1 there small r =
     let said : List ℕ = marked_text t part count marked v1 in
-    let words = own_words kind.Marked t in
-    let same = one_head said r.part r.count part count words words (head_at r.part r.count r.marked r.v1 said r.there r.small r.is)
+    let hash = t.info_hash_v2 in
+    let same = one_head kind.Marked said r.part r.count part count hash hash (head_at r.part r.count r.marked r.v1 said r.there r.small r.is)
     (head_at part count marked v1 said there small refl) in
     let own : IsToldBy t contents r.part r.count said = record {
       there = r.there;
@@ -189,13 +188,12 @@ told_by t contents part count marked v1 there small r =
     subst (λ n. IsToldBy t contents part n said) same.1 (subst (λ p. IsToldBy t contents p r.count said) same.0 own)
   where
     head_at : (p n : ℕ) (xs : List (FileVerdict × List Run)) (w : Option V1Verdict) (said : List ℕ) → p < n → n < 2 ^ 64
-        → said ≡ marked_text t p n xs w → HasHead said p n (own_words kind.Marked t)
+        → said ≡ marked_text t p n xs w → HasHead kind.Marked said p n t.info_hash_v2
     head_at p n xs w said low high is =
         let more : List ℕ = marked_lines_text t (share t p n) xs t.files ++ end_lines (verdicts_of xs) w in
         record {
           there = low;
           small = high;
-          inside = own_inside kind.Marked t;
           more = more;
           is = is ∙ ap (λ line. line ++ more) (marked_head t p n);
         }

@@ -1,82 +1,58 @@
 -- The reasons of the faults of a join.
-use Rattle.std.proofs.Common.{◌≡◌, ◌≢◌, ℕ, suc, ◌+◌, ◌-◌, ◌<◌, ◌^◌, Bool, true, false, ◌&&◌, nat_eq, ◌||◌, List, [], zero, codes, decimal, append_assoc}
+use Rattle.std.proofs.Common.{◌≡◌, ◌≢◌, ℕ, suc, ◌+◌, ◌-◌, ◌<◌, ◌^◌, Bool, true, false, nat_eq, ◌||◌, List, [], zero}
 use Rattle.std.proofs.Common.{◌∷◌, ◌++◌, length, slice_get, Some, inl, inr, refl, sym, ap, subst, ◌∙◌, arith}
-use Rattle.std.specs.List.{list_all, list_any}
-use Rattle.std.proofs.lemmas.List.{length-append}
-use Rattle.std.proofs.lemmas.List.Folds.{list_all-append}
+use Rattle.std.specs.List.{list_any}
 use Rattle.std.proofs.lemmas.Bool.Decides.{nat_tests}
 use Rattle.std.proofs.lemmas.Option.{same_Some, slice_get_within}
-use Rattle.chains.proofs.Cases.{item_at, or_right, same_parts}
-use Rattle.hex.specs.Hex.{encode_lower}
+use Rattle.chains.proofs.Cases.{item_at, or_right}
 use Rattle.opening.proofs.SoundTrees.{push_at}
 use Rattle.opening.specs.Description.{Description}
 use Rattle.parts.specs.MarkedLines.{marked_head_text, marked_lines_text, verdicts_of}
-use Rattle.parts.specs.PartLines.{end_lines, lines_text}
+use Rattle.parts.specs.PartLines.{end_lines, head_text, lines_text}
 use Rattle.parts.specs.Shares.{share}
-use Rattle.part_reports.specs.Heads.{HasHead, IsHashText, hash_words, head_line}
-use Rattle.part_reports.specs.Reasons.{AreAllReportsOf, AreNamed, AreTwo, HasHeadReason, HasReasonOf, IsMissing, IsReportOf, own_words}
-use Rattle.part_reports.specs.Scan.{is_in_line}
+use Rattle.parts.proofs.AsTexts.{part_words_are}
+use Rattle.part_reports.specs.Heads.{HasHead, IsInfoHash, first_line}
+use Rattle.part_reports.specs.Reasons.{AreAllReportsOf, AreNamed, AreTwo, HasHeadReason, HasReasonOf, IsMissing, IsReportOf}
 use Rattle.part_reports.specs.declared.join_fault.JoinFault.{JoinFault}
 use Rattle.part_reports.specs.declared.join_fault.JoinFault.TheVariants as fault
 use Rattle.part_reports.specs.declared.kind.Kind.{Kind}
 use Rattle.part_reports.specs.declared.kind.Kind.TheVariants as kind
-use Rattle.part_reports.proofs.Heads.{hex_inside, one_head}
+use Rattle.part_reports.proofs.Heads.{one_hash, one_head}
 
--- what stands behind the numbers ends no line, and tells the info-hash
-pub words_inside : (k : Kind) (hash : List ℕ) → list_all is_in_line hash ≡ true → list_all is_in_line (hash_words k hash) ≡ true
-words_inside kind.Plain hash inside = inside
-words_inside kind.Marked hash inside = list_all-append is_in_line hash (codes " bad") ∙ ap (λ b. b && true) inside
+-- the first lines of both kinds of reports are rows of the table of lines
+pub plain_head : (t : Description) (part count : ℕ) → head_text t part count ≡ first_line kind.Plain part count t.info_hash_v2
+plain_head t part count = sym (ap (λ words. words.head t part count) part_words_are)
 
-pub own_inside : (k : Kind) (t : Description) → list_all is_in_line (own_words k t) ≡ true
-own_inside k t = words_inside k (encode_lower t.info_hash_v2) (hex_inside t.info_hash_v2)
-
-same_words : (k : Kind) (a b : List ℕ) → hash_words k a ≡ hash_words k b → a ≡ b
-same_words kind.Plain a b is = is
-same_words kind.Marked a b is =
-    let one = length-append a (codes " bad") in
-    let other = length-append b (codes " bad") in
-    let whole = ap length is in
-    (same_parts a (codes " bad") b (codes " bad") (omega (arith, one, other, whole)) is).0
-
--- the first line of a marked report, as it is read
-pub marked_head : (t : Description) (part count : ℕ) → marked_head_text t part count ≡ head_line part count (own_words kind.Marked t)
-marked_head t part count =
-    let own : List ℕ = encode_lower t.info_hash_v2 in
-    let front : List ℕ = codes "part " ++ decimal (part + 1) ++ codes "/" ++ decimal count ++ codes " " in
-    append_assoc front own (codes " bad\n")
-    ∙ sym (append_assoc front (own ++ codes " bad") (codes "\n") ∙ ap (λ x. front ++ x) (append_assoc own (codes " bad") (codes "\n")))
+pub marked_head : (t : Description) (part count : ℕ) → marked_head_text t part count ≡ first_line kind.Marked part count t.info_hash_v2
+marked_head t part count = sym (ap (λ words. words.bad_head t part count) part_words_are)
 
 -- the first line of a report
-pub head_of : (k : Kind) (t : Description) (part count : ℕ) (text : List ℕ) → IsReportOf k t part count text → HasHead text part count (own_words k t)
-head_of kind.Plain t part count text r = record {
-  there = r.there;
-  small = r.small;
-  inside = own_inside kind.Plain t;
-  more = lines_text t (share t part count) r.files t.files ++ end_lines r.files r.v1;
-  is = r.is;
-}
+pub head_of : (k : Kind) (t : Description) (part count : ℕ) (text : List ℕ) → IsReportOf k t part count text → HasHead k text part count t.info_hash_v2
+head_of kind.Plain t part count text r =
+    let more : List ℕ = lines_text t (share t part count) r.files t.files ++ end_lines r.files r.v1 in
+    record {
+      there = r.there;
+      small = r.small;
+      more = more;
+      is = r.is ∙ ap (λ line. line ++ more) (plain_head t part count);
+    }
 head_of kind.Marked t part count text r =
     let more : List ℕ = marked_lines_text t (share t part count) r.said.marked t.files ++ end_lines (verdicts_of r.said.marked) r.said.v1 in
     record {
       there = r.there;
       small = r.small;
-      inside = own_inside kind.Marked t;
       more = more;
       is = r.is ∙ ap (λ line. line ++ more) (marked_head t part count);
     }
 
--- two first lines of one text tell one info-hash
-one_hash : (k : Kind) (text : List ℕ) (p n q m : ℕ) (h g : List ℕ) → HasHead text p n (hash_words k h) → HasHead text q m (hash_words k g) → h ≡ g
-one_hash k text p n q m h g one other = same_words k h g (one_head text p n q m (hash_words k h) (hash_words k g) one other).2
-
 -- a fault of a first line is one of the join
-pub reason_of_head : (k : Kind) (t : Description) (texts : List (List ℕ)) (place : ℕ) (text : List ℕ) (e : JoinFault) → IsHashText (encode_lower t.info_hash_v2)
-    → slice_get texts place ≡ Some text → HasHeadReason k (encode_lower t.info_hash_v2) place text e → HasReasonOf k t texts e
+pub reason_of_head : (k : Kind) (t : Description) (texts : List (List ℕ)) (place : ℕ) (text : List ℕ) (e : JoinFault) → IsInfoHash t.info_hash_v2
+    → slice_get texts place ≡ Some text → HasHeadReason k t.info_hash_v2 place text e → HasReasonOf k t texts e
 reason_of_head k t texts place text (fault.NoReport i) own at why = (
   text,
   subst (λ k. slice_get texts k ≡ Some text) (sym why.0) at,
   record {
-    none = λ part count r. why.1 part count (encode_lower t.info_hash_v2) (own, head_of k t part count text r);
+    none = λ part count r. why.1 part count t.info_hash_v2 (own, head_of k t part count text r);
     own = λ part count hash h. absurd (why.1 part count hash h);
   },
 )
@@ -88,31 +64,31 @@ reason_of_head k t texts place text fault.NoMemory own at why = absurd why
 
 -- and so is that a text is not the report of its part
 pub reason_of_text : (k : Kind) (t : Description) (texts : List (List ℕ)) (part count place : ℕ) (text : List ℕ) → slice_get texts place ≡ Some text
-    → HasHead text part count (own_words k t) → (IsReportOf k t part count text → ⊥)
+    → HasHead k text part count t.info_hash_v2 → (IsReportOf k t part count text → ⊥)
     → HasReasonOf k t texts (fault.NoReport place)
 reason_of_text k t texts part count place text at head why = (
   text,
   at,
   record {
     none = λ p n r.
-        let same = one_head text p n part count (own_words k t) (own_words k t) (head_of k t p n text r) head in
+        let same = one_head k text p n part count t.info_hash_v2 t.info_hash_v2 (head_of k t p n text r) head in
         why (subst (λ m. IsReportOf k t part m text) same.1 (subst (λ m. IsReportOf k t m n text) same.0 r));
-    own = λ p n hash of. one_hash k text p n part count hash (encode_lower t.info_hash_v2) of.1 head;
+    own = λ p n hash of. one_hash k text p n part count hash t.info_hash_v2 of.0.bytes of.1 head;
   },
 )
 
 -- one more first line was read
 pub named_more : (k : Kind) (t : Description) (texts : List (List ℕ)) (parts : List ℕ) (count part n : ℕ) (text : List ℕ) → AreNamed k t texts parts count
-    → slice_get texts (length parts) ≡ Some text → HasHead text part n (own_words k t) → (0 < length parts → n ≡ count)
+    → slice_get texts (length parts) ≡ Some text → HasHead k text part n t.info_hash_v2 → (0 < length parts → n ≡ count)
     → ((i : ℕ) → slice_get parts i ≢ Some part) → AreNamed k t texts (parts ++ part ∷ []) n
 named_more k t texts parts count part n text are there head same new = record {
   heads = λ i p x at in_parts. elim (push_at parts part i p in_parts) [
     | inl old ↦
         let within = slice_get_within parts i p old in
-        subst (λ m. HasHead x p m (own_words k t)) (sym (same (omega (arith, within)))) (are.heads i p x at old)
+        subst (λ m. HasHead k x p m t.info_hash_v2) (sym (same (omega (arith, within)))) (are.heads i p x at old)
     | inr last ↦
         let here : text ≡ x = same_Some text x (sym there ∙ ap (slice_get texts) last.1 ∙ at) in
-        subst (λ xs. HasHead xs p n (own_words k t)) here (subst (λ q. HasHead text q n (own_words k t)) last.0 head)
+        subst (λ xs. HasHead k xs p n t.info_hash_v2) here (subst (λ q. HasHead k text q n t.info_hash_v2) last.0 head)
   ];
   once = λ i j p one other. elim (push_at parts part i p one) [
     | inl a ↦ elim (push_at parts part j p other) [
@@ -129,9 +105,9 @@ named_more k t texts parts count part n text are there head same new = record {
 -- a text of another number of parts than the first
 pub other_counts : (k : Kind) (t : Description) (texts : List (List ℕ)) (parts : List ℕ) (count part n : ℕ) (text : List ℕ) → AreNamed k t texts parts count
     → 0 < length parts → length parts < length texts → slice_get texts (length parts) ≡ Some text
-    → HasHead text part n (own_words k t) → n ≢ count → HasReasonOf k t texts (fault.OtherCount (length parts))
+    → HasHead k text part n t.info_hash_v2 → n ≢ count → HasReasonOf k t texts (fault.OtherCount (length parts))
 other_counts k t texts parts count part n text are some within there head other =
-    let own = own_words k t in
+    let own = t.info_hash_v2 in
     let first = item_at texts 0 (omega (arith, within)) in
     let named = item_at parts 0 some in (
       first.0,
@@ -144,9 +120,9 @@ other_counts k t texts parts count part n text are some within there head other 
 -- two texts are of one part
 pub are_two : (k : Kind) (t : Description) (texts : List (List ℕ)) (parts : List ℕ) (count part n number j : ℕ) (text : List ℕ) → AreNamed k t texts parts count
     → length parts < length texts → slice_get parts j ≡ Some part → slice_get texts (length parts) ≡ Some text
-    → HasHead text part n (own_words k t) → (part + 1 < 2 ^ 64 → number ≡ part + 1) → AreTwo texts number
+    → HasHead k text part n t.info_hash_v2 → (part + 1 < 2 ^ 64 → number ≡ part + 1) → AreTwo k texts number
 are_two k t texts parts count part n number j text are within again there head number_is =
-    let own = own_words k t in
+    let own = t.info_hash_v2 in
     let before = slice_get_within parts j part again in
     let first = item_at texts j (omega (arith, before, within)) in
     let number : number ≡ part + 1 = number_is (omega (arith, head.there, head.small)) in
@@ -164,7 +140,7 @@ are_two k t texts parts count part n number j text are within again there head n
 
 -- no text is of this part
 pub is_missing : (k : Kind) (t : Description) (texts : List (List ℕ)) (parts : List ℕ) (count part : ℕ) → AreNamed k t texts parts count
-    → length parts ≡ length texts → part < count → ((i : ℕ) → slice_get parts i ≢ Some part) → IsMissing texts (part + 1) count
+    → length parts ≡ length texts → part < count → ((i : ℕ) → slice_get parts i ≢ Some part) → IsMissing k texts (part + 1) count
 is_missing k t texts parts count part are all there none = record {
   from_one = omega arith;
   there = omega (arith, there);
@@ -172,7 +148,7 @@ is_missing k t texts parts count part are all there none = record {
       let within = slice_get_within texts i text at in
       let named = item_at parts i (omega (arith, within, all)) in (
         named.0,
-        own_words k t,
+        t.info_hash_v2,
         are.heads i named.0 text at named.1,
         λ same.
             let part_is : named.0 ≡ part = omega (arith, same) in
@@ -182,7 +158,7 @@ is_missing k t texts parts count part are all there none = record {
 
 -- no text is of any part, as there is none
 pub none_there : (k : Kind) (t : Description) (texts : List (List ℕ)) (parts : List ℕ) (count : ℕ) → AreNamed k t texts parts count
-    → length parts ≡ length texts → count ≡ 0 → IsMissing texts 1 1
+    → length parts ≡ length texts → count ≡ 0 → IsMissing k texts 1 1
 none_there k t texts parts count are all none = record {
   from_one = omega arith;
   there = omega arith;
@@ -197,27 +173,26 @@ none_there k t texts parts count are all none = record {
 pub no_reason : (k : Kind) (t : Description) (texts : List (List ℕ)) (e : JoinFault) → AreAllReportsOf k t texts → HasReasonOf k t texts e → e ≡ fault.NoMemory
 no_reason k t texts (fault.NoReport i) all why = absurd (why.2.none (all.part_of i) (length texts) (all.are i why.0 why.1))
 no_reason k t texts (fault.OtherTorrent i) all why =
-    let own = encode_lower t.info_hash_v2 in
+    let own = t.info_hash_v2 in
     let head = head_of k t (all.part_of i) (length texts) why.0 (all.are i why.0 why.1) in
     let other = why.2 in
-    let words = (one_head why.0 other.0 other.1 (all.part_of i) (length texts) (hash_words k other.2) (own_words k t) other.3.1 head).2 in
-    absurd (other.4 (same_words k other.2 own words))
+    absurd (other.4 (one_hash k why.0 other.0 other.1 (all.part_of i) (length texts) other.2 own other.3.0.bytes other.3.1 head))
 no_reason k t texts (fault.OtherCount i) all why =
     let n = length texts in
-    let own = own_words k t in
+    let own = t.info_hash_v2 in
     let one = head_of k t (all.part_of 0) n why.0 (all.are 0 why.0 why.2) in
     let two = head_of k t (all.part_of i) n why.1 (all.are i why.1 why.3) in
     let counts = why.4 in
-    let first = one_head why.0 counts.2.0 counts.0 (all.part_of 0) n counts.2.1 own counts.2.2 one in
-    let second = one_head why.1 counts.3.0 counts.1 (all.part_of i) n counts.3.1 own counts.3.2 two in
+    let first = one_head k why.0 counts.2.0 counts.0 (all.part_of 0) n counts.2.1 own counts.2.2 one in
+    let second = one_head k why.1 counts.3.0 counts.1 (all.part_of i) n counts.3.1 own counts.3.2 two in
     absurd (counts.4 (first.1 ∙ sym second.1))
 no_reason k t texts (fault.Twice number) all why =
     let n = length texts in
-    let own = own_words k t in
+    let own = t.info_hash_v2 in
     let one = head_of k t (all.part_of why.i) n why.first (all.are why.i why.first why.first_is) in
     let two = head_of k t (all.part_of why.j) n why.second (all.are why.j why.second why.second_is) in
-    let first = (one_head why.first why.one.0 why.one.1 (all.part_of why.i) n why.one.2 own why.one.3 one).0 in
-    let second = (one_head why.second why.other.0 why.other.1 (all.part_of why.j) n why.other.2 own why.other.3 two).0 in
+    let first = (one_head k why.first why.one.0 why.one.1 (all.part_of why.i) n why.one.2 own why.one.3 one).0 in
+    let second = (one_head k why.second why.other.0 why.other.1 (all.part_of why.j) n why.other.2 own why.other.3 two).0 in
     let i_in = slice_get_within texts why.i why.first why.first_is in
     let j_in = slice_get_within texts why.j why.second why.second_is in
     let same : all.part_of why.i ≡ all.part_of why.j = omega (arith, first, second, why.one.4, why.other.4) in
@@ -225,17 +200,17 @@ no_reason k t texts (fault.Twice number) all why =
     absurd (omega (arith, again, why.order))
 no_reason k t texts (fault.Missing number count) all why =
     let n = length texts in
-    let own = own_words k t in
+    let own = t.info_hash_v2 in
     let first = item_at texts 0 all.some in
     let first_head = why.others 0 first.0 first.1 in
-    let count_is = (one_head first.0 first_head.0 count (all.part_of 0) n first_head.1 own first_head.2
+    let count_is = (one_head k first.0 first_head.0 count (all.part_of 0) n first_head.1 own first_head.2
     (head_of k t (all.part_of 0) n first.0 (all.are 0 first.0 first.1))).1 in
     let part : ℕ = number - 1 in
     let there = all.all part (omega (arith, why.from_one, why.there, count_is)) in
     let place = all.place_of part in
     let text = item_at texts place there.0 in
     let other = why.others place text.0 text.1 in
-    let part_is = (one_head text.0 other.0 count (all.part_of place) n other.1 own other.2
+    let part_is = (one_head k text.0 other.0 count (all.part_of place) n other.1 own other.2
     (head_of k t (all.part_of place) n text.0 (all.are place text.0 text.1))).0 in
     absurd (other.3 (omega (arith, part_is, there.1, why.from_one)))
 no_reason k t texts fault.NoMemory all why = refl

@@ -19,7 +19,7 @@ use Rattle.part_reports.specs.Lines.{JoinsMore, MarkedPart}
 use Rattle.part_reports.specs.MarkedJoins.{AreMarksOf, AreReadAs, IsReadAs, IsTextAs, text_of}
 use Rattle.part_reports.specs.Marks.{IsMarked, IsTold, MarksMore}
 use Rattle.part_reports.specs.Reported.{CanReport}
-use Rattle.part_reports.specs.Reasons.{AreNamed, IsReportOf, own_words}
+use Rattle.part_reports.specs.Reasons.{AreNamed, IsReportOf}
 use Rattle.part_reports.proofs.Faults.{head_of}
 use Rattle.part_reports.proofs.Heads.{one_head}
 use Rattle.part_reports.specs.declared.kind.Kind.{Kind}
@@ -104,7 +104,7 @@ pub no_other_text : (k : Kind) (t : Description) (texts : List (List ℕ)) (part
     → AreNamed k t texts parts (length reports) → length parts ≡ length texts → AreReadAs k t texts (length reports) reports → (i : ℕ) (text : List ℕ)
     → slice_get texts i ≡ Some text → IsTextAs k t reports (get_or parts i 0) text
 no_other_text k t texts parts reports named all are i text at =
-    let own = own_words k t in
+    let own = t.info_hash_v2 in
     let part = item_at parts i (omega (arith, all, slice_get_within texts i text at)) in
     let part_is : get_or parts i 0 ≡ part.0 = get_or_from_slice_get parts i part.0 0 part.1 in
     let head = named.heads i part.0 text at part.1 in
@@ -114,7 +114,7 @@ no_other_text k t texts parts reports named all are i text at =
     let other = item_at parts read.number (omega (arith, all, slice_get_within texts read.number said read.there)) in
     let other_head = named.heads read.number other.0 said read.there other.1 in
     let own_head = head_of k t part.0 (length reports) said (read_report k t texts part.0 (length reports) p.0 head.there head.small read) in
-    let same : other.0 ≡ part.0 = (one_head said other.0 (length reports) part.0 (length reports) own own other_head own_head).0 in
+    let same : other.0 ≡ part.0 = (one_head k said other.0 (length reports) part.0 (length reports) own own other_head own_head).0 in
     let place : read.number ≡ i = named.once read.number i part.0 (other.1 ∙ ap Some same) part.1 in
     let is : text ≡ said = same_Some text said (sym at ∙ ap (slice_get texts) (sym place) ∙ read.there) in
     subst (λ n. IsTextAs k t reports n text) (sym part_is) (record { part = p.0; there = p.1; is = is })

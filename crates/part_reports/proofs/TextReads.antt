@@ -12,14 +12,14 @@ use Rattle.parts.specs.Runs.{Run, runs_text}
 use Rattle.parts.specs.Shares.{share}
 use Rattle.parts.specs.declared.places.Places.{Places}
 use Rattle.std.specs.Option.{MatchOption}
-use Rattle.part_reports.specs.Heads.{head_line}
+use Rattle.part_reports.specs.Heads.{first_line}
 use Rattle.part_reports.specs.Joined.{AreJoined, IsRead}
 use Rattle.part_reports.specs.Lines.{CanReportMarked, HasLines, JoinsLines, MarkedPart, marked_rest, part_of}
 use Rattle.part_reports.specs.MarkedJoins.{AreJoinedAs, IsReadAs, JoinsText, text_of}
 use Rattle.part_reports.specs.Marks.{CanMarkAll}
 use Rattle.part_reports.specs.Reported.{CanReport}
-use Rattle.part_reports.specs.Reasons.{IsReportOf, own_words}
-use Rattle.part_reports.proofs.Faults.{marked_head}
+use Rattle.part_reports.specs.Reasons.{IsReportOf}
+use Rattle.part_reports.proofs.Faults.{marked_head, plain_head}
 use Rattle.part_reports.specs.declared.kind.Kind.{Kind}
 use Rattle.part_reports.specs.declared.kind.Kind.TheVariants as kind
 use Rattle.part_reports.specs.declared.marked_report.MarkedReport.{MarkedReport}
@@ -58,9 +58,10 @@ bare_at (v ∷ files) (suc n) x at = bare_at files n x at
 
 -- what was read of the lines is the text
 text_is : (k : Kind) (t : Description) (part count : ℕ) (m : MarkedPart) → m.places ≡ share t part count → CanReportMarked k t m
-    → head_line part count (own_words k t) ++ marked_rest t m ≡ text_of k t part count m
+    → first_line k part count t.info_hash_v2 ++ marked_rest t m ≡ text_of k t part count m
 text_is kind.Plain t part count m places can =
-    ap (λ l. head_text t part count ++ (l ++ end_lines (verdicts_of m.marked) m.v1))
+    ap (λ line. line ++ marked_rest t m) (sym (plain_head t part count))
+    ∙ ap (λ l. head_text t part count ++ (l ++ end_lines (verdicts_of m.marked) m.v1))
     (plain_lines t m.places m.marked t.files (λ n f x there at. can.marks n f x there at)
     ∙ ap (λ r. lines_text t r (verdicts_of m.marked) t.files) places)
 text_is kind.Marked t part count m places can =
@@ -69,9 +70,9 @@ text_is kind.Marked t part count m places can =
 
 -- and a text that is a report has such lines
 lines_of : (k : Kind) (t : Description) (part count : ℕ) (r : Places) (lines : List ℕ) → r ≡ share t part count
-    → IsReportOf k t part count (head_line part count (own_words k t) ++ lines) → HasLines k t r lines
+    → IsReportOf k t part count (first_line k part count t.info_hash_v2 ++ lines) → HasLines k t r lines
 lines_of kind.Plain t part count r lines places report =
-    let behind = same_rest (head_text t part count) lines _ report.is in
+    let behind = same_rest (head_text t part count) lines _ (ap (λ l. l ++ lines) (plain_head t part count) ∙ report.is) in
     let verdicts = bare_verdicts report.files in
     let m : MarkedPart = record { places = r; marked = bare report.files; v1 = report.v1 } in
     let none : CanMarkAll kind.Plain t r t.files (bare report.files) = λ n f x there at. bare_at report.files n x at in (
@@ -103,7 +104,7 @@ lines_of kind.Marked t part count r lines places report =
 
 -- what was done with the lines of a text was done with the text
 pub text_read : (k : Kind) (t : Description) (part count : ℕ) (r : Places) (lines text : List ℕ) (old new : MarkedReport)
-    (res : Option (Unit {0})) → r ≡ share t part count → text ≡ head_line part count (own_words k t) ++ lines
+    (res : Option (Unit {0})) → r ≡ share t part count → text ≡ first_line k part count t.info_hash_v2 ++ lines
     → MatchOption res (HasLines k t r lines → ⊥) (λ u. JoinsLines k t r lines old new)
     → MatchOption res (IsReportOf k t part count text → ⊥) (λ u. JoinsText k t part count text old new)
 text_read k t part count r lines text old new (Some u) places is done =
@@ -113,7 +114,7 @@ text_read k t part count r lines text old new (Some u) places is done =
       said = m;
       places = own;
       can = done.says.can;
-      is = is ∙ ap (λ l. head_line part count (own_words k t) ++ l) done.says.is ∙ text_is k t part count m own done.says.can;
+      is = is ∙ ap (λ l. first_line k part count t.info_hash_v2 ++ l) done.says.is ∙ text_is k t part count m own done.says.can;
       joined = done.joined;
       marks = done.marks;
     }

@@ -3,7 +3,6 @@ use Rattle.std.proofs.Common.{◌≡◌, ℕ, ◌-◌, ◌<◌, ◌^◌, Bool, t
 use Rattle.std.proofs.Common.{refl, sym, ap, subst, ◌∙◌, arith}
 use Rattle.std.proofs.lemmas.Option.{slice_get_within}
 use Rattle.chains.proofs.Cases.{item_at, some_of}
-use Rattle.hex.specs.Hex.{encode_lower}
 use Rattle.opening.specs.Description.{Description, FileEntry, Version1}
 use Rattle.opening.specs.Sound.{IsSound}
 use Rattle.folders.specs.Folder.{Contents}
@@ -23,8 +22,10 @@ use Rattle.part_reports.specs.Heads.{HasHead}
 use Rattle.part_reports.specs.Joined.{AreJoined, IsRead}
 use Rattle.part_reports.specs.Lines.{IsSmall, IsSmallV1}
 use Rattle.part_reports.specs.Reported.{CanReport, CanSay, CanSayV1}
+use Rattle.part_reports.specs.declared.kind.Kind.TheVariants as kind
 use Rattle.part_reports.specs.Texts.{AreTrueReports, IsTrueReport, TextsMakeTheReport, TruePartsReport, YesOfTexts}
-use Rattle.part_reports.proofs.Heads.{hex_inside, one_head}
+use Rattle.part_reports.proofs.Heads.{one_head}
+use Rattle.part_reports.proofs.Faults.{plain_head}
 use Rattle.part_reports.proofs.SameLines.{AreSmall, same_lines, same_rest, same_stream}
 use Rattle.part_reports.proofs.Readings.{all_small}
 
@@ -81,14 +82,15 @@ true_parts_report t contents part count files v1 there small are off = record {
 -- ---- what is read of a true report is true
 
 true_head : (t : Description) (contents : Contents) (text : List ℕ) → (r : IsTrueReport t contents text)
-    → HasHead text r.part r.count (encode_lower t.info_hash_v2)
-true_head t contents text r = record {
-  there = r.there;
-  small = r.small;
-  inside = hex_inside t.info_hash_v2;
-  more = lines_text t (share t r.part r.count) r.files t.files ++ end_lines r.files r.v1;
-  is = r.is;
-}
+    → HasHead kind.Plain text r.part r.count t.info_hash_v2
+true_head t contents text r =
+    let more : List ℕ = lines_text t (share t r.part r.count) r.files t.files ++ end_lines r.files r.v1 in
+    record {
+      there = r.there;
+      small = r.small;
+      more = more;
+      is = r.is ∙ ap (λ line. line ++ more) (plain_head t r.part r.count);
+    }
 
 -- true verdicts have small numbers
 small_verdict : (t : Description) (r : Places) (n : ℕ) (f : FileEntry) (content : Option (List ℕ)) (v : FileVerdict) → IsSound t
@@ -148,17 +150,17 @@ told_true t r contents files told v1 told_v1 sound can are is =
 pub read_true : (t : Description) (contents : Contents) (texts : List (List ℕ)) (part count : ℕ) (p : PartReport) → IsSound t
     → AreTrueReports t contents texts → part < count → count < 2 ^ 64 → IsRead t texts part count p → IsTruePart t contents p
 read_true t contents texts part count p sound are there small read =
-    let own = encode_lower t.info_hash_v2 in
+    let own = t.info_hash_v2 in
+    let more : List ℕ = lines_text t (share t part count) p.files t.files ++ end_lines p.files p.v1 in
     let said : List ℕ = part_text t part count p.files p.v1 in
     let r = are read.number said read.there in
-    let head : HasHead said part count own = record {
+    let head : HasHead kind.Plain said part count own = record {
       there = there;
       small = small;
-      inside = hex_inside t.info_hash_v2;
-      more = lines_text t (share t part count) p.files t.files ++ end_lines p.files p.v1;
-      is = refl;
+      more = more;
+      is = ap (λ line. line ++ more) (plain_head t part count);
     } in
-    let one = one_head said r.part r.count part count own own (true_head t contents said r) head in
+    let one = one_head kind.Plain said r.part r.count part count own own (true_head t contents said r) head in
     let as_read : said ≡ part_text t part count r.files r.v1 =
     r.is ∙ ap (λ k. part_text t k r.count r.files r.v1) one.0 ∙ ap (λ k. part_text t part k r.files r.v1) one.1 in
     let lines = same_rest (head_text t part count) _ _ as_read in

@@ -1,7 +1,6 @@
 -- The verdicts that a line may have, tried one after the other.
-use Rattle.std.proofs.Common.{◌≡◌, ℕ, zero, suc, ◌<◌, ◌^◌, Bool, true, false, List, [], ◌∷◌, ◌++◌, slice_get, Option, Some, None, is_some}
+use Rattle.std.proofs.Common.{◌≡◌, ℕ, zero, suc, ◌<◌, ◌^◌, true, false, List, [], ◌∷◌, ◌++◌, slice_get, Option, Some, None, is_some}
 use Rattle.std.proofs.Common.{codes, decimal, refl, sym, ap, subst, ◌∙◌}
-use Rattle.std.specs.Char.{is_ascii_digit}
 use Rattle.std.specs.Option.{MatchOption}
 use Rattle.std.proofs.lemmas.Option.{none-some, same_Some}
 use Rattle.lines.specs.Reading.{BeginsWith}
@@ -13,6 +12,7 @@ use Rattle.folders.specs.declared.report.FileVerdict.TheVariants as file
 use Rattle.folders.specs.declared.report.V1Verdict.{V1Verdict}
 use Rattle.folders.specs.declared.report.V1Verdict.TheVariants as version1
 use Rattle.part_reports.specs.Lines.{IsSmall, IsSmallV1}
+use Rattle.part_reports.specs.Scan.{IsFirstNumber}
 use Rattle.part_reports.proofs.SameLines.{bad_line, bad_stream, same_stream}
 
 -- the verdicts that are tried
@@ -27,12 +27,8 @@ are_small p small (suc (suc (suc zero))) v is = subst IsSmall (same_Some file.Wr
 are_small p small (suc (suc (suc (suc zero)))) v is = subst IsSmall (same_Some (file.Bad p) v is) small
 are_small p small (suc (suc (suc (suc (suc n))))) v is = absurd (none-some v is)
 
--- the number behind these bytes at the front of a text is this one, if one stands there
-abbrev pub IsNumberBehind : List ℕ → List ℕ → ℕ → Type 0
-IsNumberBehind front text p = (n c : ℕ) (more : List ℕ) → n < 2 ^ 64 → is_ascii_digit c ≡ false → text ≡ front ++ (decimal n ++ c ∷ more) → p ≡ n
-
 -- if no line of these stands there, no line of a verdict does
-pub none_there : (f : FileEntry) (text : List ℕ) (p : ℕ) → IsNumberBehind (codes "bad ") text p
+pub none_there : (f : FileEntry) (text : List ℕ) (p : ℕ) → IsFirstNumber text p
     → ((n : ℕ) (v : FileVerdict) → slice_get (verdicts_with p) n ≡ Some v → BeginsWith (file_verdict_text v f) text → ⊥)
     → (v : FileVerdict) → IsSmall v → BeginsWith (file_verdict_text v f) text → ⊥
 none_there f text p number tried file.Good small begins = tried 0 file.Good refl begins
@@ -41,7 +37,7 @@ none_there f text p number tried file.Unreadable small begins = tried 2 file.Unr
 none_there f text p number tried file.WrongLength small begins = tried 3 file.WrongLength refl begins
 none_there f text p number tried (file.Bad q) small begins =
     let behind : List ℕ = (path_text f.path ++ codes "\n") ++ begins.0 in
-    let same = number q 32 behind small refl (begins.1 ∙ bad_line q f begins.0) in
+    let same = number (codes "bad ") q 32 behind refl small refl (begins.1 ∙ bad_line q f begins.0) in
     tried 4 (file.Bad q) (ap (λ n. Some (file.Bad n)) same) begins
 
 -- ---- the version 1 pieces
@@ -66,9 +62,11 @@ differs now w text (Some rest) none there begins = (let x : ⊥ = cc in x)
 
 -- if neither stands there, it is a bad piece with the number that does
 pub else_bad : (text more : List ℕ) (p : ℕ) (v : V1Verdict) → (BeginsWith (stream_words (Some version1.Good)) text → ⊥)
-    → (BeginsWith (stream_words (Some version1.NotChecked)) text → ⊥) → IsNumberBehind (codes "v1 bad ") text p → IsSmallV1 v
+    → (BeginsWith (stream_words (Some version1.NotChecked)) text → ⊥)
+    → ((rest : List ℕ) → text ≡ codes "v1" ++ 32 ∷ rest → IsFirstNumber (32 ∷ rest) p) → IsSmallV1 v
     → text ≡ stream_words (Some v) ++ more → version1.Bad p ≡ v
 else_bad text more p version1.Good good not_checked number small is = absurd (good (more, is))
 else_bad text more p version1.NotChecked good not_checked number small is = absurd (not_checked (more, is))
 else_bad text more p (version1.Bad q) good not_checked number small is =
-    ap version1.Bad (number q 10 more small refl (is ∙ bad_stream q more))
+    let line = is ∙ bad_stream q more in
+    ap version1.Bad (number (codes "bad " ++ (decimal q ++ 10 ∷ more)) line (codes " bad ") q 10 more refl small refl refl)

@@ -1,43 +1,37 @@
--- The first line of a report.
-use Rattle.std.specs.Prelude.{◌≡◌, ℕ, ◌+◌, ◌<◌, ◌^◌, Bool, true, ◌&&◌, ◌||◌, nat_le, List, ◌++◌, length, slice_get, Some, codes, decimal}
-use Rattle.std.specs.Char.{is_ascii_digit}
-use Rattle.std.specs.List.{list_all}
-use Rattle.part_reports.specs.Scan.{is_in_line}
+-- The first line of a report: a row of the table of lines.
+use Rattle.std.specs.Prelude.{◌≡◌, ℕ, ◌+◌, ◌<◌, ◌^◌, List, ◌++◌, length, slice_get, Some}
+use Rattle.hex.specs.Hex.{IsBytes}
+use Rattle.lines.specs.Rows.{Row}
+use Rattle.lines.specs.Table.{bad_part_row, part_row}
+use Rattle.lines.specs.Texts.{text_of}
 use Rattle.part_reports.specs.declared.kind.Kind.{Kind}
 use Rattle.part_reports.specs.declared.kind.Kind.TheVariants as kind
 
--- a digit as info-hashes are printed: one of `0` to `9` and of `a` to `f`
-abbrev pub is_hash_digit : ℕ → Bool
-is_hash_digit c = is_ascii_digit c || (nat_le 97 c && nat_le c 102)
+-- a version 2 info-hash: the 32 bytes of a SHA-256 digest
+pub record IsInfoHash (hash : List ℕ) : Type 0 where
+  pub count : length hash ≡ 32
+  pub bytes : IsBytes hash
 
--- a version 2 info-hash as it is printed: 64 digits
-pub record IsHashText (hash : List ℕ) : Type 0 where
-  pub count : length hash ≡ 64
-  pub digits : list_all is_hash_digit hash ≡ true
+-- the first line of the report, of this kind, of this one of this many parts of a check of the
+-- torrent with this info-hash: its part counts from 1 there
+abbrev pub first_row : Kind → ℕ → ℕ → List ℕ → Row
+first_row kind.Plain part count hash = part_row (part + 1) count hash
+first_row kind.Marked part count hash = bad_part_row (part + 1) count hash
 
--- the first line of the report of this one of this many parts, with an info-hash as it is printed
-abbrev pub head_line : ℕ → ℕ → List ℕ → List ℕ
-head_line part count hash =
-    codes "part " ++ decimal (part + 1) ++ codes "/" ++ decimal count ++ codes " " ++ hash
-    ++ codes "\n"
+-- the same as it is printed
+abbrev pub first_line : Kind → ℕ → ℕ → List ℕ → List ℕ
+first_line k part count hash = text_of (first_row k part count hash)
 
--- the text begins with such a line, in which this stands in the place of the info-hash
-pub record HasHead (text : List ℕ) (part count : ℕ) (hash : List ℕ) : Type 0 where
+-- the text begins with such a line
+pub record HasHead (k : Kind) (text : List ℕ) (part count : ℕ) (hash : List ℕ) : Type 0 where
   pub there : part < count
   pub small : count < 2 ^ 64
-  pub inside : list_all is_in_line hash ≡ true
   pub more : List ℕ
-  pub is : text ≡ head_line part count hash ++ more
+  pub is : text ≡ first_line k part count hash ++ more
 
--- what stands behind the numbers in the first line of a report of this kind: the info-hash, and of
--- one that tells of bad pieces one word more
-abbrev pub hash_words : Kind → List ℕ → List ℕ
-hash_words kind.Plain hash = hash
-hash_words kind.Marked hash = hash ++ codes " bad"
-
--- the text begins with the first line of a report of this kind, with this info-hash
+-- the text begins with the first line of a report of this kind, and this is the info-hash there
 abbrev pub IsOfHash : Kind → List ℕ → ℕ → ℕ → List ℕ → Type 0
-IsOfHash k text part count hash = IsHashText hash × HasHead text part count (hash_words k hash)
+IsOfHash k text part count hash = IsInfoHash hash × HasHead k text part count hash
 
 -- the text does not begin with the first line of a report of this kind
 abbrev pub HasNoHead : Kind → List ℕ → Type 0

@@ -1,13 +1,12 @@
 -- Why reports are not joined.
 use Rattle.std.specs.Prelude.{◌≡◌, ◌≢◌, ℕ, ◌+◌, ◌<◌, ◌≤◌, ◌^◌, List, length, slice_get, Option, Some, ⊤}
-use Rattle.hex.specs.Hex.{encode_lower}
 use Rattle.opening.specs.Description.{Description}
 use Rattle.folders.specs.declared.report.FileVerdict.{FileVerdict}
 use Rattle.folders.specs.declared.report.V1Verdict.{V1Verdict}
 use Rattle.parts.specs.MarkedLines.{marked_text}
 use Rattle.parts.specs.PartLines.{part_text}
 use Rattle.parts.specs.Shares.{share}
-use Rattle.part_reports.specs.Heads.{HasHead, HasNoHead, IsOfHash, hash_words}
+use Rattle.part_reports.specs.Heads.{HasHead, HasNoHead, IsOfHash}
 use Rattle.part_reports.specs.Lines.{CanReportMarked, MarkedPart}
 use Rattle.part_reports.specs.Reported.{CanReport}
 use Rattle.part_reports.specs.declared.join_fault.JoinFault.{JoinFault}
@@ -43,29 +42,29 @@ IsReportOf kind.Marked t part count text = IsMarkedReport t part count text
 pub record IsNoReport (k : Kind) (t : Description) (text : List ℕ) : Type 0 where
   pub none : (part count : ℕ) → IsReportOf k t part count text → ⊥
   pub own : (part count : ℕ) (hash : List ℕ) → IsOfHash k text part count hash
-      → hash ≡ encode_lower t.info_hash_v2
+      → hash ≡ t.info_hash_v2
 
 -- a text begins with the first line of a report, with another info-hash
 abbrev pub IsOfOther : Kind → List ℕ → List ℕ → Type 0
 IsOfOther k own text =
     (part count : ℕ) × (hash : List ℕ) × IsOfHash k text part count hash × (hash ≢ own)
 
--- a text begins with the first line of a report, of this many parts
-abbrev pub IsOfCount : ℕ → List ℕ → Type 0
-IsOfCount count text = (part : ℕ) × (hash : List ℕ) × HasHead text part count hash
+-- a text begins with the first line of a report of this kind, of this many parts
+abbrev pub IsOfCount : Kind → ℕ → List ℕ → Type 0
+IsOfCount k count text = (part : ℕ) × (hash : List ℕ) × HasHead k text part count hash
 
 -- two texts begin with first lines of reports, of two numbers of parts
-abbrev pub AreOfOtherCounts : List ℕ → List ℕ → Type 0
-AreOfOtherCounts first text =
-    (n m : ℕ) × IsOfCount n first × IsOfCount m text × (n ≢ m)
+abbrev pub AreOfOtherCounts : Kind → List ℕ → List ℕ → Type 0
+AreOfOtherCounts k first text =
+    (n m : ℕ) × IsOfCount k n first × IsOfCount k m text × (n ≢ m)
 
 -- a text begins with the first line of the report of the part with this number, which counts from 1
-abbrev pub IsOfPart : ℕ → List ℕ → Type 0
-IsOfPart number text =
-    (part count : ℕ) × (hash : List ℕ) × HasHead text part count hash × (part + 1 ≡ number)
+abbrev pub IsOfPart : Kind → ℕ → List ℕ → Type 0
+IsOfPart k number text =
+    (part count : ℕ) × (hash : List ℕ) × HasHead k text part count hash × (part + 1 ≡ number)
 
 -- two of the texts are of the part with this number
-pub record AreTwo (texts : List (List ℕ)) (number : ℕ) : Type 0 where
+pub record AreTwo (k : Kind) (texts : List (List ℕ)) (number : ℕ) : Type 0 where
   pub i : ℕ
   pub j : ℕ
   pub first : List ℕ
@@ -73,20 +72,20 @@ pub record AreTwo (texts : List (List ℕ)) (number : ℕ) : Type 0 where
   pub order : i < j
   pub first_is : slice_get texts i ≡ Some first
   pub second_is : slice_get texts j ≡ Some second
-  pub one : IsOfPart number first
-  pub other : IsOfPart number second
+  pub one : IsOfPart k number first
+  pub other : IsOfPart k number second
 
 -- a text begins with the first line of the report of another one of this many parts
-abbrev pub IsOfOtherPart : ℕ → ℕ → List ℕ → Type 0
-IsOfOtherPart number count text =
-    (part : ℕ) × (hash : List ℕ) × HasHead text part count hash × (part + 1 ≢ number)
+abbrev pub IsOfOtherPart : Kind → ℕ → ℕ → List ℕ → Type 0
+IsOfOtherPart k number count text =
+    (part : ℕ) × (hash : List ℕ) × HasHead k text part count hash × (part + 1 ≢ number)
 
 -- there is such a part of this many, and each text is of as many parts, and of another one
-pub record IsMissing (texts : List (List ℕ)) (number count : ℕ) : Type 0 where
+pub record IsMissing (k : Kind) (texts : List (List ℕ)) (number count : ℕ) : Type 0 where
   pub from_one : 0 < number
   pub there : number ≤ count
   pub others : (i : ℕ) (text : List ℕ) → slice_get texts i ≡ Some text
-      → IsOfOtherPart number count text
+      → IsOfOtherPart k number count text
 
 -- why a fault of a join of reports of this kind is answered
 abbrev pub HasReasonOf : Kind → Description → List (List ℕ) → JoinFault → Type 0
@@ -94,12 +93,12 @@ HasReasonOf k t texts (fault.NoReport i) =
     (text : List ℕ) × (slice_get texts i ≡ Some text) × IsNoReport k t text
 HasReasonOf k t texts (fault.OtherTorrent i) =
     (text : List ℕ) × (slice_get texts i ≡ Some text)
-    × IsOfOther k (encode_lower t.info_hash_v2) text
+    × IsOfOther k t.info_hash_v2 text
 HasReasonOf k t texts (fault.OtherCount i) =
     (first text : List ℕ) × (slice_get texts 0 ≡ Some first) × (slice_get texts i ≡ Some text)
-    × AreOfOtherCounts first text
-HasReasonOf k t texts (fault.Twice number) = AreTwo texts number
-HasReasonOf k t texts (fault.Missing number count) = IsMissing texts number count
+    × AreOfOtherCounts k first text
+HasReasonOf k t texts (fault.Twice number) = AreTwo k texts number
+HasReasonOf k t texts (fault.Missing number count) = IsMissing k texts number count
 HasReasonOf k t texts fault.NoMemory = ⊤
 
 -- the same of reports without runs of bad pieces
@@ -115,15 +114,11 @@ HasHeadReason k own place text (fault.Twice number) = ⊥
 HasHeadReason k own place text (fault.Missing number count) = ⊥
 HasHeadReason k own place text fault.NoMemory = ⊥
 
--- what stands behind the numbers in the first line of a report of this torrent, of this kind
-abbrev pub own_words : Kind → Description → List ℕ
-own_words k t = hash_words k (encode_lower t.info_hash_v2)
-
 -- each text begins with the first line of its part, of this torrent, and each of another one
 pub record AreNamed (k : Kind) (t : Description) (texts : List (List ℕ)) (parts : List ℕ)
     (count : ℕ) : Type 0 where
   pub heads : (i p : ℕ) (text : List ℕ) → slice_get texts i ≡ Some text
-      → slice_get parts i ≡ Some p → HasHead text p count (own_words k t)
+      → slice_get parts i ≡ Some p → HasHead k text p count t.info_hash_v2
   pub once : (i j p : ℕ) → slice_get parts i ≡ Some p → slice_get parts j ≡ Some p → i ≡ j
 
 -- These are the reports of all parts of one check of this torrent, of this kind, each once, in any

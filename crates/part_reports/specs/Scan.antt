@@ -1,10 +1,14 @@
--- Texts and lines.
-use Rattle.std.specs.Prelude.{ℕ, Bool, not, ◌==◌}
+-- Numbers in a text.
+use Rattle.std.specs.Prelude.{◌≡◌, ℕ, ◌<◌, ◌^◌, Bool, true, false, not, List, ◌∷◌, ◌++◌, decimal}
+use Rattle.std.specs.Char.{is_ascii_digit}
+use Rattle.std.specs.List.{list_all}
 
--- the byte that ends a line
-abbrev pub line_feed : ℕ
-line_feed = 10
+-- whether a byte is no decimal digit
+abbrev pub is_no_digit : ℕ → Bool
+is_no_digit c = not (is_ascii_digit c)
 
--- whether a byte does not end a line
-abbrev pub is_in_line : ℕ → Bool
-is_in_line b = not (b == line_feed)
+-- this is the first number in a text, if the text has one that ends before some byte
+abbrev pub IsFirstNumber : List ℕ → ℕ → Type 0
+IsFirstNumber text number = (front : List ℕ) (n c : ℕ) (more : List ℕ)
+    → list_all is_no_digit front ≡ true → n < 2 ^ 64 → is_ascii_digit c ≡ false
+    → text ≡ front ++ (decimal n ++ c ∷ more) → number ≡ n

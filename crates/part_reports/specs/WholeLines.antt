@@ -28,7 +28,7 @@ whole_lines_as words t (x ∷ xs) [] = []
 whole_lines_as words t (x ∷ xs) (f ∷ fs) =
     file_as words t f x.0 x.1 ++ whole_lines_as words t xs fs
 
--- the same as text
+-- those of the first files as they are printed
 abbrev pub whole_lines : Description → List (FileVerdict × List Run) → List FileEntry → List ℕ
 whole_lines t xs fs = whole_lines_as words_in_text t xs fs
 
@@ -71,12 +71,13 @@ pub record ShowsAll (t : Description) (joined : MarkedReport)
       → slice_get marked n ≡ Some x → AreShown t joined.bad f (has_runs x.0) x.1
 
 -- the lines of the runs of a file went out, or those of the first ones broke off
-abbrev pub SaysRuns : {E : Type 0} → Words → Description → BadPieces → FileEntry → SinkSeen → SinkSeen
-    → Result (Unit {0}) E → Type 0
+abbrev pub SaysRuns : {E : Type 0} → Words → Description → BadPieces → FileEntry → SinkSeen
+    → SinkSeen → Result (Unit {0}) E → Type 0
 SaysRuns words t bad f old new r = MatchResult r
     (λ _. (runs : List Run) × AreMarkedRuns t bad f (piece_count t f) runs
     × Sent old new (runs_as words.run t f runs))
-    (λ _. (runs : List Run) × AreFirstShown t bad f true runs × Broke old new (runs_as words.run t f runs))
+    (λ _. (runs : List Run) × AreFirstShown t bad f true runs
+    × Broke old new (runs_as words.run t f runs))
 
 -- the lines of a file with this verdict went out, or broke off
 abbrev pub SaysFile : {E : Type 0} → Words → Description → BadPieces → FileEntry → FileVerdict
@@ -114,14 +115,14 @@ abbrev pub whole_as : Words → Description → List (FileVerdict × List Run) �
 whole_as words t marked joined = whole_lines_as words t marked t.files
     ++ end_as words.report lines.All joined.report.files.items joined.report.v1
 
--- the same as text
+-- all lines as they are printed
 abbrev pub whole_text : Description → List (FileVerdict × List Run) → MarkedReport → List ℕ
 whole_text t marked joined = whole_as words_in_text t marked joined
 
 -- all went out, and was flushed
 abbrev pub SaysWhole : Words → Description → MarkedReport → SinkSeen → SinkSeen → Type 0
-SaysWhole words t joined old new = (marked : List (FileVerdict × List Run)) × ShowsAll t joined marked
-    × SentAndFlushed old new (whole_as words t marked joined)
+SaysWhole words t joined old new = (marked : List (FileVerdict × List Run))
+    × ShowsAll t joined marked × SentAndFlushed old new (whole_as words t marked joined)
 
 -- it broke off in the lines of a file, or behind them
 abbrev pub StopsSaying : Words → Description → MarkedReport → SinkSeen → SinkSeen → Type 0
@@ -137,7 +138,9 @@ abbrev pub SaysMarked : {E : Type 0} → Words → Description → MarkedReport 
 SaysMarked words t joined old new r =
     MatchResult r (λ _. SaysWhole words t joined old new) (λ _. StopsSaying words t joined old new)
 
--- the same as text
+-- What a call that prints a report with its bad pieces did, by its answer: of each file its line as
+-- it is printed, and behind that of one that is bad or has another length the lines of the maximal
+-- runs of its bad pieces; and then the end. Or this broke off.
 abbrev pub PrintsMarked : {E : Type 0} → Description → MarkedReport → SinkSeen → SinkSeen
     → Result (Unit {0}) E → Type 0
 PrintsMarked t joined old new r = SaysMarked words_in_text t joined old new r

@@ -10,7 +10,7 @@ ghost use Rattle.part_reports.specs.RunLines.{BeginsRightly, HasOneRun, IsRunWit
 
 use crate::bad_pieces::BadPieces;
 use crate::counts::{has_runs, piece_count};
-use crate::scan::number_behind;
+use crate::scan::first_number;
 use folders::FileVerdict;
 use opening::{File, Torrent};
 use parts::{Places, strip_run};
@@ -147,7 +147,7 @@ fn run_numbers(text: &[u8]) -> Option<(u64, u64)>
         → text.now ≡ codes "bad pieces " ++ (decimal n ++ 32 ∷ (decimal m ++ 32 ∷ more))
         → result ≡ Some (n, m) }
 {
-    let (first, behind) = number_behind(b"bad pieces ", text)?;
-    let (last, _) = number_behind(b" ", behind)?;
+    let (first, behind) = first_number(text)?;
+    let (last, _) = first_number(behind)?;
     Some((first, last))
 }

@@ -1,5 +1,5 @@
 //! The verdicts of lines, read again by the table of lines.
-ghost use Rattle.std.specs.Prelude.{◌≡◌, ℕ, ◌<◌, ◌^◌, List, ◌∷◌, ◌++◌, decimal, slice_get, MatchOption, Some, false};
+ghost use Rattle.std.specs.Prelude.{◌≡◌, ℕ, ◌<◌, ◌^◌, List, ◌∷◌, ◌++◌, decimal, slice_get, MatchOption, Some, false, true};
 ghost use Rattle.std.specs.Char.{is_ascii_digit};
 ghost use Rattle.folders.specs.Printed.{file_verdict_text, stream_words};
 ghost use Rattle.folders.specs.declared.report.FileVerdict.{FileVerdict as OfFile};
@@ -7,8 +7,10 @@ ghost use Rattle.folders.specs.declared.report.V1Verdict.{V1Verdict as OfV1};
 ghost use Rattle.lines.specs.Reading.{BeginsWith};
 ghost use Rattle.opening.specs.Seen.{file_entry};
 ghost use Rattle.part_reports.specs.Lines.{IsSmall, IsSmallV1};
+ghost use Rattle.part_reports.specs.Scan.{IsFirstNumber, is_no_digit};
+ghost use Rattle.std.specs.List.{list_all};
 
-use crate::scan::number_behind;
+use crate::scan::first_number;
 use folders::{FileVerdict, V1Verdict, strip_verdict, strip_version1};
 use opening::File;
 
@@ -23,7 +25,7 @@ pub(crate) fn file_verdict<'a>(file: &File<'_>, text: &'a [u8]) -> Option<(FileV
         FileVerdict::Missing,
         FileVerdict::Unreadable,
         FileVerdict::WrongLength,
-        FileVerdict::Bad(number_or_zero(b"bad ", text)),
+        FileVerdict::Bad(number_or_zero(text)),
     ];
     one_of(&verdicts, file, text)
 }
@@ -58,18 +60,30 @@ pub(crate) fn v1_verdict(text: &[u8]) -> V1Verdict
     } else if strip_version1(&Some(V1Verdict::NotChecked), text).is_some() {
         V1Verdict::NotChecked
     } else {
-        V1Verdict::Bad(number_or_zero(b"v1 bad ", text))
+        V1Verdict::Bad(second_or_zero(text))
     }
 }
 
-// The number behind these bytes at the front, or 0.
-fn number_or_zero(front: &[u8], text: &[u8]) -> u64
+// The first number in a text, or 0.
+fn number_or_zero(text: &[u8]) -> u64
     ensures small { result < 2 ^ 64 }
-    ensures number { (n c : ℕ) (more : List ℕ) → n < 2 ^ 64 → is_ascii_digit c ≡ false
-        → text.now ≡ front.now ++ (decimal n ++ c ∷ more) → result ≡ n }
+    ensures number { IsFirstNumber text.now result }
 {
-    match number_behind(front, text) {
+    match first_number(text) {
         Some((number, _)) => number,
+        None => 0,
+    }
+}
+
+// The second number in a text, or 0: in the line of the version 1 pieces it is the one behind `v1`.
+fn second_or_zero(text: &[u8]) -> u64
+    ensures small { result < 2 ^ 64 }
+    ensures number { (front more : List ℕ) (n c : ℕ) → list_all is_no_digit front ≡ true
+        → n < 2 ^ 64 → is_ascii_digit c ≡ false → text.now ≡ front ++ (decimal n ++ c ∷ more)
+        → IsFirstNumber (c ∷ more) result }
+{
+    match first_number(text) {
+        Some((_, behind)) => number_or_zero(behind),
         None => 0,
     }
 }

@@ -64,5 +64,6 @@ module _ {S F : Type 0} (shelf : Ghosts S F) (seen : F → SourceSeen) (t : Desc
   -- verdicts are left are those behind it
   abbrev pub NextVisits : ℕ → List Verdicts → S → Verdicts → List Verdicts → S → Type 0
   NextVisits n before s v after s' = (mid : S) → VisitsFrom n mid before s
-      → (next : S) × (f : FileEntry) × (slice_get t.files n ≡ Some f) × VisitsFound shelf seen t mid f v next
+      → (next : S) × (f : FileEntry) × (slice_get t.files n ≡ Some f)
+      × VisitsFound shelf seen t mid f v next
       × VisitsFrom (n + 1) next after s'

@@ -1,6 +1,6 @@
 -- What a check of a folder does, file by file: each is visited once and in order, and what is told
--- of them goes out in the same order. `shelf` stands for what the shelf's type says of its shelves, and
--- `seen` for what its files say.
+-- of them goes out in the same order. `shelf` stands for what the shelf's type says of its shelves,
+-- and `seen` for what its files say.
 use Rattle.std.specs.Prelude.{◌≡◌, ◌⊎◌, ℕ, List, [], ◌∷◌, ◌++◌, length, map, take, slice_get, Option, Some, Result, Ok, Err}
 use Rattle.benc.specs.Device.{Broke, BrokeOrUnflushed, Sent, SentAndFlushed, SinkSeen, SourceSeen}
 use Rattle.chains.specs.Chain.{Chain}
@@ -79,9 +79,9 @@ module _ {S F : Type 0} (shelf : Ghosts S F) (seen : F → SourceSeen) where
       pub counts : CountsUnreadable (shelf.faults old.0) (shelf.faults new.0)
           (verdicts_in told ++ verdict ∷ [])
 
-  -- Some first files were visited, each once and in order, for verdicts that are true of what stands
-  -- at their paths; and the lines of these verdicts broke off, if lines are all that is told. Files
-  -- that were judged together were visited before the first of their lines went out.
+  -- Some first files were visited, each once and in order, for verdicts that are true of what
+  -- stands at their paths; and the lines of these verdicts broke off, if lines are all that is told.
+  -- Files that were judged together were visited before the first of their lines went out.
   abbrev pub StopsInBatch : Words → Description → Telling → S × SinkSeen → S × SinkSeen → Type 0
   StopsInBatch words t telling.Nothing old new = ⊥
   StopsInBatch words t (telling.Line lines) old new =

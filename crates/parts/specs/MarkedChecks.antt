@@ -43,7 +43,9 @@ pub record SaysMarked (words : PartWords) (t : Description) (part parts : ℕ)
   pub runs : AreAllMarked t (share t part parts) are_true.contents marked
   pub went : SentAndFlushed old new (marked_part_as words t part parts marked v1)
 
--- the same as text
+-- A marked report went out whole as text, in its lines as they are printed, and was flushed once:
+-- its verdicts are true of what stands at the files' paths, and its runs are those of the same
+-- contents.
 abbrev pub PrintsMarked : Description → ℕ → ℕ → (List (List ℕ) → Option (Option (List ℕ)))
     → List FileVerdict → Option V1Verdict → SinkSeen → SinkSeen → Type 0
 PrintsMarked t part parts under verdicts v1 old new =
@@ -135,7 +137,9 @@ module _ {S F : Type 0} (words : PartWords) (shelf : Ghosts S F)
       StopsAtHead t part parts old new
       ⊎ (StopsBehindHead t part parts old new ⊎ StopsBehindFiles t part parts old new)
 
-  -- what the check of a part did that says a marked report, by its answer
+  -- What the check of a part did that says a marked report, by its answer. After a report all lines
+  -- went out, those of a file before the next was opened, with one flush at the end; after `Write`
+  -- the sink failed at one of them; after `NoMemory` nothing was opened, and nothing went out.
   abbrev pub ChecksMarkedAs : Description → ℕ → ℕ → S × SinkSeen → S × SinkSeen
       → Result Report CheckFault → Type 0
   ChecksMarkedAs t part parts old new (Ok report) =
@@ -143,7 +147,10 @@ module _ {S F : Type 0} (words : PartWords) (shelf : Ghosts S F)
   ChecksMarkedAs t part parts old new (Err stopped.Write) = StopsMarking t part parts old new
   ChecksMarkedAs t part parts old new (Err stopped.NoMemory) = (new.0 ≡ old.0) × (new.1 ≡ old.1)
 
--- the same as text
+-- What the check of a part did that prints a marked report as text, by its answer. After a report
+-- all its lines went out as they are printed, those of a file before the next was opened, with one
+-- flush at the end; after `Write` the sink failed at one of them; after `NoMemory` nothing was
+-- opened, and nothing went out.
 abbrev pub ChecksMarked : {S F : Type 0} → Ghosts S F
     → (S → List (List ℕ) → ℕ → Result (Option F) DeviceFault → S → Type 0) → (F → SourceSeen)
     → Description → ℕ → ℕ → S × SinkSeen → S × SinkSeen → Result Report CheckFault → Type 0

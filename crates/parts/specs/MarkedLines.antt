@@ -22,7 +22,8 @@ abbrev pub marked_as : Words → Description → Places → FileEntry → FileVe
 marked_as words t r f v runs =
     held_as words.report.file (has_place t r f) v f ++ runs_as words.run t f runs
 
--- the same as text
+-- what is printed of a file with this verdict: its line, if it has one of these places, and then
+-- those of its runs
 abbrev pub marked_line : Description → Places → FileEntry → FileVerdict → List Run → List ℕ
 marked_line t r f v runs = held_line (has_place t r f) v f ++ runs_text t f runs
 
@@ -34,7 +35,7 @@ marked_lines_as words t r (x ∷ xs) [] = []
 marked_lines_as words t r (x ∷ xs) (f ∷ fs) =
     marked_as words t r f x.0 x.1 ++ marked_lines_as words t r xs fs
 
--- the same as text
+-- what is printed of the first files, of all of which these are the verdicts and the runs
 abbrev pub marked_lines_text : Description → Places → List (FileVerdict × List Run)
     → List FileEntry → List ℕ
 marked_lines_text t r xs fs = marked_lines_as words_in_text t r xs fs

@@ -26,7 +26,7 @@ head_text t part parts =
 abbrev pub held_as : (FileVerdict → FileEntry → List ℕ) → Bool → FileVerdict → FileEntry → List ℕ
 held_as line is_held v f = (if is_held then line v f else [])
 
--- the same as text
+-- that line as it is printed
 abbrev pub held_line : Bool → FileVerdict → FileEntry → List ℕ
 held_line is_held v f = held_as file_verdict_text is_held v f
 
@@ -39,7 +39,7 @@ lines_as line t r (v ∷ vs) [] = []
 lines_as line t r (v ∷ vs) (f ∷ fs) =
     held_as line (has_place t r f) v f ++ lines_as line t r vs fs
 
--- the same as text
+-- those lines as they are printed
 abbrev pub lines_text : Description → Places → List FileVerdict → List FileEntry → List ℕ
 lines_text t r vs fs = lines_as file_verdict_text t r vs fs
 
@@ -53,7 +53,7 @@ abbrev pub end_as : (V1Verdict → List ℕ) → (Bool → List ℕ) → List Fi
     → List ℕ
 end_as version1 answer files v1 = hybrid_line version1 v1 ++ answer (is_yes files v1)
 
--- the same as text
+-- what is printed behind the lines of the files
 abbrev pub end_lines : List FileVerdict → Option V1Verdict → List ℕ
 end_lines files v1 = end_as version1_words answer_line files v1
 

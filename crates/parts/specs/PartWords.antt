@@ -19,7 +19,7 @@ pub record PartWords : Type 0 where
   pub bad_head : Description → ℕ → ℕ → List ℕ
   pub answer : Bool → List ℕ
 
--- the same as text
+-- those lines as they are printed
 abbrev pub part_in_text : PartWords
 part_in_text = record {
   check = words_in_text;

@@ -95,7 +95,7 @@ abbrev pub runs_as : RunLine → Description → FileEntry → List Run → List
 runs_as line t f [] = []
 runs_as line t f (r ∷ rs) = line t f r ++ runs_as line t f rs
 
--- the same as text
+-- those lines as they are printed
 abbrev pub runs_text : Description → FileEntry → List Run → List ℕ
 runs_text t f runs = runs_as run_text t f runs
 

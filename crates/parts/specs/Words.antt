@@ -12,7 +12,7 @@ pub record Words : Type 0 where
   pub report : Wording
   pub run : Description → FileEntry → Run → List ℕ
 
--- the same as text
+-- those lines as they are printed
 abbrev pub words_in_text : Words
 words_in_text = record { report = in_text; run = run_text }
 

@@ -23,7 +23,7 @@ returns-in-Some c =
     let some : 0 < length texts = above_zero (length texts) (λ empty. let on = number_same (length texts) 0 empty in (let x : ⊥ = cc in x)) in
     let head = c.in-Some.field-0 in
     let text : List ℕ = (get_or texts 0 none).now in
-    (text, text_there texts 0 none text some refl, head.part, head.count, head.hash.now, c.in-Some.ensures)
+    (text, text_there texts 0 none text some refl, head.part, head.count, head.hash, c.in-Some.ensures)
 
 pub returns-in-None : goal.returns-in-None
 returns-in-None c = λ has.

@@ -1,7 +1,5 @@
 use Rattle.std.proofs.Common.{◌≡◌, ◌≤◌, ◌<◌, ◌+◌, ℕ, List, Some, length, is_some, set, refl, sym, ap, subst, ◌∙◌, arith}
 use Rattle.std.proofs.lemmas.Option.{get_or_from_slice_get, slice_get_within}
-use Rattle.std.proofs.lemmas.Result.{err_from_is_err_and}
-use Rattle.std.specs.Result.{MatchResult}
 use Rattle.chains.proofs.Cases.{item_at}
 use Rattle.opening.specs.Places.{AreLaidOut}
 use Rattle.opening.specs.Seen.{file_entry}
@@ -9,8 +7,6 @@ use Rattle.opening.specs.declared.torrent.File.{File}
 use Rattle.opening.proofs.Placing.{first_pieces_rise}
 use Rattle.folders.specs.declared.report.FileVerdict.{FileVerdict}
 use Rattle.parts.specs.Worse.{worse}
-use Rattle.part_reports.specs.Lines.{HasFile, HasLines, JoinsLines}
-use Rattle.part_reports.specs.declared.marked_report.MarkedReport.{MarkedReport}
 use Rattle.part_reports.proofs.PassedFiles.{in_torrent}
 use Rattle.part_reports.proofs.Rooms.{room_for_file, room_stays}
 use Rattle.part_reports.proofs.SoFar.{LinesSoFar, end_there, file_there, joined_whole, so_far_next, so_far_none}

@@ -1,4 +1,4 @@
-use Rattle.std.proofs.Common.{◌≡◌, ◌+◌, ◌-◌, ◌++◌, ℕ, List, sym, ap, ap₂, ◌∙◌, arith}
+use Rattle.std.proofs.Common.{◌≡◌, ◌+◌, ◌-◌, ◌++◌, ℕ, sym, ap, ap₂, ◌∙◌, arith}
 use Rattle.opening.specs.Seen.{file_entry}
 use Rattle.parts.specs.Runs.{Run, run_text}
 use Rattle.part_reports.proofs.RunLines.{no_numbers, numbers_are}

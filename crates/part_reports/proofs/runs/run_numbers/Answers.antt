@@ -1,23 +1,23 @@
-use Rattle.std.proofs.Common.{ℕ, ◌∷◌, ◌++◌, Some, decimal, ap₂, refl}
+use Rattle.std.proofs.Common.{ℕ, ◌∷◌, ◌++◌, [], Some, codes, decimal, ap₂, refl}
 use Rattle.part_reports.proofs.Fronts.{same_pair}
 use Rattle.part_reports.proofs.runs.run_numbers.Goals as goal
 
 pub returns-in_err-first : goal.returns-in_err-first
 returns-in_err-first c n m more small short is =
-    let none = c.in_err-first.ensures n 32 (decimal m ++ 32 ∷ more) small refl is in
+    let none = c.in_err-first.ensures (codes "bad pieces ") n 32 (decimal m ++ 32 ∷ more) refl small refl is in
     (let x : ⊥ = cc in absurd x)
 
 pub returns-in_err-last : goal.returns-in_err-last
 returns-in_err-last c n m more small short is =
     let first = same_pair c.in_ok-first.first n c.in_ok-first.behind.now (32 ∷ (decimal m ++ 32 ∷ more))
-    (c.in_ok-first.ensures n 32 (decimal m ++ 32 ∷ more) small refl is) in
-    let none = c.in_err-last.ensures m 32 more short refl first.1 in
+    (c.in_ok-first.ensures (codes "bad pieces ") n 32 (decimal m ++ 32 ∷ more) refl small refl is) in
+    let none = c.in_err-last.ensures (32 ∷ []) m 32 more refl short refl first.1 in
     (let x : ⊥ = cc in absurd x)
 
 pub returns : goal.returns
 returns c n m more small short is =
     let first = same_pair c.in_ok-first.first n c.in_ok-first.behind.now (32 ∷ (decimal m ++ 32 ∷ more))
-    (c.in_ok-first.ensures n 32 (decimal m ++ 32 ∷ more) small refl is) in
-    let last = same_pair c.in_ok-last.last m c.in_ok-last.field-0-1.now (32 ∷ more) (c.in_ok-last.ensures m 32 more short refl first.1) in
+    (c.in_ok-first.ensures (codes "bad pieces ") n 32 (decimal m ++ 32 ∷ more) refl small refl is) in
+    let last = same_pair c.in_ok-last.last m c.in_ok-last.field-0-1.now (32 ∷ more) (c.in_ok-last.ensures (32 ∷ []) m 32 more refl short refl first.1) in
     let pair : ℕ → ℕ → ℕ × ℕ = λ a b. (a, b) in
     ap₂ (λ a b. Some (pair a b)) first.0 last.0

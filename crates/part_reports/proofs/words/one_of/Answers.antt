@@ -1,4 +1,4 @@
-use Rattle.std.proofs.Common.{◌≡◌, ◌<◌, inl, inr, Some, subst, slice_get, sym, ◌∙◌, ap, get_or, arith}
+use Rattle.std.proofs.Common.{◌≡◌, inl, inr, subst, slice_get, sym, ◌∙◌, ap, get_or, arith}
 use Rattle.std.proofs.lemmas.Option.{get_or_from_slice_get, slice_get-get_or, slice_get_within}
 use Rattle.chains.proofs.Cases.{last_or_before}
 use Rattle.lines.specs.Reading.{BeginsWith}
