@@ -12,7 +12,7 @@ zeros-init c =
     let none : 0 ≡ c.args.size - c.args.size = omega arith in
     record {
       begun = omega arith;
-      bound = c.requires.fits;
+      bound = omega (arith, c.requires.fits);
       held = subst (Holds c.update.new.self)
           (ap (λ k. take k (drop c.args.start c.args.buffer.now)) width ∙ sym (append-nil own) ∙ ap (λ k. own ++ replicate k 0) none)
           (c.update.ensures [] c.new-hasher.ensures);
