@@ -6,6 +6,8 @@ mod any_lengths;
 #[cfg(test)]
 mod bencoding;
 #[cfg(test)]
+mod cuts;
+#[cfg(test)]
 mod devices;
 #[cfg(test)]
 mod equal_lengths;

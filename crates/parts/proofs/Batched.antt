@@ -4,8 +4,7 @@ use Rattle.std.proofs.Common.{sym, ap, ap₂, subst, arith, take-take}
 use Rattle.std.proofs.lemmas.List.{drop-take, get_or-drop, get_or-take, length-drop, length-take, length_push}
 use Rattle.std.proofs.lemmas.Option.{get_or_from_slice_get, same_Some, slice_get-get_or, slice_get_within}
 use Rattle.benc.specs.Device.{SourceSeen}
-use Rattle.block_windows.specs.Files.{HasFile, bytes_at}
-use Rattle.block_windows.specs.declared.files.Window.{Window}
+use Rattle.block_windows.specs.Files.{bytes_at}
 use Rattle.chains.specs.Chain.{Chain}
 use Rattle.chains.proofs.Cases.{item_at, pushed_at}
 use Rattle.chains.proofs.Chains.{Chain-next}
@@ -13,10 +12,12 @@ use Rattle.folders.specs.declared.shelf.Shelf.{Ghosts}
 use Rattle.opening.specs.Description.{Description, FileEntry}
 use Rattle.parts.specs.Batches.{AreJudged, AreKept, HasKept, HoldsFrom, VisitsFrom}
 use Rattle.parts.specs.Held.{IsJudged, Promises, VisitsFound}
+use Rattle.parts.specs.Windows.{KeepsFiles}
 use Rattle.parts.specs.declared.batch.HeldFiles.{HeldFiles}
 use Rattle.parts.specs.declared.batch.Kept.{Kept}
 use Rattle.parts.specs.declared.held.Held.{Held}
 use Rattle.parts.specs.declared.verdicts.Verdicts.{Verdicts}
+use Rattle.parts.specs.declared.windows.Windows.{Windows}
 
 -- an item of a part of a list
 pub item_of_part : {A : Type 0} (n c : ℕ) (xs : List A) (k : ℕ) (x : A) → slice_get (take c (drop n xs)) k ≡ Some x → (k < c) × (slice_get xs (n + k) ≡ Some x)
@@ -59,8 +60,8 @@ module _ {S F : Type 0} (shelf : Ghosts S F) (seen : F → SourceSeen) (t : Desc
       → HoldsFrom shelf seen t from s h room used mid
       → n ≡ from + h.count → slice_get t.files n ≡ Some f → Promises shelf seen t mid f (a, bytes_at room' used f.length) s' → take used room' ≡ take used room
       → h'.count ≡ h.count + 1 → ((k : ℕ) → k < h.count → slice_get h'.kept k ≡ slice_get h.kept k)
-      → ((e : Kept) → slice_get h'.kept h.count ≡ Some e → (e.held ≡ a) × (e.start ≡ used) × HasKept h'.window (used + f.length) f.length e)
-      → ((first start size : ℕ) → HasFile h.window first start size → HasFile h'.window first start size)
+      → ((e : Kept) → slice_get h'.kept h.count ≡ Some e → (e.held ≡ a) × (e.start ≡ used) × HasKept h'.windows (used + f.length) f.length e)
+      → KeepsFiles h.windows h'.windows
       → HoldsFrom shelf seen t from s h' room' (used + f.length) s'
   holds_more s mid s' h h' room room' used n f a held number there promised same count before last window =
       let x : Held × List ℕ = (a, bytes_at room' used f.length) in
@@ -81,7 +82,7 @@ module _ {S F : Type 0} (shelf : Ghosts S F) (seen : F → SourceSeen) (t : Desc
               let lt : k < h.count = omega (arith, slice_get_within held.all k y old, held.count) in
               let was = held.each k g e y here (sym (before k lt) ∙ kept) old in
               record {
-                has = record { inside = omega (arith, was.has.inside); blocks = λ whole. window e.first e.start g.length (was.has.blocks whole) };
+                has = record { inside = omega (arith, was.has.inside); stands = λ whole. window e.firsts e.start g.length (was.has.stands whole) };
                 held_is = was.held_is;
                 bytes_are = was.bytes_are ∙ sym (same_bytes used e.start g.length room room' same was.has.inside);
               }
@@ -90,7 +91,7 @@ module _ {S F : Type 0} (shelf : Ghosts S F) (seen : F → SourceSeen) (t : Desc
               let e_is = last e (ap (slice_get h'.kept) (sym spot) ∙ kept) in
               let g_is : f ≡ g = same_Some f g (sym at ∙ ap (λ i. slice_get t.files (from + i)) (sym spot) ∙ here) in
               record {
-                has = subst (λ i. HasKept h'.window (used + f.length) i.length e) g_is e_is.2;
+                has = subst (λ i. HasKept h'.windows (used + f.length) i.length e) g_is e_is.2;
                 held_is = ap (λ i. i.0) (sym now.1) ∙ sym e_is.0;
                 bytes_are = ap (λ i. i.1) (sym now.1) ∙ ap₂ (λ start i. bytes_at room' start i.length) (sym e_is.1) g_is;
               }
@@ -131,18 +132,18 @@ module _ {S F : Type 0} (shelf : Ghosts S F) (seen : F → SourceSeen) (t : Desc
       pair x a b one two = ap₂ (λ y z. (y, z)) one two
 
   -- what is held has its places
-  pub has_places : (s s' : S) (h : HeldFiles) (window : Window) (room : List ℕ) (used bytes : ℕ) → HoldsFrom shelf seen t from s h room used s' → used ≤ bytes
-      → ((first start size : ℕ) → HasFile h.window first start size → HasFile window first start size)
-      → AreKept t from (record { kept = h.kept; count = h.count; window = window }) bytes
+  pub has_places : (s s' : S) (h : HeldFiles) (windows : Windows) (room : List ℕ) (used bytes : ℕ) → HoldsFrom shelf seen t from s h room used s' → used ≤ bytes
+      → KeepsFiles h.windows windows
+      → AreKept t from (record { kept = h.kept; count = h.count; windows = windows }) bytes
   has_places s s' h window room used bytes held le same k f e lt there kept =
       let x = item_at held.all k (omega (arith, lt, held.count)) in
       let is = held.each k f e x.0 there kept x.1 in
-      record { inside = omega (arith, is.has.inside, le); blocks = λ whole. same e.first e.start f.length (is.has.blocks whole) }
+      record { inside = omega (arith, is.has.inside, le); stands = λ whole. same e.firsts e.start f.length (is.has.stands whole) }
 
   -- the window's blocks were hashed
-  pub holds_hashed : (s s' : S) (h : HeldFiles) (window : Window) (room : List ℕ) (used : ℕ) → HoldsFrom shelf seen t from s h room used s'
-      → ((first start size : ℕ) → HasFile h.window first start size → HasFile window first start size)
-      → HoldsFrom shelf seen t from s (record { kept = h.kept; count = h.count; window = window }) room used s'
+  pub holds_hashed : (s s' : S) (h : HeldFiles) (windows : Windows) (room : List ℕ) (used : ℕ) → HoldsFrom shelf seen t from s h room used s'
+      → KeepsFiles h.windows windows
+      → HoldsFrom shelf seen t from s (record { kept = h.kept; count = h.count; windows = windows }) room used s'
   holds_hashed s s' h window room used held same = record {
     all = held.all;
     count = held.count;
@@ -151,7 +152,7 @@ module _ {S F : Type 0} (shelf : Ghosts S F) (seen : F → SourceSeen) (t : Desc
     each = λ k f e x there kept at.
         let is = held.each k f e x there kept at in
         record {
-          has = record { inside = is.has.inside; blocks = λ whole. same e.first e.start f.length (is.has.blocks whole) };
+          has = record { inside = is.has.inside; stands = λ whole. same e.firsts e.start f.length (is.has.stands whole) };
           held_is = is.held_is;
           bytes_are = is.bytes_are;
         };

@@ -1,5 +1,6 @@
 -- What follows from the bytes of a file that is held.
 use Rattle.std.proofs.Common.{◌≡◌, ◌∙◌, ℕ, List, [], length, slice_get, Option, Some, None, Ok, refl, sym, ap, subst}
+use Rattle.std.proofs.lemmas.Option.{same_Some}
 use Rattle.hashtree.specs.Tree.{root_of}
 use Rattle.opening.specs.Description.{Description, FileEntry, TreeEntry}
 use Rattle.opening.specs.Sound.{IsSound}
@@ -7,7 +8,8 @@ use Rattle.folders.specs.Folder.{tree_entry_of}
 use Rattle.folders.specs.Verdicts.{is_whole}
 use Rattle.parts.specs.FilePieces.{FindsPieces}
 use Rattle.parts.specs.Finding.{FindsWhole}
-use Rattle.parts.specs.Held.{IsJudged, IsJudgedGood}
+use Rattle.parts.specs.Held.{AreCutsGood, IsJudged, IsJudgedGood}
+use Rattle.parts.specs.Parts.{IsVersion1Good}
 use Rattle.parts.specs.Saying.{SaysWhole}
 use Rattle.parts.specs.declared.held.Held.TheVariants as held
 use Rattle.parts.specs.declared.row.Found.{Found}
@@ -15,15 +17,15 @@ use Rattle.parts.specs.declared.span.Span.{Span}
 use Rattle.parts.specs.declared.verdicts.Verdicts.{Verdicts}
 use Rattle.parts.proofs.WholeFiles.{IsWholeSpan, from_start, good_by_root, is_whole_says, whole_found}
 
--- bytes with the root of the tree are the file
-pub judged_good : (t : Description) (n : ℕ) (f : FileEntry) (bytes : List ℕ) → IsSound t → slice_get t.files n ≡ Some f → length bytes ≡ f.length → t.v1 ≡ None
-    → ((e : TreeEntry) → tree_entry_of t f ≡ Some e → root_of bytes ≡ e.root) → IsJudgedGood t f bytes
-judged_good t n f bytes sound there long single root = (
+-- bytes with the root of the tree are the file, and good if its version 1 pieces are
+pub judged_good : (t : Description) (n : ℕ) (f : FileEntry) (bytes : List ℕ) → IsSound t → slice_get t.files n ≡ Some f → length bytes ≡ f.length
+    → AreCutsGood t f bytes → ((e : TreeEntry) → tree_entry_of t f ≡ Some e → root_of bytes ≡ e.root) → IsJudgedGood t f bytes
+judged_good t n f bytes sound there long cuts root = (
   record {
     content = Some bytes;
     agrees = λ stands is. (let same : stands ≡ Some bytes = cc in same);
     verdict = (bytes, refl, good_by_root t n f bytes sound there long root);
-    version1 = λ w hybrid. (let no : ⊥ = cc in absurd no);
+    version1 = λ v hybrid k own has. subst (λ b. IsVersion1Good t v f b k) (same_Some bytes own has.content_is) (cuts v hybrid k has.inside);
     checked = refl;
     marks = λ runs. (let no : ⊥ = cc in absurd no);
   },

@@ -5,6 +5,7 @@ pub mod PartVisited
 pub mod Contents
 pub mod FirstFiles
 pub mod FoundFiles
+pub mod GoodCuts
 pub mod GoodPieces
 pub mod HeldFiles
 pub mod HeldPieces

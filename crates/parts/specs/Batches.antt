@@ -1,31 +1,32 @@
 -- Small files that are visited one after the other and judged together.
 use Rattle.std.specs.Prelude.{◌≡◌, ℕ, ◌+◌, ◌<◌, ◌≤◌, List, length, take, drop, slice_get, Some}
 use Rattle.benc.specs.Device.{SourceSeen}
-use Rattle.block_windows.specs.Files.{HasFile, bytes_at}
-use Rattle.block_windows.specs.declared.files.Window.{Window}
+use Rattle.block_windows.specs.Files.{bytes_at}
 use Rattle.chains.specs.Chain.{Chain}
 use Rattle.folders.specs.declared.shelf.Shelf.{Ghosts}
 use Rattle.opening.specs.Description.{Description, FileEntry}
 use Rattle.parts.specs.Held.{IsJudged, Promises, VisitsFound}
+use Rattle.parts.specs.Windows.{StandsAt}
 use Rattle.parts.specs.declared.ahead.Ahead.{Ahead}
 use Rattle.parts.specs.declared.batch.HeldFiles.{HeldFiles}
 use Rattle.parts.specs.declared.batch.Kept.{Kept}
 use Rattle.parts.specs.declared.held.Held.{Held}
 use Rattle.parts.specs.declared.held.Held.TheVariants as held
 use Rattle.parts.specs.declared.verdicts.Verdicts.{Verdicts}
+use Rattle.parts.specs.declared.windows.Windows.{Windows}
 
 -- the verdicts that are left
 abbrev pub left : Ahead → List Verdicts
 left a = drop a.next (take a.count a.verdicts)
 
--- what is kept of a file of this size has a place in the first bytes of a room, and in the window
+-- what is kept of a file of this size has a place in the first bytes of a room, and in the windows
 -- if it is whole
-pub record HasKept (w : Window) (used size : ℕ) (e : Kept) : Type 0 where
+pub record HasKept (w : Windows) (used size : ℕ) (e : Kept) : Type 0 where
   pub inside : e.start + size ≤ used
-  pub blocks : e.held ≡ held.Whole → HasFile w e.first e.start size
+  pub stands : e.held ≡ held.Whole → StandsAt w e.firsts e.start size
 
 -- and this is held of it
-pub record IsKeptAs (w : Window) (room : List ℕ) (used size : ℕ) (e : Kept) (h : Held × List ℕ)
+pub record IsKeptAs (w : Windows) (room : List ℕ) (used size : ℕ) (e : Kept) (h : Held × List ℕ)
     : Type 0 where
   pub has : HasKept w used size e
   pub held_is : h.0 ≡ e.held
@@ -35,7 +36,7 @@ pub record IsKeptAs (w : Window) (room : List ℕ) (used size : ℕ) (e : Kept) 
 abbrev pub AreKept : Description → ℕ → HeldFiles → ℕ → Type 0
 AreKept t from h used = (k : ℕ) (f : FileEntry) (e : Kept) → k < h.count
     → slice_get t.files (from + k) ≡ Some f → slice_get h.kept k ≡ Some e
-    → HasKept h.window used f.length e
+    → HasKept h.windows used f.length e
 
 -- each of these verdicts follows from what is kept
 abbrev pub AreJudged : Description → ℕ → HeldFiles → List ℕ → List Verdicts → Type 0
@@ -53,7 +54,7 @@ module _ {S F : Type 0} (shelf : Ghosts S F) (seen : F → SourceSeen) (t : Desc
     pub run : Chain (Promises shelf seen t) s (take h.count (drop from t.files)) all s'
     pub each : (k : ℕ) (f : FileEntry) (e : Kept) (x : Held × List ℕ)
         → slice_get t.files (from + k) ≡ Some f → slice_get h.kept k ≡ Some e
-        → slice_get all k ≡ Some x → IsKeptAs h.window room used f.length e x
+        → slice_get all k ≡ Some x → IsKeptAs h.windows room used f.length e x
 
   -- the files from this one on were visited for these verdicts
   pub record VisitsFrom (from : ℕ) (s : S) (vs : List Verdicts) (s' : S) : Type 0 where

@@ -1,5 +1,5 @@
 -- Files that are read whole and judged later, several of them together.
-use Rattle.std.specs.Prelude.{◌≡◌, ◌≢◌, ℕ, ◌+◌, ◌≤◌, true, List, [], length, take, drop, Some, Result, Ok, Err, IfOk, OnErr}
+use Rattle.std.specs.Prelude.{◌≡◌, ◌≢◌, ℕ, ◌+◌, ◌<◌, ◌≤◌, true, List, [], length, take, drop, Some, Result, Ok, Err, IfOk, OnErr}
 use Rattle.benc.specs.Device.{CountsFault, SourceSeen}
 use Rattle.benc.specs.declared.device.DeviceFault.{DeviceFault}
 use Rattle.folders.specs.Shelf.{more}
@@ -9,8 +9,9 @@ use Rattle.folders.specs.Visits.{Visits}
 use Rattle.folders.specs.declared.report.FileVerdict.TheVariants as file
 use Rattle.folders.specs.declared.report.V1Verdict.TheVariants as version1
 use Rattle.folders.specs.declared.shelf.Shelf.{Ghosts}
-use Rattle.opening.specs.Description.{Description, FileEntry}
+use Rattle.opening.specs.Description.{Description, FileEntry, Version1}
 use Rattle.parts.specs.Finding.{FindsWhole}
+use Rattle.parts.specs.Parts.{IsVersion1Good, piece_count}
 use Rattle.parts.specs.declared.held.Held.{Held}
 use Rattle.parts.specs.declared.held.Held.TheVariants as held
 use Rattle.parts.specs.declared.held.HeldReader.{HeldReader}
@@ -55,6 +56,11 @@ IsJudged t f held.Whole bytes v = FindsWhole t f (Some (Some bytes)) [] v
 abbrev pub IsJudgedGood : Description → FileEntry → List ℕ → Type 0
 IsJudgedGood t f bytes =
     IsJudged t f held.Whole bytes (record { file = file.Good; v1 = version1.Good })
+
+-- the version 1 pieces of a file with these bytes are good, if the torrent has any
+abbrev pub AreCutsGood : Description → FileEntry → List ℕ → Type 0
+AreCutsGood t f bytes = (v : Version1) → t.v1 ≡ Some v → (k : ℕ) → k < piece_count t f
+    → IsVersion1Good t v f bytes k
 
 module _ {S F : Type 0} (shelf : Ghosts S F) (seen : F → SourceSeen) (t : Description) where
   -- a file was visited for these verdicts, which are true of what stands at its path

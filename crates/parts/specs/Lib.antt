@@ -24,5 +24,6 @@ pub mod Shares
 pub mod Spans
 pub mod Telling
 pub mod Visiting
+pub mod Windows
 pub mod Words
 pub mod Worse

@@ -70,8 +70,7 @@ pub(crate) fn visit_whole<S: Shelf, L: LineSink>(
     Ok(report)
 }
 
-// Visits each file: small ones together, unless bits of pieces are told of, or there are version 1
-// pieces.
+// Visits each file: small ones together, unless bits of pieces are told of.
 fn visit_in<S: Shelf, L: LineSink>(
     room: Room,
     torrent: &Torrent<'_>,
@@ -86,9 +85,7 @@ fn visit_in<S: Shelf, L: LineSink>(
     ensures stays { S.contents shelf.new ≡ S.contents shelf.old }
 {
     match telling {
-        Telling::Nothing | Telling::Line(_) if torrent.v1().is_none() => {
-            visit_ahead(room, torrent, shelf, telling, out)
-        }
+        Telling::Nothing | Telling::Line(_) => visit_ahead(room, torrent, shelf, telling, out),
         _ => visit_files(room, torrent, &WholeFiles, shelf, telling, out),
     }
 }

@@ -1,31 +1,28 @@
 //! Small files that are visited one after the other, and judged together.
 ghost use Rattle.std.specs.Prelude.{◌≡◌, ℕ, ◌+◌, ◌^◌, ◌<◌, ◌≤◌, [], IsTrue, length, slice_get, Some};
-ghost use Rattle.block_windows.specs.Files.{HasFile, IsHashed, IsWithin, block_total};
-ghost use Rattle.hashtree.specs.Tree.{block_count};
+ghost use Rattle.opening.specs.Description.{Description};
 ghost use Rattle.parts.specs.Batches.{AreJudged, AreKept, HasKept, HoldsFrom, VisitsFrom, left};
+ghost use Rattle.parts.specs.Windows.{AreHashed, AreWithin, HasRoom, KeepsFiles, StandsAt};
 ghost use Rattle.parts.specs.declared.batch.Kept.{Kept};
 ghost use Rattle.parts.specs.declared.held.Held.TheVariants as kept;
 
 use crate::ahead::{Ahead, MOST};
 use crate::held::{Held, hold_file};
 use crate::judging::judge_held;
-use block_windows::{WINDOW, Window};
+use crate::windows::{Firsts, Windows};
 use folders::Shelf;
 use opening::Torrent;
 
 // Bytes in eight blocks, as many as a small file has at most.
 const SMALL: u64 = 131_072;
 
-// Bytes in a block.
-const BLOCK: u64 = 16_384;
-
-/// What is kept of a file that was visited: its bytes stand in the room from `start` on, and its
-/// blocks in the window from `first` on.
+/// What is kept of a file that was visited: its bytes stand in the room from `start` on, and it in
+/// the windows from `firsts` on.
 #[derive(Clone, Copy)]
 pub(crate) struct Kept {
     held: Held,
     start: usize,
-    first: usize,
+    firsts: Firsts,
 }
 
 /// What is kept of files that were visited one after the other.
@@ -33,26 +30,25 @@ pub(crate) struct Kept {
 pub(crate) struct HeldFiles {
     kept: [Kept; MOST],
     count: usize,
-    window: Window,
+    windows: Windows,
 }
 
 impl HeldFiles {
-    // Of none.
-    fn none() -> HeldFiles
+    // Of none of this torrent.
+    fn none(torrent: &Torrent<'_>) -> HeldFiles
         ensures count { result.count ≡ 0 }
         ensures kept { length result.kept ≡ 64 }
-        ensures blocks { block_total result.window ≡ 0 }
-        ensures within { (bytes : ℕ) → IsWithin result.window bytes }
+        ensures within { (bytes : ℕ) → AreWithin torrent.now result.windows bytes }
     {
         let kept = Kept {
             held: Held::Missing,
             start: 0,
-            first: 0,
+            firsts: Firsts::NONE,
         };
         HeldFiles {
             kept: [kept; MOST],
             count: 0,
-            window: Window::new(),
+            windows: Windows::none(torrent),
         }
     }
 
@@ -60,12 +56,12 @@ impl HeldFiles {
     // are used.
     fn has_room(&self, length: u64, used: usize, room: usize) -> bool
         ensures count { IsTrue result → self.now.count < 64 }
-        ensures blocks { IsTrue result → block_total self.now.window + block_count length ≤ 64 }
+        ensures windows { IsTrue result → HasRoom self.now.windows length }
         ensures bytes { IsTrue result → used + length < room }
     {
         self.count < MOST
             && length <= SMALL
-            && self.window.blocks() as u64 + length.div_ceil(BLOCK) <= WINDOW as u64
+            && self.windows.has_room(length as usize)
             && used < room
             && length < (room - used) as u64
     }
@@ -73,7 +69,7 @@ impl HeldFiles {
     // Keeps what is held of a file of this size, whose bytes begin there.
     fn keep(&mut self, held: Held, start: usize, size: usize)
         requires few { self.old.count < 64 }
-        requires room { block_total self.old.window + block_count size ≤ 64 }
+        requires room { HasRoom self.old.windows size }
         requires fits { start + size < 2 ^ 64 }
         ensures count { self.new.count ≡ self.old.count + 1 }
         ensures length { length self.new.kept ≡ length self.old.kept }
@@ -81,31 +77,33 @@ impl HeldFiles {
             → slice_get self.new.kept k ≡ slice_get self.old.kept k }
         ensures last { (e : Kept) → slice_get self.new.kept self.old.count ≡ Some e
             → (e.held ≡ held) × (e.start ≡ start)
-            × HasKept self.new.window (start + size) size e }
-        ensures window { (first from many : ℕ) → HasFile self.old.window first from many
-            → HasFile self.new.window first from many }
-        ensures within { (bytes : ℕ) → IsWithin self.old.window bytes → start + size ≤ bytes
-            → IsWithin self.new.window bytes }
+            × HasKept self.new.windows (start + size) size e }
+        ensures windows { KeepsFiles self.old.windows self.new.windows }
+        ensures within { (t : Description) (bytes : ℕ) → AreWithin t self.old.windows bytes
+            → start + size ≤ bytes → AreWithin t self.new.windows bytes }
     {
-        let first = place_of(&mut self.window, held, start, size);
-        self.kept[self.count] = Kept { held, start, first };
+        let firsts = firsts_of(&mut self.windows, held, start, size);
+        self.kept[self.count] = Kept {
+            held,
+            start,
+            firsts,
+        };
         self.count += 1;
     }
 }
 
-// Puts the blocks of a file that is whole into a window: the number of the first.
-fn place_of(window: &mut Window, held: Held, start: usize, size: usize) -> usize
-    requires room { block_total window.old + block_count size ≤ 64 }
+// Puts a file that is whole into the windows: where it begins there.
+fn firsts_of(windows: &mut Windows, held: Held, start: usize, size: usize) -> Firsts
+    requires room { HasRoom windows.old size }
     requires fits { start + size < 2 ^ 64 }
-    ensures whole { held ≡ kept.Whole → HasFile window.new result start size }
-    ensures window { (first from many : ℕ) → HasFile window.old first from many
-        → HasFile window.new first from many }
-    ensures within { (bytes : ℕ) → IsWithin window.old bytes → start + size ≤ bytes
-        → IsWithin window.new bytes }
+    ensures whole { held ≡ kept.Whole → StandsAt windows.new result start size }
+    ensures windows { KeepsFiles windows.old windows.new }
+    ensures within { (t : Description) (bytes : ℕ) → AreWithin t windows.old bytes
+        → start + size ≤ bytes → AreWithin t windows.new bytes }
 {
     match held {
-        Held::Whole => window.push(start, size),
-        _ => 0,
+        Held::Whole => windows.push(start, size),
+        _ => Firsts::NONE,
     }
 }
 
@@ -129,7 +127,7 @@ pub(crate) fn look_ahead<S: Shelf>(
     ensures stays { S.contents shelf.new ≡ S.contents shelf.old }
 {
     let mut held = hold_files(shelf, torrent, from, room);
-    held.window.hash(room);
+    held.windows.hash(torrent, room);
     judge_files(torrent, from, &held, room, bits, buffer)
 }
 
@@ -145,11 +143,11 @@ fn hold_files<S: Shelf>(
         torrent.now from shelf.old result room.new.items used shelf.new }
     ensures kept { length result.kept ≡ 64 }
     ensures most { result.count ≤ 64 }
-    ensures within { IsWithin result.window (length room.new.items) }
+    ensures within { AreWithin torrent.now result.windows (length room.new.items) }
     ensures stays { S.contents shelf.new ≡ S.contents shelf.old }
 {
     let entries = torrent.files();
-    let mut held = HeldFiles::none();
+    let mut held = HeldFiles::none(torrent);
     let mut used = 0;
     'files: for number in from..entries.len() {
         let file = &entries[number];
@@ -178,7 +176,7 @@ fn judge_files(
     requires kept { length held.now.kept ≡ 64 }
     requires count { held.now.count ≤ 64 }
     requires places { AreKept torrent.now from held.now (length room.now) }
-    requires hashed { IsHashed held.now.window room.now }
+    requires hashed { AreHashed torrent.now held.now.windows room.now }
     requires none { bits.old.items ≡ [] }
     ensures count { length (left result) ≡ held.now.count }
     ensures judged { AreJudged torrent.now from held.now room.now (left result) }
@@ -189,9 +187,17 @@ fn judge_files(
     'files: for k in 0..held.count {
         let file = &entries[from + k];
         let kept = held.kept[k];
-        let window = &held.window;
+        let windows = &held.windows;
         let verdicts = judge_held(
-            torrent, file, kept.held, window, kept.first, room, kept.start, bits, buffer,
+            torrent,
+            file,
+            kept.held,
+            windows,
+            kept.firsts,
+            room,
+            kept.start,
+            bits,
+            buffer,
         );
         ahead.push(verdicts);
     }

@@ -9,6 +9,7 @@ mod bits;
 mod buffer;
 mod checking;
 mod file_pieces;
+mod good_cuts;
 mod held;
 mod held_bytes;
 mod joining;
@@ -28,6 +29,7 @@ mod verdicts;
 mod visiting;
 mod visiting_ahead;
 mod whole;
+mod windows;
 
 pub use checking::check_part;
 pub use joining::{join, worse, worse_v1};

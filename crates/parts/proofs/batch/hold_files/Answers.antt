@@ -1,6 +1,7 @@
-use Rattle.std.proofs.Common.{rules, ◌∙◌, ◌+◌, ◌<◌, length, refl, arith}
+use Rattle.std.proofs.Common.{rules, ◌∙◌, ◌+◌, ◌<◌, length, refl, sym, subst, arith}
 use Rattle.opening.specs.Seen.{file_entry}
 use Rattle.opening.proofs.Placing.{file_there}
+use Rattle.parts.specs.Windows.{AreWithin}
 use Rattle.parts.proofs.Batched.{holds_more, holds_none}
 use Rattle.parts.proofs.batch.hold_files.Goals as goal
 
@@ -10,7 +11,7 @@ files-init g c = record {
   used = omega arith;
   kept = c.none-held.ensures.kept;
   most = omega (arith, c.none-held.ensures.count);
-  within = c.none-held.ensures.within 0;
+  within = c.none-held.ensures.within (length c.args.room.now.items);
   holds = holds_none g.S.Shelf g.S.File.Source.seen c.args.torrent.now c.args.from c.args.shelf.now c.none-held.result c.args.room.now.items
       c.none-held.ensures.count c.requires.from;
   stays = refl;
@@ -37,10 +38,12 @@ files-preserved g c =
       used = omega (arith, fits, c.hold_file-visited.ensures.count);
       kept = c.keep.ensures.length ∙ was.kept;
       most = omega (arith, few, c.keep.ensures.count);
-      within = c.keep.ensures.within (c.files.used + f.length) (λ b lt. omega (arith, was.within b lt)) (omega arith);
+      within = c.keep.ensures.within t (length c.hold_file-visited.new.room.items)
+          (subst (AreWithin t c.files.held.windows) (sym c.hold_file-visited.ensures.count) was.within)
+          (omega (arith, fits, c.hold_file-visited.ensures.count));
       holds = holds_more g.S.Shelf g.S.File.Source.seen t c.args.from c.args.shelf.now c.files.shelf c.hold_file-visited.new.shelf c.files.held c.keep.new.self
           c.files.room.items c.hold_file-visited.new.room.items c.files.used c.files.number f c.hold_file-visited.result was.holds was.place there
           c.hold_file-visited.ensures.promises c.hold_file-visited.ensures.kept c.keep.ensures.count c.keep.ensures.before c.keep.ensures.last
-          c.keep.ensures.window;
+          c.keep.ensures.windows;
       stays = c.hold_file-visited.ensures.stays ∙ was.stays;
     }

@@ -13,7 +13,7 @@ use Rattle.parts.proofs.batch.judge_files.Goals as goal
 
 -- what stands in place of what is not there
 abbrev other : Kept
-other = record { held = held.Missing; start = 0; first = 0 }
+other = record { held = held.Missing; start = 0; firsts = record { block = 0; cut = 0 } }
 
 pub judge_held-verdicts-requires-clause-file : goal.judge_held-verdicts-requires-clause-file
 judge_held-verdicts-requires-clause-file c = (
@@ -32,14 +32,14 @@ judge_held-verdicts-requires-clause-inside c =
     (c.requires.places c.files.k f _ c.files-test.true there
     (slice_get-get_or c.args.held.now.kept c.files.k other (omega (arith, c.files-test.true, c.requires.kept, c.requires.count)))).inside
 
-pub judge_held-verdicts-requires-clause-blocks : goal.judge_held-verdicts-requires-clause-blocks
-judge_held-verdicts-requires-clause-blocks c =
+pub judge_held-verdicts-requires-clause-stands : goal.judge_held-verdicts-requires-clause-stands
+judge_held-verdicts-requires-clause-stands c =
     let f = file_entry c.index-entries-from.result in
     let there = file_there c.args.torrent.now c.files-entries.result.now (c.args.from + c.files.k) c.index-entries-from.result c.files-entries.ensures
     (omega (arith, c.files-test.true, c.requires.few, ap length c.files-entries.ensures, length-map c.files-entries.result.now file_entry))
     c.index-entries-from.is in
     (c.requires.places c.files.k f _ c.files-test.true there
-    (slice_get-get_or c.args.held.now.kept c.files.k other (omega (arith, c.files-test.true, c.requires.kept, c.requires.count)))).blocks
+    (slice_get-get_or c.args.held.now.kept c.files.k other (omega (arith, c.files-test.true, c.requires.kept, c.requires.count)))).stands
 
 pub files-preserved : goal.files-preserved
 files-preserved c =

@@ -17,7 +17,7 @@ returns-clause-visits g c =
     let hashed = holds_hashed g.S.Shelf g.S.File.Source.seen c.args.torrent.now c.args.from c.args.shelf.now c.hold_files-held.new.shelf h c.hash.new.self
     c.hold_files-held.new.room.items held.0 held.2 c.hash.ensures.kept in
     visits_from g.S.Shelf g.S.File.Source.seen c.args.torrent.now c.args.from c.args.shelf.now c.hold_files-held.new.shelf
-    (record { kept = h.kept; count = h.count; window = c.hash.new.self }) c.hold_files-held.new.room.items held.0 (left c.judge_files.result) hashed
+    (record { kept = h.kept; count = h.count; windows = c.hash.new.self }) c.hold_files-held.new.room.items held.0 (left c.judge_files.result) hashed
     (omega (arith, c.hold_files-held.ensures.most, c.hold_files-held.ensures.kept)) c.judge_files.ensures.count
-    (subst (λ r. AreJudged c.args.torrent.now c.args.from (record { kept = h.kept; count = h.count; window = c.hash.new.self }) r (left c.judge_files.result))
+    (subst (λ r. AreJudged c.args.torrent.now c.args.from (record { kept = h.kept; count = h.count; windows = c.hash.new.self }) r (left c.judge_files.result))
     c.deref-2.ensures.value c.judge_files.ensures.judged)

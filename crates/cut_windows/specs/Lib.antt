@@ -1,0 +1,3 @@
+-- What contracts of windows of cuts cite.
+pub mod Digests
+pub mod Windows

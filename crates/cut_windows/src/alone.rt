@@ -1,0 +1,34 @@
+//! One cut by itself.
+
+ghost use Rattle.std.specs.Prelude.{◌≡◌, ◌+◌, ◌≤◌, length};
+ghost use Rattle.sha1.specs.Sha1.{sha1};
+ghost use Rattle.sha1_lanes.specs.Batches.{filled_at};
+
+use sha1::Sha1;
+
+// How many zeros are hashed at once.
+const ZEROS: usize = 4096;
+
+/// The digest of the cut of this size at this byte of a buffer, filled up with zeros to the piece
+/// length. Conditions: it stands in the buffer, and is no longer than a piece.
+pub(crate) fn digest_alone(
+    buffer: &[u8],
+    start: usize,
+    size: usize,
+    piece_length: usize,
+) -> [u8; 20]
+    requires inside { start + size ≤ length buffer.now }
+    requires fits { size ≤ piece_length }
+    ensures { result ≡ sha1 (filled_at buffer.now start size piece_length) }
+{
+    let zeros = [0; ZEROS];
+    let mut hasher = Sha1::new();
+    hasher.update(&buffer[start..start + size]);
+    let mut filled = size;
+    'zeros: while filled < piece_length {
+        let count = (piece_length - filled).min(ZEROS);
+        hasher.update(&zeros[..count]);
+        filled += count;
+    }
+    hasher.finalize()
+}

@@ -1,0 +1,9 @@
+//! The version 1 pieces of a window of small files, each filled up with zeros to the piece length,
+//! hashed side by side (BEP 3, "pieces"; BEP 47, "Padding Files").
+#![tactic(auto)]
+
+mod alone;
+mod together;
+mod window;
+
+pub use window::{CutWindow, WINDOW};
