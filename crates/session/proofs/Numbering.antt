@@ -11,6 +11,14 @@ use Rattle.partial_tree.specs.Kept.{KeptTree, info_of}
 use Rattle.session.specs.Layouts.{root_of_entry, AreKept}
 use Rattle.session.proofs.Sessions.{mapped, tree_at}
 
+-- the number, if there is one, is that of a tree with this root
+abbrev pub IsFound : Hash → Option ℕ → Description → Type 0
+IsFound root o d = IfSome o (IsTreeWithRoot d.trees root)
+
+-- no other tree has this root
+abbrev pub IsOnly : Hash → Option ℕ → Description → Type 0
+IsOnly root o d = (n : ℕ) → IsTreeWithRoot d.trees root n → o ≡ Some n
+
 module _ (d : Description) (ts : List KeptTree) (kept : AreKept d ts) where
   -- the torrent's entry of a kept tree
   entry_at : (n : ℕ) (a : KeptTree) → slice_get ts n ≡ Some a → IsTreeWithRoot d.trees a.root n
@@ -19,7 +27,7 @@ module _ (d : Description) (ts : List KeptTree) (kept : AreKept d ts) where
       ∙ (tree_at d ts kept leaves.empty n a there).tree_is) in
       (x.0, x.1, ap (λ (t : TreeRoot). t.root) x.2)
 
-  pub some_number : (root : Hash) (o : Option ℕ) (n : ℕ) → IfSome o (IsTreeWithRoot d.trees root) → o ≡ Some n
+  pub some_number : (root : Hash) (o : Option ℕ) (n : ℕ) → IsFound root o d → o ≡ Some n
       → (n < length ts) × ((a : KeptTree) → slice_get ts n ≡ Some a → a.root ≡ root)
   some_number root o n found is =
       let e : IsTreeWithRoot d.trees root n = subst (λ x. IfSome x (IsTreeWithRoot d.trees root)) is found in
@@ -31,7 +39,7 @@ module _ (d : Description) (ts : List KeptTree) (kept : AreKept d ts) where
             sym b.2 ∙ ap (λ (t : TreeEntry). t.root) (same_Some b.0 e.0 (sym b.1 ∙ e.1)) ∙ e.2,
       )
 
-  pub no_number : (root : Hash) (o : Option ℕ) → ((n : ℕ) → IsTreeWithRoot d.trees root n → o ≡ Some n) → o ≡ None → (n : ℕ) (a : KeptTree)
+  pub no_number : (root : Hash) (o : Option ℕ) → IsOnly root o d → o ≡ None → (n : ℕ) (a : KeptTree)
       → slice_get ts n ≡ Some a → a.root ≢ root
   no_number root o only none n a there same =
       none-some n (sym none ∙ only n (subst (λ s. IsTreeWithRoot d.trees s n) same (entry_at n a there)))

@@ -11,7 +11,6 @@ pub mod Rounds
 pub mod NotedRounds
 pub mod Layouts
 pub mod Codes
-pub mod Pausing
 pub mod Fresh
 pub mod Laws
 pub mod RoundLaws

@@ -10,13 +10,14 @@ ghost use Rattle.hashtree.specs.Tree.{block};
 ghost use Rattle.session.specs.Layouts.{IsBlockOf};
 ghost use Rattle.session.specs.Answers.{IsAnswerTo};
 
-use crate::session::Session;
+use crate::session::SessionOf;
+use crate::torrent_holder::HoldsTorrent;
 use hashtree::NoMemory;
 use node_maps::NodeMap;
 use partial_tree::Answer;
 use wire::Ask;
 
-impl<'t, N: NodeMap> Session<'t, N> {
+impl<T: HoldsTorrent, N: NodeMap> SessionOf<T, N> {
     /// What to ask for next to learn the leaf of a block: the aligned range of at most 512 leaves
     /// that holds it, with proof up to the root. `None` exactly if the leaf is known. Takes no
     /// memory. Conditions: there are more than `tree` trees, and its files have more than `block`
@@ -34,8 +35,9 @@ impl<'t, N: NodeMap> Session<'t, N> {
     pub fn can_answer(&self, ask: &Ask) -> bool
         ensures { IsTrue result ↔ IsAnswered self.now ask.now }
     {
-        self.torrent.recall_sound();
-        match self.torrent.tree_with_root(&ask.root) {
+        let torrent = self.torrent.lend();
+        torrent.recall_sound();
+        match torrent.tree_with_root(&ask.root) {
             None => false,
             Some(number) => self.trees[number].can_answer(ask),
         }
@@ -49,8 +51,9 @@ impl<'t, N: NodeMap> Session<'t, N> {
         ensures answer { IfOk result (IsAnswerTo self.now ask.now) }
         ensures no_memory { OnErr result (IsAnswered self.now ask.now) }
     {
-        self.torrent.recall_sound();
-        match self.torrent.tree_with_root(&ask.root) {
+        let torrent = self.torrent.lend();
+        torrent.recall_sound();
+        match torrent.tree_with_root(&ask.root) {
             None => Ok(Answer::Reject),
             Some(number) => self.trees[number].answer(ask),
         }

@@ -7,13 +7,14 @@ ghost use Rattle.session.specs.Session.{IsStored, IsHashRefused, IsFilled, IsFil
 ghost use Rattle.session.specs.Wanted.{WantedClosesOneGap};
 ghost use Rattle.session.specs.SafeStep.{KeepsKnown, StoresTrueHashes, StoresAnswers};
 
-use crate::session::Session;
+use crate::session::SessionOf;
+use crate::torrent_holder::HoldsTorrent;
 use hashtree::Hash;
 use node_maps::NodeMap;
 use partial_tree::{GrownTree, HashRefusal, recall_hashes};
 use wire::Ask;
 
-impl<'t, N: NodeMap> Session<'t, N> {
+impl<T: HoldsTorrent, N: NodeMap> SessionOf<T, N> {
     /// Takes a hashes message. Returns how many places are newly known, those past the file's end
     /// counted. A refusal leaves content and marks as they were; it is out of memory only if a
     /// place is new, and then room that was made for places may stay. What is known stays known,
@@ -41,7 +42,7 @@ impl<'t, N: NodeMap> Session<'t, N> {
             × (self.new ≡ self.old)) }
     {
         recall_hashes(hashes);
-        match self.torrent.tree_with_root(&ask.root) {
+        match self.torrent.lend().tree_with_root(&ask.root) {
             None => Err(HashRefusal::UnknownRoot),
             Some(number) => self.trees[number].take(ask, hashes),
         }

@@ -10,13 +10,14 @@ ghost use Rattle.session.specs.Layouts.{HasBlock, HasRun};
 ghost use Rattle.chains.specs.Chain.{Chain};
 ghost use Rattle.session.specs.SafeStep.{KeepsKnown, VerifiesTrueBlock, VerifiesTrueBlocks};
 
-use crate::session::Session;
+use crate::session::SessionOf;
+use crate::torrent_holder::HoldsTorrent;
 use crate::verdict::Blocks;
 use hashtree::Hash;
 use node_maps::NodeMap;
 use partial_tree::{BlockDigests, BlockRefusal, block_of};
 
-impl<'t, N: NodeMap> Session<'t, N> {
+impl<T: HoldsTorrent, N: NodeMap> SessionOf<T, N> {
     /// Takes a block of a piece message, marks its leaf, and returns the file and the block, both
     /// numbered from 0. What it verifies is that block of every file that has the tree's length and
     /// root, or two inputs with one digest are named. A repeat is verified again; a refusal leaves
@@ -52,7 +53,7 @@ impl<'t, N: NodeMap> Session<'t, N> {
         ensures refused { IfErr result (λ r. IsBlockRefused self.old index begin block.now r
             × (self.new ≡ self.old)) }
     {
-        let Some((file, number)) = self.torrent.place(index, begin) else {
+        let Some((file, number)) = self.torrent.lend().place(index, begin) else {
             return Err(BlockRefusal::BadPlace);
         };
         match self.mark_in_file(file, number, block, None) {
@@ -90,11 +91,12 @@ impl<'t, N: NodeMap> Session<'t, N> {
         ensures refused { IfErr result (λ r. AreRefused self.old index begin bytes.now r
             × (self.new ≡ self.old)) }
     {
-        self.torrent.recall_sound();
-        let Some((file, first)) = self.torrent.place(index, begin) else {
+        let torrent = self.torrent.lend();
+        torrent.recall_sound();
+        let Some((file, first)) = torrent.place(index, begin) else {
             return Err(BlockRefusal::BadPlace);
         };
-        match self.torrent.block_run(file, first, bytes.len() as u64) {
+        match torrent.block_run(file, first, bytes.len() as u64) {
             None => Err(BlockRefusal::BadSize),
             Some(count) => Ok(self.mark_run(file, first, bytes, count)),
         }
@@ -109,7 +111,7 @@ impl<'t, N: NodeMap> Session<'t, N> {
         ensures each { Chain (BlockStep file) self.old (cuts first bytes.now count)
             result.refusals self.new }
     {
-        self.torrent.recall_sound();
+        self.torrent.lend().recall_sound();
         let mut blocks = Blocks::new(file, first);
         let mut digests = BlockDigests::new();
         'numbers: for number in 0..count {
@@ -146,8 +148,9 @@ impl<'t, N: NodeMap> Session<'t, N> {
     fn knows_eight(&self, file: usize, block: u64) -> bool
         requires { HasBlock self.now.torrent file block }
     {
-        self.torrent.recall_sound();
-        let tree = self.torrent.tree_of(file).unwrap();
+        let torrent = self.torrent.lend();
+        torrent.recall_sound();
+        let tree = torrent.tree_of(file).unwrap();
         self.trees[tree].knows_leaves(block, 8)
     }
 
@@ -165,8 +168,9 @@ impl<'t, N: NodeMap> Session<'t, N> {
         ensures refused { IfErr result (λ r. IsUnmarkedBlock self.old file block bytes.now r
             × (self.new ≡ self.old)) }
     {
-        self.torrent.recall_sound();
-        let tree = self.torrent.tree_of(file).unwrap();
+        let torrent = self.torrent.lend();
+        torrent.recall_sound();
+        let tree = torrent.tree_of(file).unwrap();
         self.trees[tree].take_hashed(block, bytes, digest)
     }
 }

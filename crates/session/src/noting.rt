@@ -9,14 +9,15 @@ ghost use Rattle.session.specs.Wanted.{WantedClosesOneGap};
 ghost use Rattle.session.specs.Rounds.{HasNoMoreGaps};
 
 use crate::running::recall_message_hashes;
-use crate::session::Session;
+use crate::session::SessionOf;
+use crate::torrent_holder::HoldsTorrent;
 use crate::verdict::Verdict;
 use hashtree::{Hash, NoMemory};
 use node_maps::NodeMap;
 use partial_tree::HashRefusal;
 use wire::{Ask, Direction, Message};
 
-impl<'t, N: NodeMap> Session<'t, N> {
+impl<T: HoldsTorrent, N: NodeMap> SessionOf<T, N> {
     /// Notes that we sent this request: its ask is open from now on, until hashes answer it. An ask
     /// that is open already changes nothing and takes no memory. Fails only if memory was refused,
     /// and then the session is unchanged.

@@ -11,12 +11,13 @@ ghost use Rattle.session.specs.Pieces.{HasPiece, AreLeavesTaken, AreLeavesRefuse
 ghost use Rattle.session.specs.Rounds.{HasNoMoreGaps};
 ghost use Rattle.session.specs.SafeStep.{KeepsKnown};
 
-use crate::session::Session;
+use crate::session::SessionOf;
+use crate::torrent_holder::HoldsTorrent;
 use hashtree::{Hash, Shape};
 use node_maps::NodeMap;
 use partial_tree::{PieceRefusal, recall_hashes};
 
-impl<'t, N: NodeMap> Session<'t, N> {
+impl<T: HoldsTorrent, N: NodeMap> SessionOf<T, N> {
     /// The hash at a place of a tree, if it is known. Takes no memory. Condition: there are more
     /// than `tree` trees.
     pub fn hash_at(&self, tree: usize, layer: u32, index: u64) -> Option<Hash>
@@ -46,8 +47,9 @@ impl<'t, N: NodeMap> Session<'t, N> {
             × (result ≡ piece_span self.now.torrent.piece_length t.length) }
         ensures bound { result ≤ 32 }
     {
-        self.torrent.recall_sound();
-        let layer = Shape::of(self.torrent.piece_length()).unwrap().height();
+        let torrent = self.torrent.lend();
+        torrent.recall_sound();
+        let layer = Shape::of(torrent.piece_length()).unwrap().height();
         layer.min(self.trees[tree].shape().height())
     }
 

@@ -1,13 +1,15 @@
 //! The trees of a new session.
 
-ghost use Rattle.std.specs.Prelude.{◌<◌, true, false, IfOk, OnOk};
+ghost use Rattle.std.specs.Prelude.{◌<◌, true, false, IfOk, OnErr, OnOk, length};
+ghost use Rattle.std.specs.FinSet as set;
 ghost use Rattle.opening.specs.Seen.{tree_entry};
 ghost use Rattle.opening.specs.Sound.{IsSoundTree};
-ghost use Rattle.session.specs.Fresh.{IsPlanted};
+ghost use Rattle.session.specs.Fresh.{IsFresh, IsPlanted};
+ghost use Rattle.session.specs.Layouts.{AreKept, seen};
 
 use hashtree::{NoMemory, Shape};
 use node_maps::NodeMap;
-use opening::TreeInfo;
+use opening::{Torrent, TreeInfo};
 use partial_tree::{Tree, recall_hash, recall_hashes};
 use pieces::PieceLength;
 use std::alloc::Global;
@@ -29,6 +31,28 @@ pub(crate) fn planted<N: NodeMap>(
         add_layers(&mut tree, info, piece_length)?;
     }
     Ok(tree)
+}
+
+/// The trees of a torrent as a new session knows them, in the torrent's order. Fails only if memory
+/// was refused; a torrent without trees takes none.
+pub(crate) fn planted_all<N: NodeMap>(
+    alloc: Global,
+    torrent: &Torrent<'_>,
+    with_layers: bool,
+) -> Result<Vec<Tree<N>>, NoMemory>
+    ensures kept { IfOk result (λ ts. AreKept torrent.now ts.items) }
+    ensures fresh { IfOk result
+        (λ ts. IsFresh torrent.now with_layers (seen torrent.now set.empty ts.items)) }
+    ensures no_memory { OnErr result (0 < length torrent.now.trees) }
+{
+    torrent.recall_sound();
+    let infos = torrent.trees();
+    let piece_length = PieceLength::new(torrent.piece_length()).unwrap();
+    let mut trees = Vec::with_capacity(alloc, infos.len())?;
+    'infos: for info in infos {
+        trees.push_reserved(planted(alloc, info, piece_length, with_layers)?);
+    }
+    Ok(trees)
 }
 
 // Adds what lies from the piece layer up to a tree of which the root alone is known. The layer of

@@ -6,14 +6,15 @@ ghost use Rattle.session.specs.Rounds.{HasNoMoreGaps, RoundLeavesFewer};
 ghost use Rattle.chains.specs.Chain.{Chain};
 ghost use Rattle.session.specs.SafeStep.{IsSafeStep};
 
-use crate::session::Session;
+use crate::session::SessionOf;
+use crate::torrent_holder::HoldsTorrent;
 use crate::verdict::Verdict;
 use hashtree::NoMemory;
 use node_maps::NodeMap;
 use partial_tree::recall_hashes;
 use wire::Message;
 
-impl<'t, N: NodeMap> Session<'t, N> {
+impl<T: HoldsTorrent, N: NodeMap> SessionOf<T, N> {
     /// Takes one message, and returns what it makes of it. What it verifies is that block of every
     /// file with the tree's length and root, or two inputs with one digest are named. What is known
     /// stays known. True hashes that lead to a known node are stored, unless memory is refused or a

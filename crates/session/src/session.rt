@@ -13,26 +13,34 @@ ghost use Rattle.session.specs.Session.{HasClosedTrees, HasDistinctRoots};
 ghost use Rattle.session.specs.Fresh.{IsFresh};
 
 use crate::open_asks::OpenAsks;
-use crate::planting::planted;
+use crate::planting::planted_all;
+use crate::torrent_holder::HoldsTorrent;
 use hashtree::NoMemory;
 use node_maps::NodeMap;
 use opening::Torrent;
 use partial_tree::Tree;
-use pieces::PieceLength;
 use std::alloc::Global;
 use std::marker::Model;
 
 /// What is known and marked of the trees of a torrent. Each place that is known stands with its
-/// sibling and its parent, up to the tree's root, whatever messages came.
+/// sibling and its parent, up to the tree's root, whatever messages came. The torrent is borrowed
+/// ([`Session`]), or the session's own ([`OwnedSession`]): contracts see both alike.
 #[derive(Drop)]
-pub struct Session<'t, N: NodeMap> {
+pub struct SessionOf<T: HoldsTorrent, N: NodeMap> {
     pub(crate) alloc: Global,
-    pub(crate) torrent: &'t Torrent<'t>,
+    pub(crate) torrent: T,
     pub(crate) trees: Vec<Tree<N>>,
     pub(crate) asks: OpenAsks,
 }
 
-impl<'t, N: NodeMap> Model for Session<'t, N> {
+/// A session that borrows its torrent.
+pub type Session<'t, N> = SessionOf<&'t Torrent<'t>, N>;
+
+/// A session that owns its torrent, and borrows only the bytes that the torrent was read from. So
+/// it can be a field, lie in a collection, or stand behind a handle of C.
+pub type OwnedSession<N> = SessionOf<Torrent<'static>, N>;
+
+impl<T: HoldsTorrent, N: NodeMap> Model for SessionOf<T, N> {
     ghost use Rattle.session.specs.Layouts.{SessionSeen, seen, AreKept};
     ghost use Rattle.session.specs.Codes.{session_code};
 
@@ -40,9 +48,9 @@ impl<'t, N: NodeMap> Model for Session<'t, N> {
 
     ghost coded = { session_code };
 
-    ghost view = { λ s. seen s.torrent.now s.asks s.trees.items };
+    ghost view = { λ s. seen (T.described s.torrent) s.asks s.trees.items };
 
-    ghost invariant = { λ s. AreKept s.torrent.now s.trees.items };
+    ghost invariant = { λ s. AreKept (T.described s.torrent) s.trees.items };
 }
 
 impl<'t, N: NodeMap> Session<'t, N> {
@@ -58,19 +66,7 @@ impl<'t, N: NodeMap> Session<'t, N> {
         ensures fresh { IfOk result (IsFresh torrent.now with_layers) }
         ensures no_memory { OnErr result (0 < length torrent.now.trees) }
     {
-        torrent.recall_sound();
-        let infos = torrent.trees();
-        let piece_length = PieceLength::new(torrent.piece_length()).unwrap();
-        let mut trees = Vec::with_capacity(alloc, infos.len())?;
-        'infos: for info in infos {
-            trees.push_reserved(planted(alloc, info, piece_length, with_layers)?);
-        }
-        Ok(Session {
-            alloc,
-            torrent,
-            trees,
-            asks: OpenAsks::new(alloc),
-        })
+        SessionOf::start(alloc, torrent, with_layers)
     }
 
     /// The torrent.
@@ -78,6 +74,51 @@ impl<'t, N: NodeMap> Session<'t, N> {
         ensures { result.now ≡ self.now.torrent }
     {
         self.torrent
+    }
+}
+
+impl<N: NodeMap> OwnedSession<N> {
+    /// As [`Session::new`], of a torrent that the session owns from then on. If memory is refused,
+    /// the torrent is dropped.
+    pub fn new(
+        alloc: Global,
+        torrent: Torrent<'static>,
+        with_layers: bool,
+    ) -> Result<OwnedSession<N>, NoMemory>
+        ensures fresh { IfOk result (IsFresh torrent.entry with_layers) }
+        ensures no_memory { OnErr result (0 < length torrent.entry.trees) }
+    {
+        SessionOf::start(alloc, torrent, with_layers)
+    }
+
+    /// The torrent.
+    pub fn torrent(&self) -> &Torrent<'static>
+        ensures { result.now ≡ self.now.torrent }
+    {
+        &self.torrent
+    }
+}
+
+impl<T: HoldsTorrent, N: NodeMap> SessionOf<T, N> {
+    // As `new`, whatever holds the torrent.
+    fn start(alloc: Global, torrent: T, with_layers: bool) -> Result<SessionOf<T, N>, NoMemory>
+        ensures fresh { IfOk result (IsFresh (T.described torrent) with_layers) }
+        ensures no_memory { OnErr result (0 < length (T.described torrent).trees) }
+    {
+        let trees = planted_all(alloc, torrent.lend(), with_layers)?;
+        Ok(SessionOf {
+            alloc,
+            torrent,
+            trees,
+            asks: OpenAsks::new(alloc),
+        })
+    }
+
+    /// The torrent, for as long as the session is borrowed.
+    pub fn lent_torrent(&self) -> &Torrent<'_>
+        ensures { result.now ≡ self.now.torrent }
+    {
+        self.torrent.lend()
     }
 
     /// What holds of every session: each known place stands with its sibling and its parent, and
@@ -93,7 +134,7 @@ impl<'t, N: NodeMap> Session<'t, N> {
     pub fn recall_distinct_roots(&self)
         ensures { HasDistinctRoots self.now }
     {
-        self.torrent.recall_sound();
+        self.torrent.lend().recall_sound();
     }
 
     /// How many places of a tree are known. Condition: there are more than `tree` trees.

@@ -8,12 +8,13 @@ ghost use Rattle.session.specs.Pieces.{IsTakenPiece, IsPieceRefused, IsTakenFrom
 ghost use Rattle.session.specs.Rounds.{HasNoMoreGaps};
 ghost use Rattle.session.specs.SafeStep.{KeepsKnown};
 
-use crate::session::Session;
+use crate::session::SessionOf;
+use crate::torrent_holder::HoldsTorrent;
 use hashtree::BLOCK_LENGTH;
 use node_maps::NodeMap;
 use partial_tree::PieceRefusal;
 
-impl<'t, N: NodeMap> Session<'t, N> {
+impl<T: HoldsTorrent, N: NodeMap> SessionOf<T, N> {
     /// Takes the bytes of one whole piece; the file's last one may be shorter. Returns the file and
     /// its first block of the piece. Each leaf of the piece is known then, and marked, and each of
     /// its blocks is that block of every file with the tree's length and root, or two inputs with
@@ -44,8 +45,9 @@ impl<'t, N: NodeMap> Session<'t, N> {
         ensures refused { IfErr result (λ r. IsPieceRefused self.old index bytes.now r
             × (self.new ≡ self.old)) }
     {
-        self.torrent.recall_sound();
-        let Some((file, first)) = self.torrent.place(index, 0) else {
+        let torrent = self.torrent.lend();
+        torrent.recall_sound();
+        let Some((file, first)) = torrent.place(index, 0) else {
             return Err(PieceRefusal::BadPlace);
         };
         match self.take_from(file, first, bytes) {
@@ -62,11 +64,12 @@ impl<'t, N: NodeMap> Session<'t, N> {
         ensures refused { IfErr result (λ r. IsRefusedFrom self.old file first bytes.now r
             × (self.new ≡ self.old)) }
     {
-        self.torrent.recall_sound();
+        let torrent = self.torrent.lend();
+        torrent.recall_sound();
         if bytes.len() as u64 != self.size_of_piece(file, first) {
             return Err(PieceRefusal::BadSize);
         }
-        let tree = self.torrent.tree_of(file).unwrap();
+        let tree = torrent.tree_of(file).unwrap();
         let span = self.piece_span(tree);
         self.trees[tree].take_piece(first, span, bytes)
     }
@@ -77,9 +80,8 @@ impl<'t, N: NodeMap> Session<'t, N> {
         ensures { (f : FileEntry) → slice_get self.now.torrent.files file ≡ Some f
             → result ≡ piece_size self.now.torrent.piece_length f.length first }
     {
-        let length = self.torrent.files()[file].length;
-        self.torrent
-            .piece_length()
-            .min(length - BLOCK_LENGTH * first)
+        let torrent = self.torrent.lend();
+        let length = torrent.files()[file].length;
+        torrent.piece_length().min(length - BLOCK_LENGTH * first)
     }
 }
