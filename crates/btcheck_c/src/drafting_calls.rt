@@ -157,10 +157,10 @@ pub extern "C" fn btcheck_draft_file_push(alloc: Global, handle: &mut Handle, by
 /// Adds a file to a draft under this path, whose components a `/` stands between. The file then
 /// begins anew. Status 1: a handle holds something else, or the file is for drafts of another piece
 /// length or kind; then both are as before. Status 2: memory was refused; if it was refused to the
-/// file, that is lost. Status 108, 110, 112, 114 or 122: the draft refuses the path, the length, a
-/// root of two lengths, so many pieces, or a path beside those that it has. At each status but 0
-/// the draft is as before; at these the file has all its bytes, and can be added under another
-/// path.
+/// file, that is lost. Status 108, 112, 114 or 122: the draft refuses the path, a root of two
+/// lengths, more than 2^32 - 1 pieces in all, or a path beside those that it has. At each status
+/// but 0 the draft is as before; at these the file has all its bytes, and can be added under
+/// another path.
 #[unsafe(no_mangle)]
 pub extern "C" fn btcheck_draft_add(
     alloc: Global,
