@@ -2,7 +2,7 @@
 mod common;
 
 use btcheck::{create, Draft, DraftFile, Error, TorrentRefusal, BLOCK};
-use common::{example, file};
+use common::{example, file, opened};
 use std::io;
 
 const PIECE: u64 = 2 * BLOCK as u64;
@@ -15,11 +15,13 @@ fn refused(refusal: TorrentRefusal) -> Error {
 fn the_torrent_of_a_folder_is_the_one_of_the_program() {
     let folder = concat!(env!("CARGO_MANIFEST_DIR"), "/../../../examples/pair");
     let made = create(folder, "pair", PIECE, true).unwrap();
-    assert_eq!(made, example("pair.torrent"));
+    assert_eq!(&made[..], opened().torrent());
     let none = create(format!("{folder}/a"), "pair", PIECE, true).unwrap_err();
     assert_ne!(none.kind(), io::ErrorKind::Other);
     let wrong = create(folder, "pair", 1, true).unwrap_err();
-    let inner = wrong.get_ref().and_then(|error| error.downcast_ref());
+    let inner = wrong
+        .get_ref()
+        .and_then(|error| error.downcast_ref::<Error>());
     assert_eq!(inner, Some(&refused(TorrentRefusal::PieceLength)));
 }
 
