@@ -70,7 +70,7 @@ def test_numbers():
         "STORED", "BLOCKS", "ANSWERED", "REJECTED", "REJECT_NOTED", "KEEP_ALIVE", "SKIPPED")}}
     torrent = refusals("crates/filetree/src/refusal.rt", "pub fn number")
     # 22 and 23 are of torrents that are made
-    wanted.update({f"TORRENT_{name}": proved["TORRENT"] + number for name, number in torrent.items() if number < 22})
+    wanted.update({f"TORRENT_{name}": proved["TORRENT"] + number for name, number in torrent.items() if number < 23})
     for of, letter in (("HashRefusal", "H"), ("BlockRefusal", "P")):
         found = refusals("crates/partial_tree/src/refusal.rt", f"impl {of} {{")
         base = proved["HASHES" if letter == "H" else "BLOCK"]

@@ -5,10 +5,10 @@ import re
 
 from support import TOP
 
-CLASSES = {"Root", "Session", "Check", "Pieces", "Holdings"}
+CLASSES = {"Root", "Session", "Check", "Pieces", "Holdings", "Draft", "DraftFile"}
 # Calls that a name of the header stands behind, or that are a language's own business.
 OF_PYTHON = {"__init__", "close"}
-OF_CPP = {"see", "is"}
+OF_CPP = {"see", "is", "text"}
 
 
 def text_of(path):
@@ -43,10 +43,10 @@ def calls_of_cpp():
 
 def calls_of_python():
     found = set()
+    [public] = re.findall(r"^__all__ = \[(.*?)\]", text_of("bindings/python/btcheck/__init__.py"), re.M | re.S)
     for path in glob.glob(f"{TOP}/bindings/python/btcheck/*.py"):
         tree = ast.parse(text_of(path[len(TOP) + 1:]))
-        if path.endswith("__init__.py"):
-            found |= {it.name for it in tree.body if isinstance(it, ast.FunctionDef)}
+        found |= {it.name for it in tree.body if isinstance(it, ast.FunctionDef) and f'"{it.name}"' in public}
         for kind in (it for it in tree.body if isinstance(it, ast.ClassDef) and it.name in CLASSES):
             names = {it.name for it in kind.body if isinstance(it, ast.FunctionDef)}
             found |= {f"{kind.name}.{name}" for name in names | {"__init__", "close"} if name in OF_PYTHON or name[0] != "_"}
@@ -160,7 +160,7 @@ def test_the_pages_name_what_is_there():
     for page, names in (("README.md", python), ("docs/LIBRARY.md", python), ("bindings/python/README.md", python), ("bindings/go/README.md", go)):
         found = set(re.findall(r"(?<![/\w])btcheck\.([A-Z]\w*)", text_of(page)))
         assert found <= names, (page, found - names)
-    calls = {name.split(".")[-1] for name in calls_of_go() | calls_of_rust()} | {"Root", "Session", "Check", "Holdings"}
+    calls = {name.split(".")[-1] for name in calls_of_go() | calls_of_rust()} | {"Root", "Session", "Check", "Holdings", "Draft", "DraftFile"}
     for page in ("bindings/go/README.md", "bindings/rust/README.md"):
         rows = re.findall(r"^\| (`.*?`) \|", text_of(page), re.M)
         named = {word for row in rows for code in re.findall(r"`(.*?)`", row) for word in re.findall(r"\w+", code.partition("(")[0])}

@@ -4,7 +4,7 @@ import re
 from test_names import text_of
 
 # A parameter of the header without its name, and what it is in Python's and in Rust's declarations.
-HANDLES = ("root", "session", "check", "holdings")
+HANDLES = ("root", "session", "check", "holdings", "draft", "draft_file")
 STRUCTS = {"ask": "Asked", "refusal": "RefusalInfo", "cursor": "CursorInfo", "file": "FileInfo", "blocks": "BlocksInfo", "held": "HeldInfo", "run": "RunInfo", "verdict": "VerdictInfo"}
 TYPES = {
     "uint32_t": ("u32", "u32"), "uint64_t": ("u64", "u64"), "size_t": ("size", "usize"), "bool": ("c.c_bool", "bool"),

@@ -23,7 +23,8 @@
  * needs less than 64 KiB of stack.
  *
  * Costs. Nearly all that a call costs is hashing: of a block, of a piece, of the pairs of a hashes
- * message. Only btcheck_session_open takes longer where the torrent is larger. Pushes of a root or a
+ * message. Only btcheck_session_open takes longer where the torrent is larger, and so do btcheck_draft_finish
+ * and btcheck_draft_add where the draft is. Pushes of a root or a
  * check may be short: a handle keeps their bytes until eight blocks of them are hashed side by side,
  * in 128 KiB of room that the call named ..._new takes. Only a piece whose bit is due is not kept:
  * with btcheck_check_push_bits, pieces of less than 128 KiB are hashed faster in pushes of that much.
@@ -81,6 +82,7 @@ enum {
   BTCHECK_TORRENT_HYBRID_ALIGN = 119,
   BTCHECK_TORRENT_HYBRID_PIECES = 120,
   BTCHECK_TORRENT_NO_MEMORY = 121,
+  BTCHECK_TORRENT_PATH_CLASH = 122, /* of a draft alone */
 
   /* Refusals of a hashes message: 200 and n of Hn. */
   BTCHECK_H1_UNKNOWN_ROOT = 201,
@@ -138,6 +140,7 @@ static inline const char *btcheck_status_text(btcheck_status status) {
     case BTCHECK_TORRENT_HYBRID_ALIGN: return "A file is not at its place in the version 1 stream.";
     case BTCHECK_TORRENT_HYBRID_PIECES: return "The version 1 digests are not one for each piece of the stream.";
     case BTCHECK_TORRENT_NO_MEMORY: return "Memory for the torrent was refused.";
+    case BTCHECK_TORRENT_PATH_CLASH: return "The path is there already, or one of two paths is a prefix of the other.";
     case BTCHECK_H1_UNKNOWN_ROOT: return "No tree of the torrent has this root.";
     case BTCHECK_H2_BAD_RANGE: return "The hashes are for no range of the tree.";
     case BTCHECK_H3_BAD_COUNT: return "The number of hashes is wrong.";
@@ -164,8 +167,8 @@ uint32_t btcheck_version(void);
 #define BTCHECK_BLOCK 16384
 #define BTCHECK_HASH 32
 
-/* Handles: of the builder of a root, of a session, of the check of a file, and of what is held beside
-   a session. */
+/* Handles: of the builder of a root, of a session, of the check of a file, of what is held beside a
+   session, of the draft of a torrent, and of a file for one. */
 typedef struct btcheck_root {
   bool full;
   void *at;
@@ -182,6 +185,14 @@ typedef struct btcheck_holdings {
   bool full;
   void *at;
 } btcheck_holdings;
+typedef struct btcheck_draft {
+  bool full;
+  void *at;
+} btcheck_draft;
+typedef struct btcheck_draft_file {
+  bool full;
+  void *at;
+} btcheck_draft_file;
 
 #ifdef __cplusplus
 #define BTCHECK_INIT {}
@@ -546,6 +557,55 @@ btcheck_status btcheck_session_export(btcheck_session *session, btcheck_cursor *
    differs from a known one. 207: memory was refused. */
 btcheck_status btcheck_session_fill(btcheck_session *session, size_t tree, uint32_t layer,
                                     const uint8_t (*hashes)[32], size_t count, uint64_t *places);
+
+/* ---- making torrents (BEP 52, "metainfo files"; of hybrids BEP 3 and BEP 47 too)
+
+   A draft takes files in any order, and its torrent has them in the order of the file tree. The text
+   is the one that `btcheck create` writes for a folder with these files. A program that reads files by
+   itself, or has their bytes from elsewhere, pushes them here; different files may come in different
+   threads at once, each with its handle. */
+
+/* A draft without files, in an empty handle. The name is `len` bytes of UTF-8, and may be any text; the
+   piece length is a power of two from 16,384 to 2^30. A hybrid can be used by clients of version 1
+   too. BTCHECK_TORRENT_WRONG_TYPE: the name is not UTF-8. BTCHECK_TORRENT_PIECE_LENGTH: it is none.
+   BTCHECK_NO_MEMORY. */
+btcheck_status btcheck_draft_new(btcheck_draft *draft, const uint8_t *name, size_t len,
+                                 uint64_t piece_length, bool hybrid);
+
+/* A file for the draft, in an empty handle, of which nothing came yet. It can be added to each draft
+   of that piece length that is a hybrid as this one is, or is not, and may outlive it.
+   BTCHECK_NO_MEMORY. */
+btcheck_status btcheck_draft_file_new(btcheck_draft_file *file, btcheck_draft *draft);
+
+/* The file's next bytes, in parts of any size; an empty file needs no push. Parts of 128 KiB are hashed
+   faster than shorter ones, and for a hybrid those of eight pieces. BTCHECK_TOO_LONG: past 2^46, or a
+   draft refused the file, so that it has all its bytes; nothing was taken. BTCHECK_NO_MEMORY: the
+   file's digests have no room; each later call on it returns this too, so free it. */
+btcheck_status btcheck_draft_file_push(btcheck_draft_file *file, const uint8_t *bytes, size_t len);
+
+/* Adds the file to the draft under a path, as btcheck_session_path writes one: its components, joined
+   by `/`. Then the file begins anew, for the next one. BTCHECK_TORRENT_PATH: the path is not UTF-8, it
+   has more than 124 components, or one that is empty, `.` or `..`, or has a zero byte.
+   BTCHECK_TORRENT_LENGTH does not come, since pushes are refused first. BTCHECK_TORRENT_ROOT_REUSED: a
+   file of another length has its root. BTCHECK_TORRENT_TOO_MANY_PIECES: they would be more than
+   2^32 - 1 in all. BTCHECK_TORRENT_PATH_CLASH: the path is there, or one path is a prefix of the other.
+   At these the draft is as before, and the file takes no more bytes, but it can be added under another
+   path. BTCHECK_NO_MEMORY: the draft is as before; if the next call on the file returns this too, its
+   digests have no room. BTCHECK_WRONG_HANDLE: also if the file is for drafts of another piece length or
+   kind. */
+btcheck_status btcheck_draft_add(btcheck_draft *draft, btcheck_draft_file *file,
+                                 const uint8_t *path, size_t len);
+
+/* The torrent file of the draft at the front of the room, and how many bytes it has. More files can be
+   added afterwards. BTCHECK_TOO_SMALL: `length` is how many bytes the room must have, and nothing goes
+   there. BTCHECK_TORRENT_NO_FILES: no file was added. BTCHECK_TORRENT_TOO_LARGE: it would have more than
+   67,108,864 bytes, so that nobody opens it: take longer pieces. BTCHECK_NO_MEMORY. */
+btcheck_status btcheck_draft_finish(btcheck_draft *draft, uint8_t *room, size_t size,
+                                    uint64_t *length);
+
+void btcheck_draft_file_free(btcheck_draft_file *file);
+
+void btcheck_draft_free(btcheck_draft *draft);
 
 #ifdef __cplusplus
 }

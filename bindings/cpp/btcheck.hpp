@@ -9,6 +9,7 @@
 
 #include <algorithm>
 #include <array>
+#include <cstring>
 #include <exception>
 #include <memory>
 #include <optional>
@@ -69,12 +70,25 @@ inline bool is(btcheck_status status) {
   return true;
 }
 
+// What a call writes into a room, which is made larger as the call says.
+template <class Call> inline std::string text(Call call) {
+  std::string room(256, '\0');
+  for (;;) {
+    uint64_t length;
+    btcheck_status status = call(reinterpret_cast<uint8_t *>(room.data()), room.size(), &length);
+    if (status != BTCHECK_TOO_SMALL) see(status);
+    room.resize(size_t(length));
+    if (status == BTCHECK_OK) return room;
+  }
+}
+
 // Bytes that a call reads: those of a string, a vector, an array or the like. Its pointer is never null.
 class Bytes {
 public:
   Bytes(const void *data, size_t size) : data_(static_cast<const uint8_t *>(size ? data : "")), size_(size) {}
   template <class Content, class = std::enable_if_t<sizeof(*std::declval<const Content &>().data()) == 1>>
   Bytes(const Content &content) : Bytes(content.data(), content.size()) {}
+  Bytes(const char *text) : Bytes(text, std::strlen(text)) {}
   const uint8_t *data() const { return data_; }
   size_t size() const { return size_; }
 
@@ -340,18 +354,6 @@ private:
     return found;
   }
 
-  // What a call writes into a room, which is made larger as the call says.
-  template <class Call> static std::string text(Call call) {
-    std::string room(256, '\0');
-    for (;;) {
-      uint64_t length;
-      btcheck_status status = call(reinterpret_cast<uint8_t *>(room.data()), room.size(), &length);
-      if (status != BTCHECK_TOO_SMALL) see(status);
-      room.resize(size_t(length));
-      if (status == BTCHECK_OK) return room;
-    }
-  }
-
   static const uint8_t (*rows(const std::vector<Hash> &hashes))[32] {
     static const Hash none{};
     return reinterpret_cast<const uint8_t(*)[32]>(hashes.empty() ? none.data() : hashes[0].data());
@@ -413,5 +415,46 @@ private:
   std::shared_ptr<const std::string> torrent_;
   Owner<btcheck_check, btcheck_check_free> handle_;
 };
+
+class Draft;
+
+// A file for a draft, whose bytes come in parts of any size. Different files may come in different threads.
+class DraftFile {
+public:
+  explicit DraftFile(Draft &draft);
+
+  void push(Bytes part) { see(btcheck_draft_file_push(&handle_, part.data(), part.size())); }
+
+private:
+  friend class Draft;
+  Owner<btcheck_draft_file, btcheck_draft_file_free> handle_;
+};
+
+// The draft of a torrent, to which files are added in any order.
+class Draft {
+public:
+  Draft(Bytes name, uint64_t piece_length, bool hybrid = false) {
+    see(btcheck_draft_new(&handle_, name.data(), name.size(), piece_length, hybrid));
+  }
+
+  // Adds the file under this path, its components joined by `/`. The file then begins anew. If the path is refused, the
+  // file can be added under another one.
+  void add(DraftFile &file, Bytes path) {
+    see(btcheck_draft_add(&handle_, &file.handle_, path.data(), path.size()));
+  }
+
+  // The torrent file: the one that `btcheck create` writes for a folder with these files.
+  std::string finish() {
+    return text([&](uint8_t *room, size_t size, uint64_t *length) {
+      return btcheck_draft_finish(&handle_, room, size, length);
+    });
+  }
+
+private:
+  friend class DraftFile;
+  Owner<btcheck_draft, btcheck_draft_free> handle_;
+};
+
+inline DraftFile::DraftFile(Draft &draft) { see(btcheck_draft_file_new(&handle_, &draft.handle_)); }
 
 } // namespace btcheck

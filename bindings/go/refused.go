@@ -48,6 +48,7 @@ const (
 	TorrentHybridAlign   Refused = C.BTCHECK_TORRENT_HYBRID_ALIGN
 	TorrentHybridPieces  Refused = C.BTCHECK_TORRENT_HYBRID_PIECES
 	TorrentNoMemory      Refused = C.BTCHECK_TORRENT_NO_MEMORY
+	TorrentPathClash     Refused = C.BTCHECK_TORRENT_PATH_CLASH
 	H1UnknownRoot        Refused = C.BTCHECK_H1_UNKNOWN_ROOT
 	H2BadRange           Refused = C.BTCHECK_H2_BAD_RANGE
 	H3BadCount           Refused = C.BTCHECK_H3_BAD_COUNT
@@ -95,6 +96,7 @@ var sentences = map[Refused]string{
 	TorrentHybridAlign:   "A file is not at its place in the version 1 stream.",
 	TorrentHybridPieces:  "The version 1 digests are not one for each piece of the stream.",
 	TorrentNoMemory:      "Memory for the torrent was refused.",
+	TorrentPathClash:     "The path is there already, or one of two paths is a prefix of the other.",
 	H1UnknownRoot:        "No tree of the torrent has this root.",
 	H2BadRange:           "The hashes are for no range of the tree.",
 	H3BadCount:           "The number of hashes is wrong.",

@@ -107,6 +107,24 @@ void keeps(btcheck::Session &session, const std::string &torrent) {
   MUST(refused([&] { third.fill(0, 0, {}); }) == BTCHECK_H3_BAD_COUNT && third.fill(0, 0, leaves) == 2);
 }
 
+// The torrent of the example's two files, which come in the other order and in parts; a name that clashes, and another kind.
+void makes(const std::string &torrent, const std::string &content) {
+  btcheck::Draft draft("pair", 2 * BTCHECK_BLOCK, true), other(std::string("pair"), 2 * BTCHECK_BLOCK);
+  MUST(refused([] { btcheck::Draft("pair", 1); }) == BTCHECK_TORRENT_PIECE_LENGTH);
+  MUST(refused([&] { draft.finish(); }) == BTCHECK_TORRENT_NO_FILES);
+  btcheck::DraftFile first(draft), file(std::move(first));
+  MUST(refused([&] { first.push(content); }) == BTCHECK_WRONG_HANDLE);
+  file.push(std::string("abc"));
+  MUST(refused([&] { other.add(file, "c"); }) == BTCHECK_WRONG_HANDLE);
+  MUST(refused([&] { draft.add(file, ".."); }) == BTCHECK_TORRENT_PATH);
+  draft.add(file, "c");
+  file.push(content.substr(0, 100));
+  file.push(content.substr(100));
+  MUST(refused([&] { draft.add(file, "c/a"); }) == BTCHECK_TORRENT_PATH_CLASH);
+  draft.add(file, std::string("a"));
+  MUST(draft.finish() == torrent && draft.finish() == torrent);
+}
+
 // A refusal has its fault or its key, and so has its sentence.
 void explains() {
   try {
@@ -137,5 +155,6 @@ int main(int, char **words) {
   holds(session, content);
   asks(other, content);
   keeps(other, torrent);
+  makes(torrent, content);
   explains();
 }

@@ -162,6 +162,51 @@ static void holds(void) {
   btcheck_session_free(&session);
 }
 
+/* A draft of the content under two paths, as it comes in parts; and each refusal of a draft that a caller can meet. */
+static void drafts(bool hybrid) {
+  static uint8_t room[1 << 16], again[1 << 16];
+  btcheck_draft draft = BTCHECK_INIT, other = BTCHECK_INIT;
+  btcheck_draft_file file = BTCHECK_INIT;
+  btcheck_session made = BTCHECK_INIT;
+  uint64_t length, files, trees;
+  WANT(btcheck_draft_new(&draft, (const uint8_t *)"\377", 1, BTCHECK_BLOCK, hybrid), BTCHECK_TORRENT_WRONG_TYPE);
+  WANT(btcheck_draft_new(&draft, (const uint8_t *)"x", 1, 3 * BTCHECK_BLOCK, hybrid), BTCHECK_TORRENT_PIECE_LENGTH);
+  WANT(btcheck_draft_new(&draft, (const uint8_t *)"x", 1, BTCHECK_BLOCK, hybrid), BTCHECK_OK);
+  WANT(btcheck_draft_new(&other, (const uint8_t *)"x", 1, BTCHECK_BLOCK, !hybrid), BTCHECK_OK);
+  WANT(btcheck_draft_finish(&draft, room, sizeof room, &length), BTCHECK_TORRENT_NO_FILES);
+  WANT(btcheck_draft_file_new(&file, &draft), BTCHECK_OK);
+  WANT(btcheck_draft_add(&draft, &file, (const uint8_t *)"none", 4), BTCHECK_OK);
+  WANT(btcheck_draft_file_push(&file, content, size / 2), BTCHECK_OK);
+  WANT(btcheck_draft_file_push(&file, content + size / 2, size - size / 2), BTCHECK_OK);
+  WANT(btcheck_draft_add(&other, &file, (const uint8_t *)"all", 3), BTCHECK_WRONG_HANDLE);
+  WANT(btcheck_draft_add(&draft, &file, (const uint8_t *)"\377", 1), BTCHECK_TORRENT_PATH);
+  WANT(btcheck_draft_file_push(&file, content, 0), BTCHECK_OK);
+  WANT(btcheck_draft_add(&draft, &file, (const uint8_t *)"a/../b", 6), BTCHECK_TORRENT_PATH);
+  WANT(btcheck_draft_file_push(&file, content, 1), BTCHECK_TOO_LONG);
+  WANT(btcheck_draft_add(&draft, &file, (const uint8_t *)"none/x", 6), BTCHECK_TORRENT_PATH_CLASH);
+  WANT(btcheck_draft_add(&draft, &file, (const uint8_t *)"all", 3), BTCHECK_OK);
+  WANT(btcheck_draft_finish(&draft, room, 0, &length), BTCHECK_TOO_SMALL);
+  WANT(btcheck_draft_finish(&draft, room, length - 1, &length), BTCHECK_TOO_SMALL);
+  CHECK(length < sizeof room && room[0] == 0);
+  WANT(btcheck_draft_finish(&draft, room, length, &length), BTCHECK_OK);
+  WANT(btcheck_session_open(&made, room, length, true), BTCHECK_OK);
+  WANT(btcheck_session_files(&made, &files, &trees), BTCHECK_OK);
+  CHECK(files == 2 && trees == 1);
+  btcheck_session_free(&made);
+  /* The same text is written again, and one more file makes another. */
+  memset(again, 1, sizeof again);
+  WANT(btcheck_draft_finish(&draft, again, sizeof again, &files), BTCHECK_OK);
+  CHECK(files == length && !memcmp(room, again, length) && again[length] == 1);
+  WANT(btcheck_draft_file_push(&file, content, size), BTCHECK_OK);
+  WANT(btcheck_draft_add(&draft, &file, (const uint8_t *)"twin", 4), BTCHECK_OK);
+  WANT(btcheck_draft_finish(&draft, room, sizeof room, &length), BTCHECK_OK);
+  CHECK(length > files);
+  memset(room, 0, sizeof room);
+  btcheck_draft_free(&draft);
+  btcheck_draft_free(&other);
+  btcheck_draft_file_free(&file);
+}
+
 /* Every call, on what opens; what does not is refused on the same stack. */
 static void *calls(void *is_first) {
   static uint8_t room[64][32], small[20];
@@ -193,7 +238,7 @@ static void *calls(void *is_first) {
   if (btcheck_session_want(&session, 0, 0, &ask) == BTCHECK_OK) WANT(btcheck_session_can_answer(&session, &ask), BTCHECK_NOTHING);
   WANT(btcheck_session_frame(&session, (const uint8_t *)"\4\0\0", 3, &verdict), BTCHECK_OK);
   WANT(btcheck_session_frame(&session, (const uint8_t *)"\7\0\0", 3, &verdict), BTCHECK_BAD_SIZE);
-  if (is_first) checks(&session), any_parts(&session, file.root), messages(&session, &file), holds();
+  if (is_first) checks(&session), any_parts(&session, file.root), messages(&session, &file), holds(), drafts(false), drafts(true);
   btcheck_session_free(&session);
   return is_first;
 }

@@ -73,6 +73,15 @@ static void want_of_root(btcheck_root *root, btcheck_status status) {
   CHECK(one == 7 && hash[0][0] == 0);
 }
 
+/* Every call on a draft but new, and on a file for one. */
+static void want_of_draft(btcheck_draft *draft, btcheck_draft_file *made, btcheck_status of_draft, btcheck_status of_file, btcheck_status both) {
+  one = 7;
+  WANT(btcheck_draft_finish(draft, hash[0], 32, &one), of_draft);
+  WANT(btcheck_draft_file_push(made, hash[0], 0), of_file);
+  WANT(btcheck_draft_add(draft, made, (const uint8_t *)"a", 1), both);
+  CHECK(one == 7 && hash[0][0] == 0);
+}
+
 int main(int argc, char **argv) {
   size_t len = argc == 2 ? whole_file(argv[1], bytes, sizeof bytes) : 0;
   if (!len) return 2;
@@ -82,6 +91,9 @@ int main(int argc, char **argv) {
   btcheck_check check = BTCHECK_INIT;
   btcheck_session session = BTCHECK_INIT, second = BTCHECK_INIT;
   btcheck_holdings holdings = BTCHECK_INIT;
+  btcheck_draft draft = BTCHECK_INIT;
+  btcheck_draft_file made = BTCHECK_INIT;
+  const btcheck_status wrong = BTCHECK_WRONG_HANDLE;
   CHECK(btcheck_version() == BTCHECK_VERSION);
   want_of_root(&root, BTCHECK_WRONG_HANDLE);
   want_of_session(&session, BTCHECK_WRONG_HANDLE);
@@ -144,6 +156,28 @@ int main(int argc, char **argv) {
     WANT(btcheck_session_settle(&session, &holdings, &run), BTCHECK_NO_SUCH);
     btcheck_holdings_free(&holdings);
     btcheck_holdings_free(&holdings);
+    want_of_draft(&draft, &made, wrong, wrong, wrong);
+    WANT(btcheck_draft_file_new(&made, &draft), BTCHECK_WRONG_HANDLE);
+    WANT(btcheck_draft_new(&draft, hash[0], 0, 16384, false), BTCHECK_OK);
+    WANT(btcheck_draft_new(&draft, hash[0], 0, 16384, false), BTCHECK_WRONG_HANDLE);
+    want_of_draft(&draft, &made, BTCHECK_TORRENT_NO_FILES, wrong, wrong);
+    WANT(btcheck_draft_file_new(&made, (btcheck_draft *)(void *)&root), BTCHECK_WRONG_HANDLE);
+    WANT(btcheck_draft_file_new(&made, &draft), BTCHECK_OK);
+    WANT(btcheck_draft_file_new(&made, &draft), BTCHECK_WRONG_HANDLE);
+    want_of_draft((btcheck_draft *)(void *)&root, &made, wrong, BTCHECK_OK, wrong);
+    want_of_draft((btcheck_draft *)(void *)&made, (btcheck_draft_file *)(void *)&draft, wrong, wrong, wrong);
+    want_of_draft(&draft, (btcheck_draft_file *)(void *)&session, BTCHECK_TORRENT_NO_FILES, wrong, wrong);
+    want_of_root((btcheck_root *)(void *)&draft, BTCHECK_WRONG_HANDLE);
+    want_of_root((btcheck_root *)(void *)&made, BTCHECK_WRONG_HANDLE);
+    want_of_session((btcheck_session *)(void *)&draft, BTCHECK_WRONG_HANDLE);
+    want_of_session((btcheck_session *)(void *)&made, BTCHECK_WRONG_HANDLE);
+    want_of_check((btcheck_check *)(void *)&draft, BTCHECK_WRONG_HANDLE);
+    want_of_holdings(&session, (btcheck_holdings *)(void *)&made, BTCHECK_WRONG_HANDLE, BTCHECK_WRONG_HANDLE);
+    btcheck_draft_free(&draft);
+    btcheck_draft_free(&draft);
+    want_of_draft(&draft, &made, wrong, BTCHECK_OK, wrong);
+    btcheck_draft_file_free(&made);
+    btcheck_draft_file_free(&made);
     /* A handle of the other kind, as a cast gives it. */
     want_of_session((btcheck_session *)(void *)&root, BTCHECK_WRONG_HANDLE);
     want_of_root((btcheck_root *)(void *)&session, BTCHECK_WRONG_HANDLE);

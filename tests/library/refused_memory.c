@@ -66,6 +66,54 @@ static void lay_out(void) {
   memcpy(body + 1 + 32 + 16, hashes[1], 8 * 32);
 }
 
+/* A draft of a hybrid takes nothing more or all of a call. A file whose digests have no room is lost, and comes again. */
+static void drafts(void) {
+  static uint8_t text[1 << 12], other[1 << 12];
+  btcheck_draft draft = BTCHECK_INIT;
+  btcheck_draft_file file = BTCHECK_INIT;
+  btcheck_status status;
+  uint64_t length = 7, before = 7;
+  unsigned made = 0, pushes = 0, adds = 0, texts = 0, lost = 0;
+  for (long blocks = 0; WITH(blocks, btcheck_draft_new(&draft, (const uint8_t *)"name", 4, BTCHECK_BLOCK, true)) != BTCHECK_OK; blocks++, made++)
+    WANT(status, BTCHECK_NO_MEMORY);
+  CHECK(made > 1);
+  WANT(WITH(0, btcheck_draft_file_new(&file, &draft)), BTCHECK_NO_MEMORY);
+  WANT(btcheck_draft_file_new(&file, &draft), BTCHECK_OK);
+  WANT(btcheck_draft_add(&draft, &file, (const uint8_t *)"first", 5), BTCHECK_OK);
+  WANT(btcheck_draft_finish(&draft, text, sizeof text, &before), BTCHECK_OK);
+  for (long blocks = 0;; blocks++) {
+    status = WITH(blocks, btcheck_draft_file_push(&file, torrent, 3 * BTCHECK_BLOCK + 7));
+    if (status == BTCHECK_OK) break;
+    WANT(status, BTCHECK_NO_MEMORY);
+    WANT(btcheck_draft_file_push(&file, torrent, 0), BTCHECK_NO_MEMORY);
+    WANT(btcheck_draft_add(&draft, &file, (const uint8_t *)"second", 6), BTCHECK_NO_MEMORY);
+    btcheck_draft_file_free(&file);
+    WANT(btcheck_draft_file_new(&file, &draft), BTCHECK_OK);
+    pushes++;
+  }
+  CHECK(pushes > 1);
+  for (long blocks = 0; WITH(blocks, btcheck_draft_add(&draft, &file, (const uint8_t *)"a/b", 3)) != BTCHECK_OK; blocks++, adds++) {
+    WANT(status, BTCHECK_NO_MEMORY);
+    WANT(btcheck_draft_finish(&draft, other, sizeof other, &length), BTCHECK_OK);
+    CHECK(length == before && !memcmp(text, other, length));
+    if (btcheck_draft_file_push(&file, torrent, 0) == BTCHECK_OK) continue;
+    btcheck_draft_file_free(&file);
+    WANT(btcheck_draft_file_new(&file, &draft), BTCHECK_OK);
+    WANT(btcheck_draft_file_push(&file, torrent, 3 * BTCHECK_BLOCK + 7), BTCHECK_OK);
+    lost++;
+  }
+  CHECK(adds > 2 && lost < adds);
+  length = 7;
+  for (long blocks = 0; WITH(blocks, btcheck_draft_finish(&draft, text, sizeof text, &length)) != BTCHECK_OK; blocks++, texts++) {
+    WANT(status, BTCHECK_NO_MEMORY);
+    CHECK(length == 7);
+  }
+  CHECK(texts > 0 && length > before);
+  WANT(WITH(0, btcheck_draft_file_push(&file, torrent, 1)), BTCHECK_OK);
+  btcheck_draft_file_free(&file);
+  btcheck_draft_free(&draft);
+}
+
 int main(int argc, char **argv) {
   len = argc == 3 ? whole_file(argv[1], torrent, sizeof torrent) : 0;
   if (!len || whole_file(argv[2], hashes[0], sizeof hashes) != sizeof hashes) return 2;
@@ -149,6 +197,8 @@ int main(int argc, char **argv) {
   reopen();
   WANT_EACH(btcheck_session_fill(&session, 0, 0, given, (first.length + BTCHECK_BLOCK - 1) / BTCHECK_BLOCK, &count), BTCHECK_H7_NO_MEMORY);
   CHECK(count == 14);
+
+  drafts();
 
   /* What is held stays as it is too. A file's blocks are the bytes 0 of each here, so they are false. */
   static uint8_t zeros[2 * BTCHECK_BLOCK];

@@ -13,7 +13,9 @@ typedef struct set {
   btcheck_session session;
   btcheck_check check;
   btcheck_holdings holdings;
-  int step;
+  btcheck_draft draft;
+  btcheck_draft_file file;
+  int step, added;
 } set;
 
 static uint8_t torrent[1 << 20], content[1 << 20];
@@ -26,11 +28,14 @@ static void fill(set *s) {
   WANT(btcheck_session_open(&s->session, torrent, torrent_len, false), BTCHECK_OK);
   WANT(btcheck_check_new(&s->check, &s->session, 0), BTCHECK_OK);
   WANT(btcheck_holdings_new(&s->holdings, &s->session, 100), BTCHECK_OK);
+  WANT(btcheck_draft_new(&s->draft, (const uint8_t *)"name", 4, 2 * BTCHECK_BLOCK, true), BTCHECK_OK);
+  WANT(btcheck_draft_file_new(&s->file, &s->draft), BTCHECK_OK);
 }
 
 static void push(set *s, size_t from, size_t to) {
   WANT(btcheck_root_push(&s->root, content + from, to - from), BTCHECK_OK);
   WANT(btcheck_check_push(&s->check, content + from, to - from), BTCHECK_OK);
+  WANT(btcheck_draft_file_push(&s->file, content + from, to - from), BTCHECK_OK);
 }
 
 static void note(set *s) {
@@ -56,9 +61,16 @@ static void finish(set *s) {
   WANT(btcheck_check_finish(&s->check, &piece), BTCHECK_OK);
   WANT(btcheck_session_file(&s->session, 0, &file), BTCHECK_OK);
   CHECK(length == file.length && !memcmp(hash, file.root, 32));
+  uint8_t path[8], room[4096];
+  snprintf((char *)path, sizeof path, "%07d", s->added++);
+  WANT(btcheck_draft_add(&s->draft, &s->file, path, 7), BTCHECK_OK);
+  if (s->added == 1) WANT(btcheck_draft_finish(&s->draft, room, sizeof room, &length), BTCHECK_OK);
 }
 
 static void empty(set *s) {
+  btcheck_draft_file_free(&s->file);
+  btcheck_draft_free(&s->draft);
+  s->added = 0;
   btcheck_holdings_free(&s->holdings);
   btcheck_check_free(&s->check);
   btcheck_session_free(&s->session);

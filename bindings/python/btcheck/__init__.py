@@ -9,14 +9,15 @@ system, or where the variable LIBBTCHECK says. One object may be used by one thr
 """
 from . import _library
 from ._content import Check, Pieces, Root
+from ._drafting import Draft, DraftFile, create
 from ._refusals import (
     Refused, TorrentRefused, HashesRefused, BlockRefused, WrongHandle, NoMemory, TooLong, NoRoot, NoSuch, Nothing,
     TooSmall, BadSize, TooShort, BadPiece, Held, TorrentTooLarge, TorrentNotBencode, TorrentMissing, TorrentWrongType,
     TorrentVersion, TorrentPieceLength, TorrentShape, TorrentPath, TorrentSymlink, TorrentLength, TorrentRoot,
     TorrentRootReused, TorrentNoFiles, TorrentTooManyPieces, TorrentLayerMissing, TorrentLayerSize,
     TorrentLayerMismatch, TorrentHybridFiles, TorrentHybridAlign, TorrentHybridPieces, TorrentNoMemory,
-    H1UnknownRoot, H2BadRange, H3BadCount, H4BadPad, H5Unanchored, H6Mismatch, H7NoMemory, H8Unasked, P1BadPlace,
-    P2BadSize, P3Unproved, P4BadBlock,
+    TorrentPathClash, H1UnknownRoot, H2BadRange, H3BadCount, H4BadPad, H5Unanchored, H6Mismatch, H7NoMemory, H8Unasked,
+    P1BadPlace, P2BadSize, P3Unproved, P4BadBlock,
 )
 from ._session import Holdings, Session
 from ._values import (
@@ -26,16 +27,16 @@ from ._values import (
 __version__ = "0.2.0"
 
 __all__ = [
-    "BLOCK", "HASH", "version", "Root", "Session", "Holdings", "Check", "Pieces", "Ask", "File", "Verdict",
-    "Stored", "Blocks", "HeldBlocks", "Run", "Settled",
+    "BLOCK", "HASH", "version", "create", "Root", "Session", "Holdings", "Check", "Pieces", "Draft", "DraftFile", "Ask",
+    "File", "Verdict", "Stored", "Blocks", "HeldBlocks", "Run", "Settled",
     "Answered", "Rejected", "RejectNoted", "KeepAlive", "Skipped", "Refused", "TorrentRefused", "HashesRefused",
     "BlockRefused", "WrongHandle", "NoMemory", "TooLong", "NoRoot", "NoSuch", "Nothing", "TooSmall", "BadSize",
     "TooShort", "BadPiece", "Held", "TorrentTooLarge", "TorrentNotBencode", "TorrentMissing", "TorrentWrongType",
     "TorrentVersion", "TorrentPieceLength", "TorrentShape", "TorrentPath", "TorrentSymlink", "TorrentLength",
     "TorrentRoot", "TorrentRootReused", "TorrentNoFiles", "TorrentTooManyPieces", "TorrentLayerMissing",
     "TorrentLayerSize", "TorrentLayerMismatch", "TorrentHybridFiles", "TorrentHybridAlign", "TorrentHybridPieces",
-    "TorrentNoMemory", "H1UnknownRoot", "H2BadRange", "H3BadCount", "H4BadPad", "H5Unanchored", "H6Mismatch",
-    "H7NoMemory", "H8Unasked", "P1BadPlace", "P2BadSize", "P3Unproved", "P4BadBlock",
+    "TorrentNoMemory", "TorrentPathClash", "H1UnknownRoot", "H2BadRange", "H3BadCount", "H4BadPad", "H5Unanchored",
+    "H6Mismatch", "H7NoMemory", "H8Unasked", "P1BadPlace", "P2BadSize", "P3Unproved", "P4BadBlock",
 ]
 
 BLOCK = 16384

@@ -7,7 +7,7 @@ from collections.abc import Callable, Iterable, Sequence
 from operator import index
 from typing import Any, TypeVar, Union
 
-from ._refusals import Nothing, refusal
+from ._refusals import Nothing, TooSmall, refusal
 from ._values import (Answered, Ask, Blocks, HeldBlocks, KeepAlive, Rejected, RejectNoted, Run, Skipped, Stored,
                       Verdict)
 
@@ -136,6 +136,13 @@ session_answer = _call("session_answer", _to_ask, c.c_char_p, size, _to_u64)
 session_can_answer = _call("session_can_answer", _to_ask)
 session_export = _call("session_export", c.POINTER(CursorInfo), c.c_char_p, size, _to_u64)
 session_fill = _call("session_fill", size, u32, c.c_char_p, size, _to_u64)
+draft_new = _call("draft_new", c.c_char_p, size, u64, c.c_bool)
+draft_file_new = _call("draft_file_new", _handle)
+draft_file_push = _call("draft_file_push", c.c_char_p, size)
+draft_add = _call("draft_add", _handle, c.c_char_p, size)
+draft_finish = _call("draft_finish", c.c_char_p, size, _to_u64)
+draft_file_free = _call("draft_file_free", result=None)
+draft_free = _call("draft_free", result=None)
 
 
 def content_of(given: Content) -> bytes:
@@ -183,6 +190,19 @@ def holds(check: Callable[..., None], *arguments: Any) -> bool:
     except Nothing:
         return False
     return True
+
+
+def room_of(call: Callable[..., None], *arguments: Any) -> bytes:
+    """What a call writes into a room, which is made larger as the call says."""
+    count = 256
+    while True:
+        room, length = c.create_string_buffer(count), u64()
+        try:
+            call(*arguments, room, count, length)
+        except TooSmall:
+            count = length.value
+            continue
+        return room.raw[:length.value]
 
 
 _Owner = TypeVar("_Owner", bound="Owner")

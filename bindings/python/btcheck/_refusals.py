@@ -248,6 +248,12 @@ class TorrentNoMemory(TorrentRefused, MemoryError):
     status = 121
 
 
+class TorrentPathClash(TorrentRefused):
+    """The path is there already, or one of two paths is a prefix of the other."""
+
+    status = 122
+
+
 class H1UnknownRoot(HashesRefused):
     """No tree of the torrent has this root."""
 
@@ -325,8 +331,8 @@ _BY_STATUS: dict[int, type[Refused]] = {kind.status: kind for kind in (
     TorrentTooLarge, TorrentNotBencode, TorrentMissing, TorrentWrongType, TorrentVersion, TorrentPieceLength,
     TorrentShape, TorrentPath, TorrentSymlink, TorrentLength, TorrentRoot, TorrentRootReused, TorrentNoFiles,
     TorrentTooManyPieces, TorrentLayerMissing, TorrentLayerSize, TorrentLayerMismatch, TorrentHybridFiles,
-    TorrentHybridAlign, TorrentHybridPieces, TorrentNoMemory, H1UnknownRoot, H2BadRange, H3BadCount, H4BadPad,
-    H5Unanchored, H6Mismatch, H7NoMemory, H8Unasked, P1BadPlace, P2BadSize, P3Unproved, P4BadBlock,
+    TorrentHybridAlign, TorrentHybridPieces, TorrentNoMemory, TorrentPathClash, H1UnknownRoot, H2BadRange, H3BadCount,
+    H4BadPad, H5Unanchored, H6Mismatch, H7NoMemory, H8Unasked, P1BadPlace, P2BadSize, P3Unproved, P4BadBlock,
 )}
 
 

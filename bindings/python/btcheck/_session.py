@@ -6,7 +6,7 @@ from collections.abc import Callable, Iterable, Iterator
 from typing import Any
 
 from . import _library as lib
-from ._library import AskLike, Content, Owner, content_of, digests, fields, holds, laid_out, number, u64
+from ._library import AskLike, Content, Owner, content_of, digests, fields, holds, laid_out, number, room_of, u64
 from ._refusals import BadPiece, Nothing, TooSmall, TorrentRefused, explain
 from ._values import Ask, Blocks, File, HeldBlocks, Run, Settled, Verdict
 
@@ -231,13 +231,5 @@ def _held_by(holdings: Holdings) -> lib.Handle:
 
 
 def _text(call: Callable[..., None], *arguments: Any) -> str:
-    """What a call writes into a room, which is made larger as the call says."""
-    size = 256
-    while True:
-        room, length = c.create_string_buffer(size), u64()
-        try:
-            call(*arguments, room, size, length)
-        except TooSmall:
-            size = length.value
-            continue
-        return room.raw[:length.value].decode()
+    """The text that a call writes into a room."""
+    return room_of(call, *arguments).decode()

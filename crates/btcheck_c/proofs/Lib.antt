@@ -1,5 +1,6 @@
 -- What proofs share.
 pub mod TwoFields
+pub mod Drafts
 pub mod Throughs
 pub mod HeldBlocks
 pub mod Placing

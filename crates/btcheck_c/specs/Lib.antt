@@ -13,4 +13,5 @@ pub mod FileChecks
 pub mod CheckCalls
 pub mod Held
 pub mod Keeping
+pub mod Drafting
 pub mod Version

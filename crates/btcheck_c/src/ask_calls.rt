@@ -61,7 +61,6 @@ fn want(thing: &mut Thing, tree: usize, block: u64, asked: &mut Asked) -> u32
     ensures unwritten { result ≢ 0 → asked.new ≡ asked.old }
 {
     match &mut thing.kind {
-        Kind::Root(_) | Kind::Check(_) | Kind::Holdings(_) => WRONG_HANDLE,
         Kind::Session(session) => {
             if session.has_block(tree, block) {
                 write_want(session.want(tree, block), asked)
@@ -69,6 +68,7 @@ fn want(thing: &mut Thing, tree: usize, block: u64, asked: &mut Asked) -> u32
                 NO_SUCH
             }
         }
+        _ => WRONG_HANDLE,
     }
 }
 
@@ -76,8 +76,8 @@ fn note(thing: &mut Thing, ask: &Ask) -> u32
     ensures { Notes ask.now thing.old.kind result thing.new.kind }
 {
     match &mut thing.kind {
-        Kind::Root(_) | Kind::Check(_) | Kind::Holdings(_) => WRONG_HANDLE,
         Kind::Session(session) => status_of_note(session.note(ask)),
+        _ => WRONG_HANDLE,
     }
 }
 
@@ -87,8 +87,8 @@ fn take_answer(thing: &mut Thing, ask: &Ask, hashes: &[Hash], places: &mut u64) 
     ensures unwritten { result ≢ 0 → places.new ≡ places.old }
 {
     match &mut thing.kind {
-        Kind::Root(_) | Kind::Check(_) | Kind::Holdings(_) => WRONG_HANDLE,
         Kind::Session(session) => status_of_hashes(session.take_answer(ask, hashes), places),
+        _ => WRONG_HANDLE,
     }
 }
 
@@ -99,8 +99,8 @@ fn answer(thing: &mut Thing, ask: &Ask, room: &mut [Hash], count: &mut u64) -> u
         × (result ≢ 7 → count.new ≡ count.old) }
 {
     match &mut thing.kind {
-        Kind::Root(_) | Kind::Check(_) | Kind::Holdings(_) => WRONG_HANDLE,
         Kind::Session(session) => write_answer(&session.answer(ask), room, count),
+        _ => WRONG_HANDLE,
     }
 }
 
@@ -108,8 +108,8 @@ fn can_answer(thing: &mut Thing, ask: &Ask) -> u32
     ensures { AnswersIfAnswered ask.now thing.old.kind result thing.new.kind }
 {
     match &mut thing.kind {
-        Kind::Root(_) | Kind::Check(_) | Kind::Holdings(_) => WRONG_HANDLE,
         Kind::Session(session) => status_of_answer(session.can_answer(ask)),
+        _ => WRONG_HANDLE,
     }
 }
 

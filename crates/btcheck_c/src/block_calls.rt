@@ -17,8 +17,8 @@ fn take_blocks(thing: &mut Thing, index: u32, begin: u32, bytes: &[u8], out: &mu
     ensures unwritten { result ≢ 0 → out.new ≡ out.old }
 {
     match &mut thing.kind {
-        Kind::Root(_) | Kind::Check(_) | Kind::Holdings(_) => WRONG_HANDLE,
         Kind::Session(session) => write_blocks(session.take_blocks(index, begin, bytes), out),
+        _ => WRONG_HANDLE,
     }
 }
 
@@ -28,8 +28,8 @@ fn take_piece(thing: &mut Thing, index: u32, bytes: &[u8], file: &mut u64, block
     ensures unwritten { result ≢ 0 → (file.new ≡ file.old) × (block.new ≡ block.old) }
 {
     match &mut thing.kind {
-        Kind::Root(_) | Kind::Check(_) | Kind::Holdings(_) => WRONG_HANDLE,
         Kind::Session(session) => status_of_piece(session.take_piece(index, bytes), file, block),
+        _ => WRONG_HANDLE,
     }
 }
 

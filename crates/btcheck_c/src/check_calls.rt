@@ -16,8 +16,8 @@ fn start_check(alloc: Global, thing: &mut Thing, number: usize) -> Result<FileCh
     ensures { StartsCheck number thing.old.kind result thing.new.kind }
 {
     match &mut thing.kind {
-        Kind::Root(_) | Kind::Check(_) | Kind::Holdings(_) => Err(WRONG_HANDLE),
         Kind::Session(session) => begun(alloc, session.torrent(), number),
+        _ => Err(WRONG_HANDLE),
     }
 }
 
@@ -31,8 +31,8 @@ fn start_pieces(
     ensures { StartsPieces number from to thing.old.kind result thing.new.kind }
 {
     match &mut thing.kind {
-        Kind::Root(_) | Kind::Check(_) | Kind::Holdings(_) => Err(WRONG_HANDLE),
         Kind::Session(session) => pieces_check_of(alloc, session.torrent(), number, from, to),
+        _ => Err(WRONG_HANDLE),
     }
 }
 
@@ -42,7 +42,6 @@ fn push_file(thing: &mut Thing, bytes: &[u8], good: &mut [u8]) -> u32
     ensures size { length good.new ≡ length good.old }
 {
     match &mut thing.kind {
-        Kind::Root(_) | Kind::Session(_) | Kind::Holdings(_) => WRONG_HANDLE,
         Kind::Check(check) => {
             if bytes.len() as u64 > check.left() {
                 return TOO_LONG;
@@ -50,6 +49,7 @@ fn push_file(thing: &mut Thing, bytes: &[u8], good: &mut [u8]) -> u32
             check.push(bytes, good);
             DONE
         }
+        _ => WRONG_HANDLE,
     }
 }
 
@@ -58,13 +58,13 @@ fn finish_file(thing: &mut Thing, piece: &mut u64) -> u32
     ensures unwritten { result ≢ 10 → piece.new ≡ piece.old }
 {
     match &mut thing.kind {
-        Kind::Root(_) | Kind::Session(_) | Kind::Holdings(_) => WRONG_HANDLE,
         Kind::Check(check) => {
             if check.left() > 0 {
                 return TOO_SHORT;
             }
             write_piece(check.finish(&mut []), piece)
         }
+        _ => WRONG_HANDLE,
     }
 }
 
@@ -74,7 +74,6 @@ fn finish_bits(thing: &mut Thing, piece: &mut u64, good: &mut [u8]) -> u32
     ensures size { length good.new ≡ length good.old }
 {
     match &mut thing.kind {
-        Kind::Root(_) | Kind::Session(_) | Kind::Holdings(_) => WRONG_HANDLE,
         Kind::Check(check) => {
             if check.left() == 0 {
                 return write_piece(check.finish(good), piece);
@@ -82,6 +81,7 @@ fn finish_bits(thing: &mut Thing, piece: &mut u64, good: &mut [u8]) -> u32
             check.stop(good);
             TOO_SHORT
         }
+        _ => WRONG_HANDLE,
     }
 }
 

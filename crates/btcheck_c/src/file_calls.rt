@@ -29,12 +29,12 @@ fn count_files(thing: &mut Thing, files: &mut u64, trees: &mut u64) -> u32
     ensures unwritten { result ≢ 0 → (files.new ≡ files.old) × (trees.new ≡ trees.old) }
 {
     match &mut thing.kind {
-        Kind::Root(_) | Kind::Check(_) | Kind::Holdings(_) => WRONG_HANDLE,
         Kind::Session(session) => {
             *files = session.torrent().files().len() as u64;
             *trees = session.torrent().trees().len() as u64;
             DONE
         }
+        _ => WRONG_HANDLE,
     }
 }
 
@@ -43,7 +43,6 @@ fn file(thing: &mut Thing, number: usize, out: &mut FileInfo) -> u32
     ensures unwritten { result ≢ 0 → out.new ≡ out.old }
 {
     match &mut thing.kind {
-        Kind::Root(_) | Kind::Check(_) | Kind::Holdings(_) => WRONG_HANDLE,
         Kind::Session(session) => match file_info(session.torrent(), number) {
             None => NO_SUCH,
             Some(info) => {
@@ -51,6 +50,7 @@ fn file(thing: &mut Thing, number: usize, out: &mut FileInfo) -> u32
                 DONE
             }
         },
+        _ => WRONG_HANDLE,
     }
 }
 
@@ -61,8 +61,8 @@ fn path(thing: &mut Thing, number: usize, room: &mut [u8], length: &mut u64) -> 
         × (result ≢ 7 → length.new ≡ length.old) }
 {
     match &mut thing.kind {
-        Kind::Root(_) | Kind::Check(_) | Kind::Holdings(_) => WRONG_HANDLE,
         Kind::Session(session) => write_path_of(session.torrent(), number, room, length),
+        _ => WRONG_HANDLE,
     }
 }
 
@@ -71,12 +71,12 @@ fn info_hashes(thing: &mut Thing, v2: &mut [u8; 32], v1: &mut [u8; 20]) -> u32
     ensures unwritten { result ≢ 0 → (v2.new ≡ v2.old) × (v1.new ≡ v1.old) }
 {
     match &mut thing.kind {
-        Kind::Root(_) | Kind::Check(_) | Kind::Holdings(_) => WRONG_HANDLE,
         Kind::Session(session) => {
             *v2 = session.torrent().info_hash_v2();
             *v1 = session.torrent().info_hash_v1();
             DONE
         }
+        _ => WRONG_HANDLE,
     }
 }
 

@@ -31,8 +31,8 @@ fn take_body(thing: &mut Thing, body: &[u8], out: &mut VerdictInfo) -> u32
     ensures unwritten { result ≢ 0 → out.new ≡ out.old }
 {
     match &mut thing.kind {
-        Kind::Root(_) | Kind::Check(_) | Kind::Holdings(_) => WRONG_HANDLE,
         Kind::Session(session) => take_frame(session, body, out),
+        _ => WRONG_HANDLE,
     }
 }
 

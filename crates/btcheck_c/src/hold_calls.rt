@@ -17,7 +17,6 @@ fn start_holdings(alloc: Global, thing: &mut Thing, bound: usize) -> Result<Held
     ensures { StartsHolding bound thing.old.kind result thing.new.kind }
 {
     match &mut thing.kind {
-        Kind::Root(_) | Kind::Check(_) | Kind::Holdings(_) => Err(WRONG_HANDLE),
         Kind::Session(session) => {
             let longest = session.torrent().piece_length() / BLOCK_LENGTH;
             match Held::new(alloc, bound, longest as usize) {
@@ -25,6 +24,7 @@ fn start_holdings(alloc: Global, thing: &mut Thing, bound: usize) -> Result<Held
                 Err(_) => Err(NO_MEMORY),
             }
         }
+        _ => Err(WRONG_HANDLE),
     }
 }
 
@@ -41,11 +41,11 @@ fn hold(
     ensures unwritten { result ≢ 0 → out.new ≡ out.old }
 {
     match &mut thing.kind {
-        Kind::Root(_) | Kind::Check(_) | Kind::Holdings(_) => WRONG_HANDLE,
         Kind::Session(session) => match &mut beside.kind {
-            Kind::Root(_) | Kind::Check(_) | Kind::Session(_) => WRONG_HANDLE,
             Kind::Holdings(held) => hold_blocks(session, held, index, begin, bytes, out),
+            _ => WRONG_HANDLE,
         },
+        _ => WRONG_HANDLE,
     }
 }
 
@@ -55,11 +55,11 @@ fn settle(thing: &mut Thing, beside: &mut Thing, run: &mut RunInfo) -> u32
     ensures unwritten { result ≢ 0 → result ≢ 10 → run.new ≡ run.old }
 {
     match &mut thing.kind {
-        Kind::Root(_) | Kind::Check(_) | Kind::Holdings(_) => WRONG_HANDLE,
         Kind::Session(session) => match &mut beside.kind {
-            Kind::Root(_) | Kind::Check(_) | Kind::Session(_) => WRONG_HANDLE,
             Kind::Holdings(held) => settle_held(session, held, run),
+            _ => WRONG_HANDLE,
         },
+        _ => WRONG_HANDLE,
     }
 }
 
@@ -67,11 +67,11 @@ fn look_at(thing: &mut Thing, tree: usize) -> u32
     ensures { LooksAt tree thing.old.kind result thing.new.kind }
 {
     match &mut thing.kind {
-        Kind::Root(_) | Kind::Session(_) | Kind::Check(_) => WRONG_HANDLE,
         Kind::Holdings(held) => {
             held.cursor = Cursor::of_tree(tree);
             DONE
         }
+        _ => WRONG_HANDLE,
     }
 }
 
@@ -80,11 +80,11 @@ fn count_held(thing: &mut Thing, count: &mut u64) -> u32
     ensures unwritten { result ≢ 0 → count.new ≡ count.old }
 {
     match &mut thing.kind {
-        Kind::Root(_) | Kind::Session(_) | Kind::Check(_) => WRONG_HANDLE,
         Kind::Holdings(held) => {
             *count = held.holdings.held();
             DONE
         }
+        _ => WRONG_HANDLE,
     }
 }
 

@@ -21,13 +21,13 @@ fn take_layer(thing: &mut Thing, tree: usize, layer: u32, hashes: &[Hash], place
     ensures unwritten { result ≢ 0 → places.new ≡ places.old }
 {
     match &mut thing.kind {
-        Kind::Root(_) | Kind::Check(_) | Kind::Holdings(_) => WRONG_HANDLE,
         Kind::Session(session) => {
             if tree >= session.torrent().trees().len() {
                 return NO_SUCH;
             }
             status_of_hashes(session.fill(tree, layer, hashes), places)
         }
+        _ => WRONG_HANDLE,
     }
 }
 
@@ -68,8 +68,8 @@ fn export(thing: &mut Thing, cursor: &mut CursorInfo, room: &mut [u8], length: &
         × (result ≢ 7 → length.new ≡ length.old) }
 {
     match &mut thing.kind {
-        Kind::Root(_) | Kind::Check(_) | Kind::Holdings(_) => WRONG_HANDLE,
         Kind::Session(session) => write_export(session, cursor, room, length),
+        _ => WRONG_HANDLE,
     }
 }
 

@@ -1,15 +1,16 @@
 //! The session of a torrent and the root of a file, for programs in C and in languages that call C.
 //!
 //! `bindings/c/btcheck.h` declares the exports, and says what C must keep. A handle is a [`Handle`]
-//! that holds nothing or one `Thing`: the builder of a root, or a session with its torrent. Each
-//! call takes the thing out of its handle, does its work in safe code, and puts it back; only
-//! `loose.rt` and `slot.rt` touch raw memory.
+//! that holds nothing or one `Thing`: the builder of a root, a session with its torrent, or the
+//! draft of one, for example. Each call takes the thing out of its handle, does its work in safe
+//! code, and puts it back; only `loose.rt` and `slot.rt` touch raw memory.
 #![tactic(auto)]
 
 mod ask_calls;
 mod block_calls;
 mod check_calls;
 mod check_starts;
+mod drafting_calls;
 mod file_calls;
 mod file_check;
 mod frame_calls;

@@ -15,7 +15,6 @@ fn push(thing: &mut Thing, bytes: &[u8]) -> u32
     ensures { Pushed bytes.now thing.old.kind result thing.new.kind }
 {
     match &mut thing.kind {
-        Kind::Session(_) | Kind::Check(_) | Kind::Holdings(_) => WRONG_HANDLE,
         Kind::Root(file) => {
             if bytes.len() as u64 > MAX_LENGTH - file.len() {
                 return TOO_LONG;
@@ -23,6 +22,7 @@ fn push(thing: &mut Thing, bytes: &[u8]) -> u32
             file.push(bytes);
             DONE
         }
+        _ => WRONG_HANDLE,
     }
 }
 
@@ -31,7 +31,6 @@ fn finish(thing: &mut Thing, length: &mut u64, root: &mut [u8; 32]) -> u32
     ensures unwritten { result ≢ 0 → (length.new ≡ length.old) × (root.new ≡ root.old) }
 {
     match &mut thing.kind {
-        Kind::Session(_) | Kind::Check(_) | Kind::Holdings(_) => WRONG_HANDLE,
         Kind::Root(file) => {
             if file.is_empty() {
                 return NO_ROOT;
@@ -39,6 +38,7 @@ fn finish(thing: &mut Thing, length: &mut u64, root: &mut [u8; 32]) -> u32
             (*length, *root) = file.finish();
             DONE
         }
+        _ => WRONG_HANDLE,
     }
 }
 

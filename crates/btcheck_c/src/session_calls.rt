@@ -17,7 +17,6 @@ fn counts(thing: &mut Thing, tree: usize, known: &mut u64, marked: &mut u64) -> 
     ensures unwritten { result ≢ 0 → (known.new ≡ known.old) × (marked.new ≡ marked.old) }
 {
     match &mut thing.kind {
-        Kind::Root(_) | Kind::Check(_) | Kind::Holdings(_) => WRONG_HANDLE,
         Kind::Session(session) => {
             if tree >= session.torrent().trees().len() {
                 return NO_SUCH;
@@ -25,6 +24,7 @@ fn counts(thing: &mut Thing, tree: usize, known: &mut u64, marked: &mut u64) -> 
             (*known, *marked) = session.counts(tree);
             DONE
         }
+        _ => WRONG_HANDLE,
     }
 }
 
@@ -32,7 +32,6 @@ fn is_marked(thing: &mut Thing, tree: usize, block: u64) -> u32
     ensures { AnswersIfMarked tree block thing.old.kind result thing.new.kind }
 {
     match &mut thing.kind {
-        Kind::Root(_) | Kind::Check(_) | Kind::Holdings(_) => WRONG_HANDLE,
         Kind::Session(session) => {
             if session.has_block(tree, block) {
                 status_of_answer(session.is_marked(tree, block))
@@ -40,6 +39,7 @@ fn is_marked(thing: &mut Thing, tree: usize, block: u64) -> u32
                 NO_SUCH
             }
         }
+        _ => WRONG_HANDLE,
     }
 }
 
@@ -49,8 +49,8 @@ fn take_hashes(thing: &mut Thing, ask: &Ask, hashes: &[Hash], places: &mut u64) 
     ensures unwritten { result ≢ 0 → places.new ≡ places.old }
 {
     match &mut thing.kind {
-        Kind::Root(_) | Kind::Check(_) | Kind::Holdings(_) => WRONG_HANDLE,
         Kind::Session(session) => status_of_hashes(session.take_hashes(ask, hashes), places),
+        _ => WRONG_HANDLE,
     }
 }
 
@@ -67,10 +67,10 @@ fn take_block(
     ensures unwritten { result ≢ 0 → (file.new ≡ file.old) × (block.new ≡ block.old) }
 {
     match &mut thing.kind {
-        Kind::Root(_) | Kind::Check(_) | Kind::Holdings(_) => WRONG_HANDLE,
         Kind::Session(session) => {
             status_of_block(session.take_block(index, begin, bytes), file, block)
         }
+        _ => WRONG_HANDLE,
     }
 }
 

@@ -2,6 +2,7 @@
 
 use crate::file_check::FileCheck;
 use crate::held::Held;
+use drafting::{ComingFile, OpenDraft};
 use owned_sessions::OwnedSession;
 use short_pushes::FileRoot;
 
@@ -23,4 +24,8 @@ pub enum Kind {
     Check(FileCheck),
     /// What is held beside a session of blocks that cannot be proved yet.
     Holdings(Held),
+    /// The draft of a torrent.
+    Draft(OpenDraft),
+    /// A file for a draft, as its bytes come.
+    File(ComingFile),
 }

@@ -16,11 +16,11 @@ fn piece_length(thing: &mut Thing, length: &mut u64) -> u32
     ensures unwritten { result ≢ 0 → length.new ≡ length.old }
 {
     match &mut thing.kind {
-        Kind::Root(_) | Kind::Check(_) | Kind::Holdings(_) => WRONG_HANDLE,
         Kind::Session(session) => {
             *length = session.torrent().piece_length();
             DONE
         }
+        _ => WRONG_HANDLE,
     }
 }
 
@@ -29,11 +29,11 @@ fn pieces(thing: &mut Thing, pieces: &mut u64) -> u32
     ensures unwritten { result ≢ 0 → pieces.new ≡ pieces.old }
 {
     match &mut thing.kind {
-        Kind::Root(_) | Kind::Check(_) | Kind::Holdings(_) => WRONG_HANDLE,
         Kind::Session(session) => {
             *pieces = count_pieces(session.torrent());
             DONE
         }
+        _ => WRONG_HANDLE,
     }
 }
 
@@ -43,8 +43,8 @@ fn name(thing: &mut Thing, room: &mut [u8], length: &mut u64) -> u32
         × (result ≢ 7 → length.new ≡ length.old) }
 {
     match &mut thing.kind {
-        Kind::Root(_) | Kind::Check(_) | Kind::Holdings(_) => WRONG_HANDLE,
         Kind::Session(session) => write_path(&[session.torrent().name()], room, length),
+        _ => WRONG_HANDLE,
     }
 }
 
@@ -52,8 +52,8 @@ fn is_hybrid(thing: &mut Thing) -> u32
     ensures { AnswersIfHybrid thing.old.kind result thing.new.kind }
 {
     match &mut thing.kind {
-        Kind::Root(_) | Kind::Check(_) | Kind::Holdings(_) => WRONG_HANDLE,
         Kind::Session(session) => status_of_answer(session.torrent().v1().is_some()),
+        _ => WRONG_HANDLE,
     }
 }
 

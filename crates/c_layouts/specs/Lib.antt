@@ -10,3 +10,4 @@ pub mod Paths
 pub mod Refusals
 pub mod Torrents
 pub mod Verdicts
+pub mod Drafts

@@ -5,6 +5,7 @@
 pub mod asked;
 pub mod blocks_info;
 pub mod cursor_info;
+pub mod draft_status;
 pub mod file_info;
 pub mod hashes_frame;
 pub mod held_info;

@@ -97,6 +97,22 @@ pub struct btcheck_holdings {
     pub at: *mut c_void,
 }
 
+/// The draft of a torrent. Zero bytes are a handle that holds nothing.
+#[repr(C)]
+#[derive(Debug)]
+pub struct btcheck_draft {
+    pub full: bool,
+    pub at: *mut c_void,
+}
+
+/// A file for a draft. Zero bytes are a handle that holds nothing.
+#[repr(C)]
+#[derive(Debug)]
+pub struct btcheck_draft_file {
+    pub full: bool,
+    pub at: *mut c_void,
+}
+
 /// The five fields of a hash request (BEP 52).
 #[repr(C)]
 #[derive(Clone, Copy, Debug, Default, PartialEq, Eq)]
@@ -392,4 +408,34 @@ extern "C" {
         count: usize,
         places: *mut u64,
     ) -> btcheck_status;
+    pub fn btcheck_draft_new(
+        draft: *mut btcheck_draft,
+        name: *const u8,
+        len: usize,
+        piece_length: u64,
+        hybrid: bool,
+    ) -> btcheck_status;
+    pub fn btcheck_draft_file_new(
+        file: *mut btcheck_draft_file,
+        draft: *mut btcheck_draft,
+    ) -> btcheck_status;
+    pub fn btcheck_draft_file_push(
+        file: *mut btcheck_draft_file,
+        bytes: *const u8,
+        len: usize,
+    ) -> btcheck_status;
+    pub fn btcheck_draft_add(
+        draft: *mut btcheck_draft,
+        file: *mut btcheck_draft_file,
+        path: *const u8,
+        len: usize,
+    ) -> btcheck_status;
+    pub fn btcheck_draft_finish(
+        draft: *mut btcheck_draft,
+        room: *mut u8,
+        size: usize,
+        length: *mut u64,
+    ) -> btcheck_status;
+    pub fn btcheck_draft_file_free(file: *mut btcheck_draft_file);
+    pub fn btcheck_draft_free(draft: *mut btcheck_draft);
 }

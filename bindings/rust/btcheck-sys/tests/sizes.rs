@@ -15,6 +15,8 @@ fn sizes_are_those_of_c() {
         size_of::<btcheck_holdings>(),
         size_of::<btcheck_run>(),
         size_of::<btcheck_held>(),
+        size_of::<btcheck_draft>(),
+        size_of::<btcheck_draft_file>(),
     ];
     if let Ok(wanted) = std::env::var("BTCHECK_SIZES") {
         let texts: Vec<_> = sizes.iter().map(|size| size.to_string()).collect();

@@ -147,7 +147,7 @@ impl Session {
 }
 
 /// What a call writes into a room, which is made larger as the call says.
-fn text_of(
+pub(crate) fn text_of(
     mut call: impl FnMut(*mut u8, usize, &mut u64) -> sys::btcheck_status,
 ) -> Result<Vec<u8>, Error> {
     let mut room = vec![0; 256];

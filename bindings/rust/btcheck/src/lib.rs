@@ -19,6 +19,8 @@
 struct Page;
 
 mod check;
+mod create;
+mod drafting;
 mod error;
 mod files;
 mod holdings;
@@ -30,6 +32,8 @@ mod session;
 
 pub use btcheck_sys::btcheck_ask as Ask;
 pub use check::Check;
+pub use create::create;
+pub use drafting::{Draft, DraftFile};
 pub use error::Error;
 pub use files::{File, Files, InfoHashes};
 pub use holdings::{HeldBlocks, Holdings, Run, Settled};

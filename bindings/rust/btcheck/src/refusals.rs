@@ -160,6 +160,7 @@ refusals! {
         HybridAlign = 19, "A file is not at its place in the version 1 stream.";
         HybridPieces = 20, "The version 1 digests are not one for each piece of the stream.";
         NoMemory = 21, "Memory for the torrent was refused.";
+        PathClash = 22, "The path is there already, or one of two paths is a prefix of the other.";
     }
 }
 
