@@ -136,7 +136,8 @@ Checks words t under Went Broken lines out out' (Err fault) = ⊥
 -- what stands under the torrent's paths went out, worded so, and the status is that of its last
 -- line; or that report broke off; or memory was refused before it.
 abbrev pub ChecksPart : PartWords → Description → ℕ → ℕ
-    → (List (List ℕ) → Option (Option (List ℕ))) → (List FileVerdict → Type 0) → SinkSeen → SinkSeen → Result ℕ Fault → Type 0
+    → (List (List ℕ) → Option (Option (List ℕ))) → (List FileVerdict → Type 0) → SinkSeen
+    → SinkSeen → Result ℕ Fault → Type 0
 ChecksPart words t part count under Went out out' (Ok status) = (files : List FileVerdict)
     × (v1 : Option V1Verdict) × HasVerdicts t files v1
     × IsTrueOfPlaces t (share t part count) under files v1 × Went files
@@ -150,8 +151,8 @@ ChecksPart words t part count under Went out out' (Err faults.NoMemory) = out' �
 ChecksPart words t part count under Went out out' (Err fault) = ⊥
 
 -- What joining reports did, by its answer: what they say together went out as the report of a
--- check, worded so, and the status is that of its last line; or they cannot be joined for this reason, and
--- nothing was printed; or the report broke off; or memory was refused before it.
+-- check, worded so, and the status is that of its last line; or they cannot be joined for this
+-- reason, and nothing was printed; or the report broke off; or memory was refused before it.
 abbrev pub JoinsParts : Wording → Description → List (List ℕ) → SinkSeen → SinkSeen
     → Result (Result ℕ JoinFault) Fault → Type 0
 JoinsParts words t texts out out' (Ok (Ok status)) = (files : List FileVerdict)

@@ -18,11 +18,13 @@ abbrev pub map_room : FixedMapSeen → ℕ
 map_room m = room_of m.tiers
 
 abbrev tier_code : Coded TierSeen
-tier_code = code_by (List Entry × ℕ) (coded× (coded_list (coded× (coded× coded_ℕ coded_ℕ) (coded× coded_ℕ coded_ℕ))) coded_ℕ)
+tier_code = code_by (List Entry × ℕ)
+    (coded× (coded_list (coded× (coded× coded_ℕ coded_ℕ) (coded× coded_ℕ coded_ℕ))) coded_ℕ)
     (λ t. (t.items, t.width)) (λ p. record { items = p.0; width = p.1 }) (λ _. refl)
 
 abbrev pub fixed_map_code : Coded FixedMapSeen
-fixed_map_code = code_by (List TierSeen) (coded_list tier_code) (λ m. m.tiers) (λ ts. record { tiers = ts }) (λ _. refl)
+fixed_map_code = code_by (List TierSeen) (coded_list tier_code) (λ m. m.tiers)
+    (λ ts. record { tiers = ts }) (λ _. refl)
 
 -- there is a tier, the keys rise through all of them, this is how many entries there are, and there
 -- is no room for more than a number of 64 bits says

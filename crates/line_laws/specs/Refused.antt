@@ -18,4 +18,5 @@ BlockRefusalsAreSaid =
     (n : ℕ) (r : BlockRefusal) → n < 2 ^ 64
     → IsSaidRow (refused_row n (codes "P") (block_refusal_number r) (block_refusal_name r) [])
     × ((file block : ℕ) → file < 2 ^ 64 → block < 2 ^ 64
-    → IsSaidRow (refused_row n (codes "P") (block_refusal_number r) (block_refusal_name r) (block_items file block)))
+    → IsSaidRow (refused_row n (codes "P") (block_refusal_number r) (block_refusal_name r)
+    (block_items file block)))

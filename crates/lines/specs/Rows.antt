@@ -6,9 +6,9 @@ use Rattle.hex.specs.Hex.{encode_lower}
 use Rattle.lines.specs.declared.part.Part.{Part}
 use Rattle.lines.specs.declared.part.Part.TheVariants as part
 
--- an item of a line: a word; under a key a number, a number with a dash or a slash behind it, a name
--- that is printed as it is, a letter with a number behind it, or a text that is printed with its
--- escapes
+-- an item of a line: a word; under a key a number, a number with a dash or a slash behind it, a
+-- name that is printed as it is, a letter with a number behind it, or a text that is printed with
+-- its escapes
 pub data Item : Type 0 where
   word : List ℕ → Item
   number : List ℕ → ℕ → Item

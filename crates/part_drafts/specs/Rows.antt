@@ -35,7 +35,8 @@ joined hashes = flat_map (λ x. x) hashes
 abbrev pub row_text : ℕ → Bool → ℕ → List ℕ → List ℕ
 row_text piece_length hybrid n [] = []
 row_text piece_length hybrid n (b ∷ bytes) =
-    joined (row_nodes piece_length n (b ∷ bytes)) ++ joined (row_cuts piece_length hybrid (b ∷ bytes))
+    joined (row_nodes piece_length n (b ∷ bytes))
+    ++ joined (row_cuts piece_length hybrid (b ∷ bytes))
 
 -- ---- reading
 

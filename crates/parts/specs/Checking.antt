@@ -80,8 +80,8 @@ module _ {S F : Type 0} (shelf : Ghosts S F) (seen : F → SourceSeen) where
           (verdicts_in told ++ verdict ∷ [])
 
   -- Some first files were visited, each once and in order, for verdicts that are true of what
-  -- stands at their paths; and the lines of these verdicts broke off, if lines are all that is told.
-  -- Files that were judged together were visited before the first of their lines went out.
+  -- stands at their paths; and the lines of these verdicts broke off, if lines are all that is
+  -- told. Files that were judged together were visited before the first of their lines went out.
   abbrev pub StopsInBatch : Words → Description → Telling → S × SinkSeen → S × SinkSeen → Type 0
   StopsInBatch words t telling.Nothing old new = ⊥
   StopsInBatch words t (telling.Line lines) old new =

@@ -45,8 +45,8 @@ leaves_ask root h b k = record {
   proof = h - 1;
 }
 
--- the ask is for leaves of tree n, block b among them; all of them are known, and so is the proof up
--- to the root, which is asked for whole
+-- the ask is for leaves of tree n, block b among them; all of them are known, and so is the proof
+-- up to the root, which is asked for whole
 pub record IsRange (S : SessionSeen) (n b : ℕ) (ask : Ask) : Type 0 where
   pub asked : IsAsked S ask
   pub number_is : asked.number ≡ n
