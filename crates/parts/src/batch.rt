@@ -132,6 +132,8 @@ pub(crate) fn look_ahead<S: Shelf>(
 }
 
 // Visits the small files that come next.
+// It has what it makes in its frame too, so it is not inlined.
+#[inline(never)]
 fn hold_files<S: Shelf>(
     shelf: &mut S,
     torrent: &Torrent<'_>,

@@ -68,6 +68,8 @@ impl Windows {
 
     /// Hashes all blocks, and of a hybrid all version 1 pieces. Condition: the files are of this
     /// torrent, and stand in the room.
+    // It has copies of what is in the windows in its frame, so it is not inlined.
+    #[inline(never)]
     pub(crate) fn hash(&mut self, torrent: &Torrent<'_>, room: &[u8])
         requires { AreWithin torrent.now self.old (length room.now) }
         ensures hashed { AreHashed torrent.now self.new room.now }
