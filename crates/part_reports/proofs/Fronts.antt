@@ -1,5 +1,5 @@
 -- Numbers and lines at the front of a text.
-use Rattle.std.proofs.Common.{◌≡◌, ℕ, ◌<◌, ◌==◌, ◌^◌, true, false, Bool, not, List, Option, Some, [], ◌∷◌, ◌++◌, length}
+use Rattle.std.proofs.Common.{◌≡◌, ℕ, ◌<◌, ◌==◌, ◌||◌, ◌^◌, true, false, Bool, not, List, Option, Some, [], ◌∷◌, ◌++◌, length}
 use Rattle.std.proofs.Common.{take, drop, decimal, refl, sym, ap, subst, ◌∙◌, arith}
 use Rattle.std.specs.Char.{digit_value, is_ascii_digit}
 use Rattle.std.specs.List.{list_all, prefix_len}
@@ -62,9 +62,9 @@ some_digits n small = of_digits (decimal n) (decimal_nonempty n small) (decimal_
     of_digits : (text : List ℕ) → 0 < length text → list_all is_ascii_digit text ≡ true
         → (d : ℕ) × (ds : List ℕ) × (text ≡ d ∷ ds) × (is_no_digit d ≡ false)
     of_digits [] some all = absurd (omega (arith, some))
-    of_digits (d ∷ ds) some all = (d, ds, refl, ap not (and_parts (is_ascii_digit d) (list_all is_ascii_digit ds) all).0)
+    of_digits (d ∷ ds) some all = (d, ds, refl, ap (λ digit. not (digit || d == 10)) (and_parts (is_ascii_digit d) (list_all is_ascii_digit ds) all).0)
 
--- the first number in a text, behind bytes that are no digits
+-- the first number in a line, behind bytes that are no digits
 pub behind_front : (text front : List ℕ) (n : ℕ) (more : List ℕ) (k : ℕ) → list_all is_no_digit front ≡ true → n < 2 ^ 64
     → text ≡ front ++ (decimal n ++ more) → k ≡ prefix_len is_no_digit text → drop k text ≡ decimal n ++ more
 behind_front text front n more k none small is length_is =

@@ -1,4 +1,4 @@
-//! Numbers in a text.
+//! Numbers in a line.
 ghost use Rattle.std.specs.Prelude.{◌≡◌, ℕ, ◌<◌, ◌≤◌, ◌^◌, List, ◌∷◌, ◌++◌, length, decimal, option_map, Some, false, true};
 ghost use Rattle.std.specs.Char.{is_ascii_digit};
 ghost use Rattle.std.specs.List.{list_all, prefix_len};
@@ -6,8 +6,8 @@ ghost use Rattle.part_reports.specs.Scan.{is_no_digit};
 
 use std::str;
 
-/// The first number in a text, and what follows its digits. Which words stand before it is for the
-/// table of lines to say.
+/// The first number in the first line of a text, and what follows its digits. Which words stand
+/// before it is for the table of lines to say.
 pub(crate) fn first_number(text: &[u8]) -> Option<(u64, &[u8])>
     ensures { (front : List ℕ) (n c : ℕ) (more : List ℕ) → list_all is_no_digit front ≡ true
         → n < 2 ^ 64 → is_ascii_digit c ≡ false → text.now ≡ front ++ (decimal n ++ c ∷ more)
@@ -37,13 +37,13 @@ fn number(digits: &[u8]) -> Option<u64>
     }
 }
 
-// How many bytes stand before the first digit.
+// How many bytes stand before the first digit, or before the end of the line if it has none.
 fn first_digit(text: &[u8]) -> usize
     ensures value { result ≡ prefix_len is_no_digit text.now }
     ensures bound { result ≤ length text.now }
 {
     'bytes: for (i, byte) in text.iter().enumerate() {
-        if byte.is_ascii_digit() {
+        if byte.is_ascii_digit() || *byte == b'\n' {
             return i;
         }
     }

@@ -64,7 +64,7 @@ pub(crate) fn v1_verdict(text: &[u8]) -> V1Verdict
     }
 }
 
-// The first number in a text, or 0.
+// The first number in the first line of a text, or 0.
 fn number_or_zero(text: &[u8]) -> u64
     ensures small { result < 2 ^ 64 }
     ensures number { IsFirstNumber text.now result }
@@ -75,7 +75,8 @@ fn number_or_zero(text: &[u8]) -> u64
     }
 }
 
-// The second number in a text, or 0: in the line of the version 1 pieces it is the one behind `v1`.
+// The second number in the first line of a text, or 0: in the line of the version 1 pieces it is
+// the one behind `v1`.
 fn second_or_zero(text: &[u8]) -> u64
     ensures small { result < 2 ^ 64 }
     ensures number { (front more : List ℕ) (n c : ℕ) → list_all is_no_digit front ≡ true
