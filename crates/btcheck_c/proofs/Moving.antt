@@ -17,6 +17,8 @@ use Rattle.short_pushes.proofs.row_check.RowCheck.TheSendSync as row_check
 use Rattle.short_pushes.proofs.file_root.FileRoot.TheSendSync as root
 use Rattle.hashtree.proofs.shape.Shape.TheSendSync as shape
 use Rattle.holdings.proofs.holdings.Holdings.TheSendSync as holdings
+use Rattle.drafting.proofs.open_draft.OpenDraft.TheSendSync as draft
+use Rattle.drafting.proofs.coming_file.ComingFile.TheSendSync as coming
 use Rattle.owned_sessions.specs.contracts.owned_session.OwnedSession as OwnedSession
 use Rattle.btcheck_c.specs.contracts.file_check.FileCheck as FileCheck
 use Rattle.btcheck_c.specs.contracts.held.Held as Held
@@ -43,7 +45,7 @@ held : IsSend Held.the_row
 held = search (holdings.the_send, declared_send, as_row_send, sendable) depth 30 fits 100000
 
 kind : IsSend Kind.the_row
-kind = search (session, root.the_field_send, check, held, variants_send, as_row_send, sendable) depth 30 fits 100000
+kind = search (session, root.the_field_send, check, held, draft.the_send, coming.the_field_send, variants_send, as_row_send, sendable) depth 30 fits 100000
 
 pub thing : IsSend Thing.the_row
 thing = search (kind, declared_send, sendable) depth 30 fits 100000
