@@ -6,7 +6,7 @@ ghost use Rattle.session_exports.specs.Exports.{IsExport, NothingFrom};
 use crate::ranges::range_at;
 use crate::search::next_leaf;
 use node_maps::NodeMap;
-use session::Session;
+use session::{HoldsTorrent, SessionOf};
 use wire::Ask;
 
 /// Where an export goes on: at a block of a tree.
@@ -49,11 +49,14 @@ impl Export {
 /// [`Session::take_hashes`]. `None` if no leaf is known from there on. The leaf of a file of one
 /// block is its root, which every session knows, and is not exported; marks are not either. Takes
 /// no memory.
-pub fn next_export<N: NodeMap>(session: &Session<'_, N>, point: Point) -> Option<Export>
+pub fn next_export<T: HoldsTorrent, N: NodeMap>(
+    session: &SessionOf<T, N>,
+    point: Point,
+) -> Option<Export>
     ensures found { IfSome result (IsExport session.now point) }
     ensures end { IfNone result (NothingFrom session.now point) }
 {
-    let count = session.torrent().trees().len();
+    let count = session.lent_torrent().trees().len();
     let mut from = point.block;
     'trees: for tree in point.tree..count {
         if let Some(block) = next_leaf(session, tree, from) {

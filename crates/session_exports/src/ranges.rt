@@ -8,7 +8,7 @@ ghost use Rattle.session_exports.specs.Exports.{HasLeaf, IsRange, leaves_ask};
 
 use hashtree::{Hash, Shape};
 use node_maps::NodeMap;
-use session::Session;
+use session::{HoldsTorrent, SessionOf};
 use wire::Ask;
 
 // The widest range has this power of two of leaves.
@@ -18,7 +18,11 @@ const MOST_SPAN: u32 = 9;
 /// known, with proof up to the root. A known leaf stands with its sibling, so two at least are
 /// known. Conditions: there are more than `tree` trees, the leaf is known, and it is not the root;
 /// blocks have numbers below 2^32.
-pub(crate) fn range_at<N: NodeMap>(session: &Session<'_, N>, tree: usize, block: u64) -> Ask
+pub(crate) fn range_at<T: HoldsTorrent, N: NodeMap>(
+    session: &SessionOf<T, N>,
+    tree: usize,
+    block: u64,
+) -> Ask
     requires tree { tree < length session.now.torrent.trees }
     requires leaf { HasLeaf session.now tree block }
     requires low { block < 2 ^ 32 }
@@ -55,14 +59,17 @@ fn ask_for(root: Hash, height: u32, block: u64, span: u32) -> Ask
 }
 
 // The root of a tree, and its height.
-fn root_and_height<N: NodeMap>(session: &Session<'_, N>, tree: usize) -> (Hash, u32)
+fn root_and_height<T: HoldsTorrent, N: NodeMap>(
+    session: &SessionOf<T, N>,
+    tree: usize,
+) -> (Hash, u32)
     requires { tree < length session.now.torrent.trees }
     ensures value { (t : TreeRoot) × (slice_get (roots session.now) tree ≡ Some t)
         × (result.0 ≡ t.root) × (result.1 ≡ tree_height t.length) }
     ensures bound { result.1 ≤ 32 }
 {
-    session.torrent().recall_sound();
-    let info = &session.torrent().trees()[tree];
+    session.lent_torrent().recall_sound();
+    let info = &session.lent_torrent().trees()[tree];
     let shape = Shape::of(info.length).unwrap();
     (info.root, shape.height())
 }

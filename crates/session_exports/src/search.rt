@@ -4,7 +4,7 @@ ghost use Rattle.std.specs.Prelude.{◌+◌, ◌<◌, ◌≤◌, ◌^◌, IfNone
 ghost use Rattle.session_exports.specs.Exports.{AreUnknown, HasBlocks, HasLeaf, NoneFrom};
 
 use node_maps::NodeMap;
-use session::Session;
+use session::{HoldsTorrent, SessionOf};
 
 // A node of this layer covers as many leaves as a window has.
 const WINDOW_LAYER: u32 = 9;
@@ -13,7 +13,11 @@ const WINDOW: u64 = 1 << WINDOW_LAYER;
 
 /// The first block of a tree, from one on, whose leaf is known. A tree of one block has none.
 /// Condition: there are more than `tree` trees.
-pub(crate) fn next_leaf<N: NodeMap>(session: &Session<'_, N>, tree: usize, from: u64) -> Option<u64>
+pub(crate) fn next_leaf<T: HoldsTorrent, N: NodeMap>(
+    session: &SessionOf<T, N>,
+    tree: usize,
+    from: u64,
+) -> Option<u64>
     requires { tree < length session.now.torrent.trees }
     ensures found { IfSome result (λ b. (from ≤ b) × (b < 2 ^ 32)
         × HasLeaf session.now tree b × AreUnknown session.now tree from b) }
@@ -36,7 +40,12 @@ pub(crate) fn next_leaf<N: NodeMap>(session: &Session<'_, N>, tree: usize, from:
 
 // The block at which the search goes on after one whose leaf is not known: after all blocks under
 // the node above it that covers a window, if that is not known either.
-fn after_unknown<N: NodeMap>(session: &Session<'_, N>, tree: usize, block: u64, blocks: u64) -> u64
+fn after_unknown<T: HoldsTorrent, N: NodeMap>(
+    session: &SessionOf<T, N>,
+    tree: usize,
+    block: u64,
+    blocks: u64,
+) -> u64
     requires tree { tree < length session.now.torrent.trees }
     requires low { block < 2 ^ 32 }
     requires blocks { HasBlocks session.now tree blocks }

@@ -23,5 +23,5 @@ trees-preserved g c =
 pub returns-clause-end : goal.returns-clause-end
 returns-clause-end g c =
     nothing-left c.args.session.now c.args.point c.trees.tree c.trees.from (length c.trees-count.result.now) c.trees.invariant c.trees-test.false
-    (sym (length-map c.trees-count.result.now tree_entry) ∙ ap length c.trees-count.ensures ∙ ap (λ (d : Description). length d.trees) c.torrent.ensures)
+    (sym (length-map c.trees-count.result.now tree_entry) ∙ ap length c.trees-count.ensures ∙ ap (λ (d : Description). length d.trees) c.lent_torrent.ensures)
     (leaf-tree c.args.session.now)

@@ -9,12 +9,12 @@ use Rattle.session_exports.proofs.ranges.root_and_height.Goals as goal
 
 pub unwrap-shape-requires : goal.unwrap-shape-requires
 unwrap-shape-requires g c =
-    let d : Description = c.torrent.result.now in let infos = c.trees.result.now in let n = c.args.tree in
+    let d : Description = c.lent_torrent.result.now in let infos = c.trees.result.now in let n = c.args.tree in
     let e : TreeEntry = tree_entry (get_or infos n no_info) in
-    let same : c.torrent-2.result.now ≡ d = c.torrent-2.ensures ∙ sym c.torrent.ensures in
+    let same : c.lent_torrent-2.result.now ≡ d = c.lent_torrent-2.ensures ∙ sym c.lent_torrent.ensures in
     let there : slice_get d.trees n ≡ Some e =
     entry_there d infos n (c.trees.ensures ∙ ap (λ (x : Description). x.trees) same)
-    (subst (λ (x : Description). n < length x.trees) (sym c.torrent.ensures) c.requires) in
+    (subst (λ (x : Description). n < length x.trees) (sym c.lent_torrent.ensures) c.requires) in
     let sound = c.recall_sound.ensures.trees n e there in
     c.of.ensures.some.1 (sound.some, sound.bound)
 
@@ -23,7 +23,7 @@ returns-clause-value g c =
     let d : Description = c.args.session.now.torrent in let infos = c.trees.result.now in let n = c.args.tree in
     let e : TreeEntry = tree_entry (get_or infos n no_info) in
     let there : slice_get d.trees n ≡ Some e =
-    entry_there d infos n (c.trees.ensures ∙ ap (λ (x : Description). x.trees) c.torrent-2.ensures) c.requires in
+    entry_there d infos n (c.trees.ensures ∙ ap (λ (x : Description). x.trees) c.lent_torrent-2.ensures) c.requires in
     let shape : c.unwrap-shape.result ≡ e.length =
     subst (λ o. IfSome o (λ s. s ≡ e.length)) c.unwrap-shape.ensures c.of.ensures.value in
     (root_of_entry e, root_at d n e there, refl, c.height.ensures.value ∙ ap (λ k. height (block_count k)) shape)
