@@ -12,7 +12,7 @@ use crate::run::Run;
 use crate::settling::Piece;
 use hashtree::leaf;
 use node_maps::NodeMap;
-use session::Session;
+use session::{HoldsTorrent, SessionOf};
 
 /// What became of a block that was to be held.
 #[derive(Clone, Copy, Debug, PartialEq, Eq)]
@@ -36,9 +36,9 @@ impl Holdings {
     /// held before, or the piece is held with fewer blocks or is longer than the longest, as it may
     /// be with a session of another torrent. Conditions: there are more than `tree` trees, and the
     /// files of that one have more than `block` blocks.
-    pub fn hold<N: NodeMap>(
+    pub fn hold<T: HoldsTorrent, N: NodeMap>(
         &mut self,
-        session: &Session<'_, N>,
+        session: &SessionOf<T, N>,
         tree: usize,
         block: u64,
         bytes: &[u8],
@@ -59,7 +59,11 @@ impl Holdings {
 }
 
 // The piece that a block belongs to.
-fn piece_of<N: NodeMap>(session: &Session<'_, N>, tree: usize, block: u64) -> Piece
+fn piece_of<T: HoldsTorrent, N: NodeMap>(
+    session: &SessionOf<T, N>,
+    tree: usize,
+    block: u64,
+) -> Piece
     requires tree { tree < length session.now.torrent.trees }
     requires block { IsTreeBlock session.now tree block }
     ensures tree { result.tree ≡ tree }

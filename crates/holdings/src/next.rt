@@ -16,7 +16,7 @@ use crate::run::Settled;
 use crate::settling::Piece;
 use hashtree::NoMemory;
 use node_maps::NodeMap;
-use session::Session;
+use session::{HoldsTorrent, SessionOf};
 
 impl Holdings {
     /// Settles what can be settled first of these pieces, in the order of their numbers, and says
@@ -27,9 +27,9 @@ impl Holdings {
     /// blocks are marked. Fails if memory was refused for a complete piece; then nothing has
     /// changed but that this piece is passed. Condition: there are more trees than the number of
     /// the pieces' tree.
-    pub fn settle_next<N: NodeMap>(
+    pub fn settle_next<T: HoldsTorrent, N: NodeMap>(
         &mut self,
-        session: &mut Session<'_, N>,
+        session: &mut SessionOf<T, N>,
         pieces: &mut Pieces,
     ) -> Result<Option<Settled>, NoMemory>
         requires { pieces.old.tree < length session.old.torrent.trees }
@@ -60,9 +60,9 @@ impl Holdings {
     }
 
     // Settles what can be settled first of one piece, if it is held.
-    fn settle_piece<N: NodeMap>(
+    fn settle_piece<T: HoldsTorrent, N: NodeMap>(
         &mut self,
-        session: &mut Session<'_, N>,
+        session: &mut SessionOf<T, N>,
         tree: usize,
         first: u64,
     ) -> Result<Option<Settled>, NoMemory>
@@ -91,9 +91,9 @@ impl Holdings {
     }
 
     // Settles what can be settled first of a held piece, which may be bare then.
-    fn settle_held<N: NodeMap>(
+    fn settle_held<T: HoldsTorrent, N: NodeMap>(
         &mut self,
-        session: &mut Session<'_, N>,
+        session: &mut SessionOf<T, N>,
         piece: Piece,
     ) -> Result<Option<Settled>, NoMemory>
         requires tree { piece.tree < length session.old.torrent.trees }
@@ -137,7 +137,12 @@ impl Holdings {
 }
 
 // Whether this many blocks of a tree, from one on, are a piece.
-fn is_piece<N: NodeMap>(session: &Session<'_, N>, tree: usize, first: u64, size: usize) -> bool
+fn is_piece<T: HoldsTorrent, N: NodeMap>(
+    session: &SessionOf<T, N>,
+    tree: usize,
+    first: u64,
+    size: usize,
+) -> bool
     requires { tree < length session.now.torrent.trees }
     ensures { IsTrue result ↔ HasPiece session.now tree first size }
 {

@@ -6,7 +6,7 @@ ghost use Rattle.session.specs.Layouts.{roots};
 ghost use Rattle.session.specs.Pieces.{piece_span};
 
 use node_maps::NodeMap;
-use session::Session;
+use session::{HoldsTorrent, SessionOf};
 
 /// Pieces of a tree that are still to be looked at: those that begin with block `from` or a later
 /// one, and before block `end`.
@@ -31,8 +31,8 @@ impl Pieces {
 
     /// The pieces that have a block among these: `count` of them, from block `first` on.
     /// Conditions: there are more than `tree` trees, and `first + count` is below 2^64.
-    pub fn of_blocks<N: NodeMap>(
-        session: &Session<'_, N>,
+    pub fn of_blocks<T: HoldsTorrent, N: NodeMap>(
+        session: &SessionOf<T, N>,
         tree: usize,
         first: u64,
         count: u64,

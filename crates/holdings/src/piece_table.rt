@@ -17,7 +17,7 @@ use crate::settling::{Piece, clear, settle};
 use fixed_maps::FixedMap;
 use hashtree::{Hash, NoMemory};
 use node_maps::NodeMap;
-use session::Session;
+use session::{HoldsTorrent, SessionOf};
 use slab::Slab;
 use std::alloc::Global;
 use std::marker::Model;
@@ -186,10 +186,10 @@ impl PieceTable {
     }
 
     /// Settles what can be settled first of a piece that is there.
-    pub(crate) fn settle_row<N: NodeMap>(
+    pub(crate) fn settle_row<T: HoldsTorrent, N: NodeMap>(
         &mut self,
         alloc: Global,
-        session: &mut Session<'_, N>,
+        session: &mut SessionOf<T, N>,
         piece: Piece,
     ) -> Result<Option<Settled>, NoMemory>
         requires tree { piece.tree < length session.old.torrent.trees }

@@ -10,7 +10,7 @@ use crate::run::{Run, Settled};
 use hashtree::{Hash, NoMemory};
 use node_maps::NodeMap;
 use partial_tree::PieceRefusal;
-use session::Session;
+use session::{HoldsTorrent, SessionOf};
 use std::alloc::Global;
 
 /// A piece: its tree, its first block there, and how many blocks it has.
@@ -25,10 +25,10 @@ pub(crate) struct Piece {
 /// marked, or one of them is given up; or all of a complete piece is joined to what is known, and
 /// its first run marked, or it is given up. `None` if nothing can be settled. Fails only if memory
 /// was refused for a complete piece, and then nothing has changed.
-pub(crate) fn settle<N: NodeMap>(
+pub(crate) fn settle<T: HoldsTorrent, N: NodeMap>(
     alloc: Global,
     cells: &mut [Option<Hash>],
-    session: &mut Session<'_, N>,
+    session: &mut SessionOf<T, N>,
     piece: Piece,
 ) -> Result<Option<Settled>, NoMemory>
     requires tree { piece.tree < length session.old.torrent.trees }
@@ -66,10 +66,10 @@ pub(crate) fn settle<N: NodeMap>(
 
 // Joins the leaves of a complete piece to what is known, and returns true; or false if they lead to
 // another node than the known one.
-fn join<N: NodeMap>(
+fn join<T: HoldsTorrent, N: NodeMap>(
     alloc: Global,
     cells: &[Option<Hash>],
-    session: &mut Session<'_, N>,
+    session: &mut SessionOf<T, N>,
     piece: Piece,
 ) -> Result<bool, NoMemory>
     requires tree { piece.tree < length session.old.torrent.trees }
@@ -90,9 +90,9 @@ fn join<N: NodeMap>(
 }
 
 // Judges a held block by its known leaf: marks it and those that follow, or gives it up.
-fn judge<N: NodeMap>(
+fn judge<T: HoldsTorrent, N: NodeMap>(
     cells: &mut [Option<Hash>],
-    session: &mut Session<'_, N>,
+    session: &mut SessionOf<T, N>,
     piece: Piece,
     from: usize,
 ) -> Settled
@@ -113,9 +113,9 @@ fn judge<N: NodeMap>(
 
 // Marks the held blocks of a piece from one on, while their digests are the known leaves, and
 // returns how many these are.
-fn mark_from<N: NodeMap>(
+fn mark_from<T: HoldsTorrent, N: NodeMap>(
     cells: &mut [Option<Hash>],
-    session: &mut Session<'_, N>,
+    session: &mut SessionOf<T, N>,
     piece: Piece,
     from: usize,
 ) -> usize
@@ -139,9 +139,9 @@ fn mark_from<N: NodeMap>(
 
 // Marks the leaf of a block of a piece, and holds nothing more of it, if the digest that is held is
 // its known leaf.
-fn mark_held<N: NodeMap>(
+fn mark_held<T: HoldsTorrent, N: NodeMap>(
     cells: &mut [Option<Hash>],
-    session: &mut Session<'_, N>,
+    session: &mut SessionOf<T, N>,
     piece: Piece,
     block: usize,
 ) -> bool
@@ -167,10 +167,10 @@ fn mark_held<N: NodeMap>(
 }
 
 // The leaves that a complete piece is tried with.
-fn leaves_of<N: NodeMap>(
+fn leaves_of<T: HoldsTorrent, N: NodeMap>(
     alloc: Global,
     cells: &[Option<Hash>],
-    session: &Session<'_, N>,
+    session: &SessionOf<T, N>,
     piece: Piece,
 ) -> Result<Vec<Hash>, NoMemory>
     requires tree { piece.tree < length session.now.torrent.trees }
@@ -188,9 +188,9 @@ fn leaves_of<N: NodeMap>(
 }
 
 // The leaf that a block of a piece is tried with: the digest that is held, or else the known one.
-fn tried<N: NodeMap>(
+fn tried<T: HoldsTorrent, N: NodeMap>(
     cells: &[Option<Hash>],
-    session: &Session<'_, N>,
+    session: &SessionOf<T, N>,
     piece: Piece,
     block: usize,
 ) -> Option<Hash>
@@ -207,7 +207,11 @@ fn tried<N: NodeMap>(
 
 // Whether each block of a piece is held or known. One that is missing is most often near the end,
 // since blocks mostly come in order.
-fn has_all<N: NodeMap>(cells: &[Option<Hash>], session: &Session<'_, N>, piece: Piece) -> bool
+fn has_all<T: HoldsTorrent, N: NodeMap>(
+    cells: &[Option<Hash>],
+    session: &SessionOf<T, N>,
+    piece: Piece,
+) -> bool
     requires tree { piece.tree < length session.now.torrent.trees }
     requires size { piece.size ≡ length cells.now }
     requires few { piece.first + piece.size < 2 ^ 64 }
@@ -223,7 +227,7 @@ fn has_all<N: NodeMap>(cells: &[Option<Hash>], session: &Session<'_, N>, piece: 
 }
 
 // Whether the hash of the node that covers a piece is known.
-fn knows_node<N: NodeMap>(session: &Session<'_, N>, piece: Piece) -> bool
+fn knows_node<T: HoldsTorrent, N: NodeMap>(session: &SessionOf<T, N>, piece: Piece) -> bool
     requires { piece.tree < length session.now.torrent.trees }
     ensures { IsTrue result ↔ IsNodeKnown session.now piece.tree piece.first }
 {
@@ -234,9 +238,9 @@ fn knows_node<N: NodeMap>(session: &Session<'_, N>, piece: Piece) -> bool
 }
 
 // The first held block of a piece whose leaf is known.
-fn first_known<N: NodeMap>(
+fn first_known<T: HoldsTorrent, N: NodeMap>(
     cells: &[Option<Hash>],
-    session: &Session<'_, N>,
+    session: &SessionOf<T, N>,
     piece: Piece,
 ) -> Option<usize>
     requires tree { piece.tree < length session.now.torrent.trees }
@@ -260,7 +264,11 @@ fn first_known<N: NodeMap>(
 }
 
 // The known leaf of a block of a piece.
-fn leaf_at<N: NodeMap>(session: &Session<'_, N>, piece: Piece, block: usize) -> Option<Hash>
+fn leaf_at<T: HoldsTorrent, N: NodeMap>(
+    session: &SessionOf<T, N>,
+    piece: Piece,
+    block: usize,
+) -> Option<Hash>
     requires tree { piece.tree < length session.now.torrent.trees }
     requires few { piece.first + block < 2 ^ 64 }
     ensures { result ≡ known_at session.now piece.tree 0 (piece.first + block) }
