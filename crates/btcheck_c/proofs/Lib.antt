@@ -1,6 +1,8 @@
 -- What proofs share.
 pub mod TwoFields
 pub mod Throughs
+pub mod TreeBlocks
+pub mod Taking
 pub mod HeldBlocks
 pub mod Placing
 pub mod FilePieces

@@ -2,7 +2,7 @@
 //!
 //! `bindings/c/btcheck.h` declares the exports, and says what C must keep. A handle is a [`Handle`]
 //! that holds nothing or one `Thing`: the builder of a root, or a session with its torrent. Each
-//! call takes the thing out of its handle, does its work in safe code, and puts it back; only
+//! call has the thing lent by its handle (`lending.rt`), and does its work in safe code; only
 //! `loose.rt` and `slot.rt` touch raw memory.
 #![tactic(auto)]
 
@@ -18,6 +18,7 @@ mod held;
 mod hold_calls;
 mod holding;
 mod keeping_calls;
+mod lending;
 mod loose;
 mod opening_calls;
 mod root_calls;
@@ -27,6 +28,7 @@ mod slot;
 mod thing;
 mod threads;
 mod torrent_calls;
+mod trees;
 mod version;
 
 pub use handle::Handle;

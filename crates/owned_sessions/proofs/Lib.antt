@@ -1,4 +1,0 @@
--- What proofs share.
-pub mod Torrents
-pub mod Trees
-pub mod Settlements
