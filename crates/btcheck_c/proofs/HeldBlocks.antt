@@ -1,25 +1,32 @@
 -- What is held beside a session, and how it is settled.
-use Rattle.std.proofs.Common.{◌≡◌, ℕ, Option, Some, None, Result, Ok, Err, refl, sym, inl, subst, ap}
+use Rattle.std.proofs.Common.{◌≡◌, ℕ, Option, Some, None, Result, Ok, Err, IfOk, IfSome, IfNone, OnErr, refl, sym, inl, subst, ap}
 use Rattle.session.specs.Session.{SessionSeen}
 use Rattle.holdings.specs.declared.piece_range.Pieces.{Pieces}
 use Rattle.holdings.specs.declared.run.Settled.{Settled}
 use Rattle.holdings.specs.Holdings.{HoldingsSeen}
-use Rattle.holdings.specs.Next.{LacksMemoryNext, SettlesNext}
-use Rattle.owned_sessions.specs.Held.{SettledNext}
+use Rattle.holdings.specs.Next.{AreUnsettled, LacksMemoryNext, SettlesNext}
 use Rattle.c_layouts.specs.Held.{HasSettled}
 use Rattle.c_layouts.specs.declared.held_info.RunInfo.{RunInfo}
-use Rattle.btcheck_c.specs.Held.{OnBoth, SettlesHeld}
+use Rattle.btcheck_c.specs.Held.{SettlesHeld}
 use Rattle.btcheck_c.specs.declared.held.Cursor.{Cursor}
 use Rattle.btcheck_c.specs.declared.held.Held.{Held}
-use Rattle.btcheck_c.specs.declared.thing.Kind.{Kind}
-use Rattle.btcheck_c.specs.declared.thing.Kind.TheVariants as kind
 
--- a call on a session and on holdings
-pub on_both : (P : SessionSeen → Held → ℕ → SessionSeen → Held → Type 0) (k l : Kind) (S S' : SessionSeen) (h h' : Held) (status : ℕ)
-    → k ≡ kind.Session S → l ≡ kind.Holdings h → P S h status S' h' → OnBoth P k l status (kind.Session S') (kind.Holdings h')
-on_both P k l S S' h h' status session holdings p =
-    subst (λ x. OnBoth P x l status (kind.Session S') (kind.Holdings h')) (sym session)
-    (subst (λ x. OnBoth P (kind.Session S) x status (kind.Session S') (kind.Holdings h')) (sym holdings) (S', (h', (refl, (refl, p)))))
+-- what can be settled first of some pieces is settled; or nothing of them can be; or memory is refused for one of them
+abbrev pub SettledNext : {E : Type 0} → SessionSeen → HoldingsSeen → Pieces → Result (Option Settled) E → SessionSeen → HoldingsSeen → Pieces → Type 0
+SettledNext S h p (Ok (Some e)) S' h' p' = SettlesNext S h p e S' h' p'
+SettledNext S h p (Ok None) S' h' p' = AreUnsettled S h p p.end × ((S' ≡ S) × (h' ≡ h))
+SettledNext S h p (Err e) S' h' p' = LacksMemoryNext S h p p' × ((S' ≡ S) × (h' ≡ h))
+
+-- the clauses of a settling as one statement
+pub settled_next : {E : Type 0} (S : SessionSeen) (h : HoldingsSeen) (p : Pieces) (answer : Result (Option Settled) E)
+    (S' : SessionSeen) (h' : HoldingsSeen) (p' : Pieces)
+    → IfOk answer (λ o. IfSome o (λ e. SettlesNext S h p e S' h' p')) → IfOk answer (λ o. IfNone o (AreUnsettled S h p p.end))
+    → IfOk answer (λ o. IfNone o (S' ≡ S)) → IfOk answer (λ o. IfNone o (h' ≡ h))
+    → OnErr answer (LacksMemoryNext S h p p') → OnErr answer (S' ≡ S) → OnErr answer (h' ≡ h)
+    → SettledNext S h p answer S' h' p'
+settled_next S h p (Ok (Some e)) S' h' p' settled unsettled session holdings lacks no_session no_holdings = settled
+settled_next S h p (Ok None) S' h' p' settled unsettled session holdings lacks no_session no_holdings = (unsettled, (session, holdings))
+settled_next S h p (Err e) S' h' p' settled unsettled session holdings lacks no_session no_holdings = (lacks, (no_session, no_holdings))
 
 abbrev with_holdings : Held → HoldingsSeen → Held
 with_holdings h x = record { holdings = x; cursor = h.cursor }

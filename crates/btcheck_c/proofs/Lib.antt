@@ -2,6 +2,8 @@
 pub mod TwoFields
 pub mod Drafts
 pub mod Throughs
+pub mod TreeBlocks
+pub mod Taking
 pub mod HeldBlocks
 pub mod Placing
 pub mod FilePieces

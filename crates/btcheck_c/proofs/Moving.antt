@@ -12,14 +12,13 @@ use Rattle.opening.specs.contracts.torrent.Torrent as Torrent
 use Rattle.pieces.proofs.v1_feed.V1.TheSendSync as version1
 use Rattle.pieces.proofs.piece_length.PieceLength.TheSendSync as piece_length
 use Rattle.node_maps.proofs.paged.Paged.TheSendSync as paged
-use Rattle.session.proofs.pausing.Paused.TheSendSync as paused
+use Rattle.session.proofs.session.SessionOf.TheSendSync as session_of
 use Rattle.short_pushes.proofs.row_check.RowCheck.TheSendSync as row_check
 use Rattle.short_pushes.proofs.file_root.FileRoot.TheSendSync as root
 use Rattle.hashtree.proofs.shape.Shape.TheSendSync as shape
 use Rattle.holdings.proofs.holdings.Holdings.TheSendSync as holdings
 use Rattle.drafting.proofs.open_draft.OpenDraft.TheSendSync as draft
 use Rattle.drafting.proofs.coming_file.ComingFile.TheSendSync as coming
-use Rattle.owned_sessions.specs.contracts.owned_session.OwnedSession as OwnedSession
 use Rattle.btcheck_c.specs.contracts.file_check.FileCheck as FileCheck
 use Rattle.btcheck_c.specs.contracts.held.Held as Held
 use Rattle.btcheck_c.specs.contracts.thing.Kind as Kind
@@ -35,9 +34,6 @@ file κ = search (path, sendable) depth 40 fits 100000
 torrent : (κ : NamedLft) → IsSend (Torrent.the_row κ)
 torrent κ = search (file, tree_info.the_send, version1.the_send, piece_length.the_send, maps.crosses, heap.crosses, sendable) depth 40 fits 100000
 
-session : IsSend OwnedSession.the_row
-session = search (torrent, paused.the_send, paged.the_send, sendable) depth 30 fits 100000
-
 check : IsSend FileCheck.the_row
 check = search (row_check.the_field_send, declared_send, as_row_send, sendable) depth 30 fits 100000
 
@@ -45,7 +41,7 @@ held : IsSend Held.the_row
 held = search (holdings.the_send, declared_send, as_row_send, sendable) depth 30 fits 100000
 
 kind : IsSend Kind.the_row
-kind = search (session, root.the_field_send, check, held, draft.the_send, coming.the_field_send, variants_send, as_row_send, sendable) depth 30 fits 100000
+kind = search (session_of.the_send, torrent, paged.the_send, root.the_field_send, check, held, draft.the_send, coming.the_field_send, variants_send, as_row_send, sendable) depth 40 fits 100000
 
 pub thing : IsSend Thing.the_row
 thing = search (kind, declared_send, sendable) depth 30 fits 100000

@@ -1,5 +1,5 @@
 -- The beginning of the check of a file.
-use Rattle.std.proofs.Common.{◌≡◌, ℕ, ◌<◌, List, length, map, get_or, Option, Some, None, Result, Ok, Err, IfOk, refl, sym, ap, subst, inr, arith}
+use Rattle.std.proofs.Common.{◌≡◌, ℕ, ◌<◌, List, length, map, get_or, Option, Some, None, Result, Ok, Err, IfOk, refl, sym, ap, ◌∙◌, subst, inr, arith}
 use Rattle.std.specs.Prelude.{slice_get}
 use Rattle.std.proofs.lemmas.List.{length-map}
 use Rattle.std.proofs.lemmas.Option.{none-some, slice_get-get_or, slice_get_within}
@@ -8,29 +8,27 @@ use Rattle.opening.specs.Description.{Description, FileEntry, TreeEntry}
 use Rattle.opening.specs.Seen.{tree_entry}
 use Rattle.opening.specs.Sound.{IsSound, IsSoundFile, IsSoundTree}
 use Rattle.opening.specs.declared.torrent.TreeInfo.{TreeInfo}
-use Rattle.owned_sessions.proofs.Trees.{tree_at}
+use Rattle.btcheck_c.proofs.TreeBlocks.{tree_at}
 use Rattle.pieces.specs.Pieces.{pieces_of}
 use Rattle.btcheck_c.specs.CheckCalls.{ChecksFile, ChecksPieces, HasPieces, IsFileTree}
 use Rattle.btcheck_c.specs.FileChecks.{BeginsFile}
 use Rattle.btcheck_c.specs.declared.file_check.FileCheck.{FileCheck}
-use Rattle.btcheck_c.specs.Holds.{Kept, Started}
+use Rattle.btcheck_c.specs.Holds.{Begun, Kept, Started}
 use Rattle.btcheck_c.specs.declared.thing.Kind.{Kind}
 use Rattle.btcheck_c.specs.declared.thing.Thing.{Thing}
 
--- the other handle holds nothing
-pub start_none : {A : Type 0} (wrap : A → Kind) (P : Kind → Result A ℕ → Kind → Type 0) (o h o' : Option Thing) → h ≡ None → o ≡ None → o' ≡ None
-    → Started wrap P o h 1 h o'
-start_none wrap P None None o' free none left = (Err 1, ((refl, left), (refl, refl)))
-start_none wrap P (Some t) None o' free none left = absurd (none-some t (sym none))
-start_none wrap P o (Some t) o' free none left = absurd (none-some t (sym free))
-
 -- the thing that was taken out of the other handle is lent to the call, and goes back
-pub start_done : {A : Type 0} (wrap : A → Kind) (P : Kind → Result A ℕ → Kind → Type 0) (o h h' o' : Option Thing) (t lent t' : Thing) (made : Result A ℕ)
-    (status : ℕ) → h ≡ None → Some t ≡ o → o' ≡ Some t' → lent ≡ t → P lent.kind made t'.kind → Kept wrap made status h' → Started wrap P o h status h' o'
-start_done wrap P o None h' o' t lent t' made status free is is' same starts kept =
-    subst (λ w. Started wrap P w None status h' o') is
-    (made, ((t', is', subst (λ (s : Thing). P s.kind made t'.kind) same starts), kept))
-start_done wrap P o (Some u) h' o' t lent t' made status free is is' same starts kept = absurd (none-some u (sym free))
+pub begins : {A : Type 0} (P : Kind → Result A ℕ → Kind → Type 0) (o o' : Option Thing) (t lent : Thing) (k k' : Kind) (made : Result A ℕ)
+    → Some t ≡ o → lent ≡ t → lent.kind ≡ k → o' ≡ Some (record { kind = k' }) → P k made k' → Begun P o made o'
+begins P o o' t lent k k' made is same kind is' p =
+    subst (λ w. Begun P w made o') is
+    (record { kind = k' }, is', subst (λ x. P x made k') (sym kind ∙ ap (λ (s : Thing). s.kind) same) p)
+
+-- what was begun is kept in a handle that held nothing
+pub started : {A : Type 0} (wrap : A → Kind) (P : Kind → Result A ℕ → Kind → Type 0) (o h h' o' : Option Thing) (made : Result A ℕ) (status : ℕ)
+    → h ≡ None → Begun P o made o' → Kept wrap made status h' → Started wrap P o h status h' o'
+started wrap P o None h' o' made status free begun kept = (made, (begun, kept))
+started wrap P o (Some u) h' o' made status free begun kept = absurd (none-some u (sym free))
 
 -- the tree of a file is there, and sound
 pub info_inside : (d : Description) (infos : List TreeInfo) (f : FileEntry) (n : ℕ) → map tree_entry infos ≡ d.trees → IsSoundFile d f → f.tree ≡ Some n

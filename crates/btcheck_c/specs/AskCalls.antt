@@ -7,7 +7,7 @@ use Rattle.partial_tree.specs.declared.answer.Answer.TheVariants as answer
 use Rattle.node_maps.specs.Digest.{Hash}
 use Rattle.session.specs.Session.{SessionSeen, IsAnswered}
 use Rattle.wire.specs.declared.message.Ask.{Ask}
-use Rattle.owned_sessions.specs.Taken.{AnswerTaken, AskNoted, AnswerGiven, HasTreeBlock, WantIs}
+use Rattle.btcheck_c.specs.Taken.{AnswerTaken, AskNoted, AnswerGiven, HasTreeBlock, WantIs}
 use Rattle.c_layouts.specs.Asks.{asked_of}
 use Rattle.btcheck_c.specs.Holds.{IsWrongKind}
 use Rattle.c_layouts.specs.Statuses.{HasHashes, IsAnswer}

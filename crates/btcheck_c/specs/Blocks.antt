@@ -5,7 +5,7 @@ use Rattle.session.specs.Blocks.{BlocksSeen}
 use Rattle.session.specs.Session.{SessionSeen}
 use Rattle.c_layouts.specs.Blocks.{HasBlocks}
 use Rattle.c_layouts.specs.declared.blocks_info.BlocksInfo.{BlocksInfo}
-use Rattle.owned_sessions.specs.Taken.{BlocksTaken}
+use Rattle.btcheck_c.specs.Taken.{BlocksTaken}
 use Rattle.btcheck_c.specs.Holds.{IsWrongKind}
 use Rattle.btcheck_c.specs.declared.thing.Kind.{Kind}
 use Rattle.btcheck_c.specs.declared.thing.Kind.TheVariants as kind

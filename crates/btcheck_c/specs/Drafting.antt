@@ -74,6 +74,14 @@ OnDraft P (kind.Draft d) (kind.File f) status k' l' = (e : Outline) × ((g : Com
     × ((k' ≡ kind.Draft e) × ((l' ≡ kind.File g) × P d f status e g)))
 OnDraft P k l status k' l' = (status ≡ 1) × ((k' ≡ k) × (l' ≡ l))
 
+-- a call on a draft, and on what another handle holds: where that one has no file, draft and handle
+-- stay as they are, and the status is 1
+abbrev pub WithFile : (Outline → ComingFile → ℕ → Outline → ComingFile → Type 0) → Outline
+    → Option Thing → ℕ → Outline → Option Thing → Type 0
+WithFile P d None status e q' = (status ≡ 1) × ((e ≡ d) × (q' ≡ None))
+WithFile P d (Some u) status e q' = (u' : Thing) × ((q' ≡ Some u')
+    × OnDraft P (kind.Draft d) u.kind status (kind.Draft e) u'.kind)
+
 -- ---- the torrent
 
 -- the text of the torrent is written, or has no room; or memory for it was refused, or the first

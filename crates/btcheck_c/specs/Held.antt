@@ -1,6 +1,6 @@
 -- What is held beside a session of blocks that cannot be proved yet, and how it is settled, as the
 -- calls have it.
-use Rattle.std.specs.Prelude.{◌≡◌, ◌⊎◌, ℕ, zero, suc, ◌+◌, ◌-◌, ◌/◌, ◌^◌, ◌≤◌, List, length, slice_get, Option, Some, None, Result, Ok, Err}
+use Rattle.std.specs.Prelude.{◌≡◌, ◌⊎◌, ℕ, zero, suc, ◌+◌, ◌-◌, ◌/◌, ◌%◌, ◌^◌, ◌≤◌, List, length, slice_get, Option, Some, None, Result, Ok, Err}
 use Rattle.std.specs.FinMap.{empty}
 use Rattle.hashtree.specs.Tree.{block}
 use Rattle.opening.specs.Blocks.{IsBlockRun}
@@ -11,6 +11,7 @@ use Rattle.partial_tree.specs.declared.refusal.BlockRefusal.{BlockRefusal}
 use Rattle.partial_tree.specs.declared.refusal.BlockRefusal.TheVariants.{Unproved}
 use Rattle.session.specs.Blocks.{BlocksSeen}
 use Rattle.session.specs.Layouts.{roots, tree_of}
+use Rattle.session.specs.Pieces.{piece_span}
 use Rattle.session.specs.Session.{SessionSeen}
 use Rattle.holdings.specs.declared.holding.Hold.{Hold}
 use Rattle.holdings.specs.declared.piece_range.Pieces.{Pieces}
@@ -18,8 +19,7 @@ use Rattle.holdings.specs.declared.run.Settled.{Settled}
 use Rattle.holdings.specs.Holding.{IsHeldBy}
 use Rattle.holdings.specs.Holdings.{HoldingsSeen, held_count, most_pieces}
 use Rattle.holdings.specs.Next.{AreUnsettled, LacksMemoryNext, SettlesNext}
-use Rattle.owned_sessions.specs.Held.{ArePiecesOf}
-use Rattle.owned_sessions.specs.Taken.{BlocksTaken}
+use Rattle.btcheck_c.specs.Taken.{BlocksTaken}
 use Rattle.c_layouts.specs.Held.{with_hold, HasSettled, IsUnheld}
 use Rattle.c_layouts.specs.declared.held_info.HeldInfo.{HeldInfo}
 use Rattle.c_layouts.specs.declared.held_info.RunInfo.{RunInfo}
@@ -79,6 +79,15 @@ EntriesHeld S n v bytes zero h out h' out' = (h' ≡ h) × (out' ≡ out)
 EntriesHeld S n v bytes (suc m) h out h' out' = (between : HoldingsSeen) × ((so_far : HeldInfo)
     × (EntriesHeld S n v bytes m h out between so_far × ((r : Option BlockRefusal)
     × ((slice_get v.refusals m ≡ Some r) × EntryHeld S n v bytes m r between so_far h' out'))))
+
+-- the pieces that have one of `count` blocks of tree n, from block `first` on
+pub record ArePiecesOf (S : SessionSeen) (n first count : ℕ) (p : Pieces) : Type 0 where
+  pub tree_is : p.tree ≡ n
+  pub tree : TreeRoot
+  pub there : slice_get (roots S) n ≡ Some tree
+  pub from_is : p.from
+      ≡ first - first % 2 ^ piece_span S.torrent.piece_length tree.length
+  pub end_is : p.end ≡ first + count
 
 -- the blocks of a message that cannot be proved yet are held, in their order; and the pieces that
 -- have a block of the message are looked at next
@@ -150,3 +159,11 @@ abbrev pub OnBoth : (SessionSeen → Held → ℕ → SessionSeen → Held → T
 OnBoth P (kind.Session S) (kind.Holdings h) status k' l' = (S' : SessionSeen) × ((h' : Held)
     × ((k' ≡ kind.Session S') × ((l' ≡ kind.Holdings h') × P S h status S' h')))
 OnBoth P k l status k' l' = (status ≡ 1) × ((k' ≡ k) × (l' ≡ l))
+
+-- a call on a session, and on what another handle holds: where that one has no holdings, session
+-- and handle stay as they are, and the status is 1
+abbrev pub WithHoldings : (SessionSeen → Held → ℕ → SessionSeen → Held → Type 0) → SessionSeen
+    → Option Thing → ℕ → SessionSeen → Option Thing → Type 0
+WithHoldings P S None status S' q' = (status ≡ 1) × ((S' ≡ S) × (q' ≡ None))
+WithHoldings P S (Some u) status S' q' = (u' : Thing) × ((q' ≡ Some u')
+    × OnBoth P (kind.Session S) u.kind status (kind.Session S') u'.kind)

@@ -6,7 +6,7 @@ use Rattle.session.specs.Session.{SessionSeen, IsAnswered}
 use Rattle.session.specs.SafeStep.{IsAnswerFrom}
 use Rattle.session_exports.specs.declared.next.Export.{Export}
 use Rattle.session_exports.specs.Exports.{IsExport, NothingFrom, point_after}
-use Rattle.owned_sessions.specs.Taken.{LayerTaken}
+use Rattle.btcheck_c.specs.Taken.{LayerTaken}
 use Rattle.c_layouts.specs.Cursors.{cursor_of, point_of}
 use Rattle.c_layouts.specs.HashesFrames.{HasFrame}
 use Rattle.c_layouts.specs.Statuses.{HasHashes}

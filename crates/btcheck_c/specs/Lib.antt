@@ -1,6 +1,8 @@
 -- What C's handles own and hold, and what calls do to what they hold.
 pub mod Owning
 pub mod Holds
+pub mod TreeStates
+pub mod Taken
 pub mod RootCalls
 pub mod Openings
 pub mod SessionCalls

@@ -8,8 +8,8 @@ use Rattle.partial_tree.specs.declared.refusal.BlockRefusal.{BlockRefusal}
 use Rattle.partial_tree.specs.declared.refusal.PieceRefusal.{PieceRefusal}
 use Rattle.session.specs.Session.{SessionSeen}
 use Rattle.wire.specs.declared.message.Ask.{Ask}
-use Rattle.owned_sessions.specs.Taken.{HashesTaken, BlockTaken, HasTreeBlock, PieceTaken}
-use Rattle.owned_sessions.specs.TreeStates.{HasState}
+use Rattle.btcheck_c.specs.Taken.{HashesTaken, BlockTaken, HasTreeBlock, PieceTaken}
+use Rattle.btcheck_c.specs.TreeStates.{HasState}
 use Rattle.btcheck_c.specs.Holds.{IsWrongKind}
 use Rattle.c_layouts.specs.Statuses.{HasHashes, HasBlock, HasPiece, IsAnswer}
 use Rattle.btcheck_c.specs.declared.thing.Kind.{Kind}

@@ -5,14 +5,20 @@ ghost use Rattle.partial_tree.specs.declared.answer.Answer.{Answer as Given};
 ghost use Rattle.c_layouts.specs.Asks.{ask_of};
 ghost use Rattle.btcheck_c.specs.AskCalls.{HasWant, Wants, HasNote, Notes, TakesAnswer, HasAnswer, Answers, AnswersIfAnswered};
 ghost use Rattle.btcheck_c.specs.Holds.{Through};
+ghost use Rattle.btcheck_c.specs.Taken.{AnswerGiven, AskNoted};
+ghost use Rattle.btcheck_c.specs.declared.thing.Kind.TheVariants as kind;
 
 use crate::handle::Handle;
-use crate::thing::{Kind, Thing};
+use crate::lending::lend;
+use crate::thing::Kind;
+use crate::trees::has_block;
 use c_layouts::asked::{Asked, lay_out, read_ask};
 use c_layouts::status::{
     DONE, NO_MEMORY, NO_SUCH, NOTHING, TOO_SMALL, WRONG_HANDLE, status_of_answer, status_of_hashes,
 };
+use node_maps::Paged;
 use partial_tree::Answer;
+use session::OwnedSession;
 use std::alloc::Global;
 use wire::{Ask, Hash};
 
@@ -56,61 +62,65 @@ fn write_answer(answer: &Option<Answer>, room: &mut [Hash], count: &mut u64) -> 
     }
 }
 
-fn want(thing: &mut Thing, tree: usize, block: u64, asked: &mut Asked) -> u32
-    ensures done { Wants tree block asked.new thing.old.kind result thing.new.kind }
+// Whether an ask is open now: not if memory was refused for it.
+fn note_ask(session: &mut OwnedSession<Paged>, ask: &Ask) -> bool
+    ensures { AskNoted session.old ask.now result session.new }
+{
+    session.note(ask).is_ok()
+}
+
+// What a session answers: `None` only if memory was refused.
+fn answer_to(session: &OwnedSession<Paged>, ask: &Ask) -> Option<Answer>
+    ensures { AnswerGiven session.now ask.now result }
+{
+    session.answer(ask).ok()
+}
+
+fn want(session: &OwnedSession<Paged>, tree: usize, block: u64, asked: &mut Asked) -> u32
+    ensures done { Wants tree block asked.new (kind.Session session.now) result
+        (kind.Session session.now) }
     ensures unwritten { result ≢ 0 → asked.new ≡ asked.old }
 {
-    match &mut thing.kind {
-        Kind::Session(session) => {
-            if session.has_block(tree, block) {
-                write_want(session.want(tree, block), asked)
-            } else {
-                NO_SUCH
-            }
-        }
-        _ => WRONG_HANDLE,
+    if has_block(session.torrent(), tree, block) {
+        write_want(session.want(tree, block), asked)
+    } else {
+        NO_SUCH
     }
 }
 
-fn note(thing: &mut Thing, ask: &Ask) -> u32
-    ensures { Notes ask.now thing.old.kind result thing.new.kind }
+fn note(session: &mut OwnedSession<Paged>, ask: &Ask) -> u32
+    ensures { Notes ask.now (kind.Session session.old) result (kind.Session session.new) }
 {
-    match &mut thing.kind {
-        Kind::Session(session) => status_of_note(session.note(ask)),
-        _ => WRONG_HANDLE,
-    }
+    status_of_note(note_ask(session, ask))
 }
 
-fn take_answer(thing: &mut Thing, ask: &Ask, hashes: &[Hash], places: &mut u64) -> u32
-    ensures done { TakesAnswer ask.now hashes.now places.new thing.old.kind result
-        thing.new.kind }
+fn take_answer(
+    session: &mut OwnedSession<Paged>,
+    ask: &Ask,
+    hashes: &[Hash],
+    places: &mut u64,
+) -> u32
+    ensures done { TakesAnswer ask.now hashes.now places.new (kind.Session session.old) result
+        (kind.Session session.new) }
     ensures unwritten { result ≢ 0 → places.new ≡ places.old }
 {
-    match &mut thing.kind {
-        Kind::Session(session) => status_of_hashes(session.take_answer(ask, hashes), places),
-        _ => WRONG_HANDLE,
-    }
+    status_of_hashes(session.take_answer(ask, hashes), places)
 }
 
-fn answer(thing: &mut Thing, ask: &Ask, room: &mut [Hash], count: &mut u64) -> u32
-    ensures done { Answers ask.now room.old room.new count.new thing.old.kind result
-        thing.new.kind }
+fn answer(session: &OwnedSession<Paged>, ask: &Ask, room: &mut [Hash], count: &mut u64) -> u32
+    ensures done { Answers ask.now room.old room.new count.new (kind.Session session.now) result
+        (kind.Session session.now) }
     ensures unwritten { result ≢ 0 → (room.new ≡ room.old)
         × (result ≢ 7 → count.new ≡ count.old) }
 {
-    match &mut thing.kind {
-        Kind::Session(session) => write_answer(&session.answer(ask), room, count),
-        _ => WRONG_HANDLE,
-    }
+    write_answer(&answer_to(session, ask), room, count)
 }
 
-fn can_answer(thing: &mut Thing, ask: &Ask) -> u32
-    ensures { AnswersIfAnswered ask.now thing.old.kind result thing.new.kind }
+fn can_answer(session: &OwnedSession<Paged>, ask: &Ask) -> u32
+    ensures { AnswersIfAnswered ask.now (kind.Session session.now) result
+        (kind.Session session.now) }
 {
-    match &mut thing.kind {
-        Kind::Session(session) => status_of_answer(session.can_answer(ask)),
-        _ => WRONG_HANDLE,
-    }
+    status_of_answer(session.can_answer(ask))
 }
 
 /// Writes what to ask for next to learn the leaf of a block of a tree. Status 1: the handle holds
@@ -128,12 +138,7 @@ pub extern "C" fn btcheck_session_want(
         handle.new.slot.held }
     ensures unwritten { result ≢ 0 → asked.new ≡ asked.old }
 {
-    let Some(mut thing) = handle.take(alloc) else {
-        return WRONG_HANDLE;
-    };
-    let status = want(&mut thing, tree, block, asked);
-    handle.put(thing);
-    status
+    lend!(handle, alloc, Session(session) => want(session, tree, block, asked))
 }
 
 /// Notes that a request with these fields was sent. Status 1: the handle holds no session. Status
@@ -143,12 +148,7 @@ pub extern "C" fn btcheck_session_note(alloc: Global, handle: &mut Handle, asked
     ensures { Through (Notes (ask_of asked.now)) handle.old.slot.held result
         handle.new.slot.held }
 {
-    let Some(mut thing) = handle.take(alloc) else {
-        return WRONG_HANDLE;
-    };
-    let status = note(&mut thing, &read_ask(asked));
-    handle.put(thing);
-    status
+    lend!(handle, alloc, Session(session) => note(session, &read_ask(asked)))
 }
 
 /// Takes a hashes message that answers a noted request, and writes how many places are newly known.
@@ -165,12 +165,7 @@ pub extern "C" fn btcheck_session_take_answer(
         handle.old.slot.held result handle.new.slot.held }
     ensures unwritten { result ≢ 0 → places.new ≡ places.old }
 {
-    let Some(mut thing) = handle.take(alloc) else {
-        return WRONG_HANDLE;
-    };
-    let status = take_answer(&mut thing, &read_ask(asked), hashes, places);
-    handle.put(thing);
-    status
+    lend!(handle, alloc, Session(session) => take_answer(session, &read_ask(asked), hashes, places))
 }
 
 /// Writes the hashes that answer a request to the front of the room, and how many they are. Status
@@ -189,12 +184,7 @@ pub extern "C" fn btcheck_session_answer(
     ensures unwritten { result ≢ 0 → (room.new ≡ room.old)
         × (result ≢ 7 → count.new ≡ count.old) }
 {
-    let Some(mut thing) = handle.take(alloc) else {
-        return WRONG_HANDLE;
-    };
-    let status = answer(&mut thing, &read_ask(asked), room, count);
-    handle.put(thing);
-    status
+    lend!(handle, alloc, Session(session) => answer(session, &read_ask(asked), room, count))
 }
 
 /// Whether the hashes that a request asks for are known. Status 1: the handle holds no session.
@@ -208,10 +198,5 @@ pub extern "C" fn btcheck_session_can_answer(
     ensures { Through (AnswersIfAnswered (ask_of asked.now)) handle.old.slot.held result
         handle.new.slot.held }
 {
-    let Some(mut thing) = handle.take(alloc) else {
-        return WRONG_HANDLE;
-    };
-    let status = can_answer(&mut thing, &read_ask(asked));
-    handle.put(thing);
-    status
+    lend!(handle, alloc, Session(session) => can_answer(session, &read_ask(asked)))
 }

@@ -4,33 +4,43 @@ ghost use Rattle.std.specs.Prelude.{◌≡◌, ◌≢◌};
 ghost use Rattle.btcheck_c.specs.Blocks.{TakesBlocks};
 ghost use Rattle.btcheck_c.specs.SessionCalls.{TakesPiece};
 ghost use Rattle.btcheck_c.specs.Holds.{Through};
+ghost use Rattle.btcheck_c.specs.declared.thing.Kind.TheVariants as kind;
 
 use crate::handle::Handle;
-use crate::thing::{Kind, Thing};
+use crate::lending::lend;
+use crate::thing::Kind;
 use c_layouts::blocks_info::{BlocksInfo, write_blocks};
 use c_layouts::status::{WRONG_HANDLE, status_of_piece};
+use node_maps::Paged;
+use session::OwnedSession;
 use std::alloc::Global;
 
-fn take_blocks(thing: &mut Thing, index: u32, begin: u32, bytes: &[u8], out: &mut BlocksInfo) -> u32
-    ensures done { TakesBlocks index begin bytes.now out.new thing.old.kind result
-        thing.new.kind }
+fn take_blocks(
+    session: &mut OwnedSession<Paged>,
+    index: u32,
+    begin: u32,
+    bytes: &[u8],
+    out: &mut BlocksInfo,
+) -> u32
+    ensures done { TakesBlocks index begin bytes.now out.new (kind.Session session.old) result
+        (kind.Session session.new) }
     ensures unwritten { result ≢ 0 → out.new ≡ out.old }
 {
-    match &mut thing.kind {
-        Kind::Session(session) => write_blocks(session.take_blocks(index, begin, bytes), out),
-        _ => WRONG_HANDLE,
-    }
+    write_blocks(session.take_blocks(index, begin, bytes), out)
 }
 
-fn take_piece(thing: &mut Thing, index: u32, bytes: &[u8], file: &mut u64, block: &mut u64) -> u32
-    ensures done { TakesPiece index bytes.now file.new block.new thing.old.kind result
-        thing.new.kind }
+fn take_piece(
+    session: &mut OwnedSession<Paged>,
+    index: u32,
+    bytes: &[u8],
+    file: &mut u64,
+    block: &mut u64,
+) -> u32
+    ensures done { TakesPiece index bytes.now file.new block.new (kind.Session session.old) result
+        (kind.Session session.new) }
     ensures unwritten { result ≢ 0 → (file.new ≡ file.old) × (block.new ≡ block.old) }
 {
-    match &mut thing.kind {
-        Kind::Session(session) => status_of_piece(session.take_piece(index, bytes), file, block),
-        _ => WRONG_HANDLE,
-    }
+    status_of_piece(session.take_piece(index, bytes), file, block)
 }
 
 /// Takes the blocks of a piece message, at most 17, and writes which they are and what is made of
@@ -49,12 +59,7 @@ pub extern "C" fn btcheck_session_take_blocks(
         handle.new.slot.held }
     ensures unwritten { result ≢ 0 → out.new ≡ out.old }
 {
-    let Some(mut thing) = handle.take(alloc) else {
-        return WRONG_HANDLE;
-    };
-    let status = take_blocks(&mut thing, index, begin, bytes, out);
-    handle.put(thing);
-    status
+    lend!(handle, alloc, Session(session) => take_blocks(session, index, begin, bytes, out))
 }
 
 /// Takes the bytes of a whole piece, of which the file's last one may be shorter, and writes the
@@ -75,10 +80,5 @@ pub extern "C" fn btcheck_session_take_piece(
         result handle.new.slot.held }
     ensures unwritten { result ≢ 0 → (file.new ≡ file.old) × (block.new ≡ block.old) }
 {
-    let Some(mut thing) = handle.take(alloc) else {
-        return WRONG_HANDLE;
-    };
-    let status = take_piece(&mut thing, index, bytes, file, block);
-    handle.put(thing);
-    status
+    lend!(handle, alloc, Session(session) => take_piece(session, index, bytes, file, block))
 }

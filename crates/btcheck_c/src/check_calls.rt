@@ -3,86 +3,72 @@
 
 ghost use Rattle.std.specs.Prelude.{◌≡◌, ◌≢◌, None, length};
 ghost use Rattle.btcheck_c.specs.CheckCalls.{StartsCheck, StartsPieces, CheckStarted, PushesFile, PushesBits, HasBadPiece, EndsCheck, EndsBits};
-ghost use Rattle.btcheck_c.specs.Holds.{Through};
+ghost use Rattle.btcheck_c.specs.Holds.{Begun, Through};
+ghost use Rattle.btcheck_c.specs.declared.thing.Kind.TheVariants as kind;
 
 use crate::check_starts::{begun, pieces_check_of};
 use crate::file_check::FileCheck;
 use crate::handle::Handle;
-use crate::thing::{Kind, Thing};
+use crate::lending::lend;
+use crate::thing::Kind;
 use c_layouts::status::{BAD_PIECE, DONE, TOO_LONG, TOO_SHORT, WRONG_HANDLE};
 use std::alloc::Global;
 
-fn start_check(alloc: Global, thing: &mut Thing, number: usize) -> Result<FileCheck, u32>
-    ensures { StartsCheck number thing.old.kind result thing.new.kind }
+fn start_check(alloc: Global, session: &mut Handle, number: usize) -> Result<FileCheck, u32>
+    ensures { Begun (StartsCheck number) session.old.slot.held result session.new.slot.held }
 {
-    match &mut thing.kind {
-        Kind::Session(session) => begun(alloc, session.torrent(), number),
-        _ => Err(WRONG_HANDLE),
-    }
+    lend!(session, alloc, Session(lent) => begun(alloc, lent.torrent(), number),
+        else Err(WRONG_HANDLE))
 }
 
 fn start_pieces(
     alloc: Global,
-    thing: &mut Thing,
+    session: &mut Handle,
     number: usize,
     from: u64,
     to: u64,
 ) -> Result<FileCheck, u32>
-    ensures { StartsPieces number from to thing.old.kind result thing.new.kind }
+    ensures { Begun (StartsPieces number from to) session.old.slot.held result
+        session.new.slot.held }
 {
-    match &mut thing.kind {
-        Kind::Session(session) => pieces_check_of(alloc, session.torrent(), number, from, to),
-        _ => Err(WRONG_HANDLE),
-    }
+    lend!(session, alloc, Session(lent) => pieces_check_of(alloc, lent.torrent(), number, from, to),
+        else Err(WRONG_HANDLE))
 }
 
-fn push_file(thing: &mut Thing, bytes: &[u8], good: &mut [u8]) -> u32
-    ensures done { PushesBits bytes.now good.old good.new thing.old.kind result thing.new.kind }
+fn push_file(check: &mut FileCheck, bytes: &[u8], good: &mut [u8]) -> u32
+    ensures done { PushesBits bytes.now good.old good.new (kind.Check check.old) result
+        (kind.Check check.new) }
     ensures unwritten { result ≢ 0 → good.new ≡ good.old }
     ensures size { length good.new ≡ length good.old }
 {
-    match &mut thing.kind {
-        Kind::Check(check) => {
-            if bytes.len() as u64 > check.left() {
-                return TOO_LONG;
-            }
-            check.push(bytes, good);
-            DONE
-        }
-        _ => WRONG_HANDLE,
+    if bytes.len() as u64 > check.left() {
+        return TOO_LONG;
     }
+    check.push(bytes, good);
+    DONE
 }
 
-fn finish_file(thing: &mut Thing, piece: &mut u64) -> u32
-    ensures done { EndsCheck piece.new thing.old.kind result thing.new.kind }
+fn finish_file(check: &mut FileCheck, piece: &mut u64) -> u32
+    ensures done { EndsCheck piece.new (kind.Check check.old) result (kind.Check check.new) }
     ensures unwritten { result ≢ 10 → piece.new ≡ piece.old }
 {
-    match &mut thing.kind {
-        Kind::Check(check) => {
-            if check.left() > 0 {
-                return TOO_SHORT;
-            }
-            write_piece(check.finish(&mut []), piece)
-        }
-        _ => WRONG_HANDLE,
+    if check.left() > 0 {
+        return TOO_SHORT;
     }
+    write_piece(check.finish(&mut []), piece)
 }
 
-fn finish_bits(thing: &mut Thing, piece: &mut u64, good: &mut [u8]) -> u32
-    ensures done { EndsBits good.old good.new piece.new thing.old.kind result thing.new.kind }
+fn finish_bits(check: &mut FileCheck, piece: &mut u64, good: &mut [u8]) -> u32
+    ensures done { EndsBits good.old good.new piece.new (kind.Check check.old) result
+        (kind.Check check.new) }
     ensures unwritten { result ≢ 10 → piece.new ≡ piece.old }
     ensures size { length good.new ≡ length good.old }
 {
-    match &mut thing.kind {
-        Kind::Check(check) => {
-            if check.left() == 0 {
-                return write_piece(check.finish(good), piece);
-            }
-            check.stop(good);
-            TOO_SHORT
-        }
-        _ => WRONG_HANDLE,
+    if check.left() == 0 {
+        return write_piece(check.finish(good), piece);
     }
+    check.stop(good);
+    TOO_SHORT
 }
 
 // The status of a check, and the first bad piece.
@@ -117,12 +103,7 @@ pub extern "C" fn btcheck_check_new(
     if handle.is_full() {
         return WRONG_HANDLE;
     }
-    let Some(mut thing) = session.take(alloc) else {
-        return WRONG_HANDLE;
-    };
-    let started = start_check(alloc, &mut thing, number);
-    session.put(thing);
-    match started {
+    match start_check(alloc, session, number) {
         Err(status) => status,
         Ok(check) => handle.fill(alloc, Kind::Check(check)),
     }
@@ -146,12 +127,7 @@ pub extern "C" fn btcheck_check_new_pieces(
     if handle.is_full() {
         return WRONG_HANDLE;
     }
-    let Some(mut thing) = session.take(alloc) else {
-        return WRONG_HANDLE;
-    };
-    let started = start_pieces(alloc, &mut thing, number, from, to);
-    session.put(thing);
-    match started {
+    match start_pieces(alloc, session, number, from, to) {
         Err(status) => status,
         Ok(check) => handle.fill(alloc, Kind::Check(check)),
     }
@@ -163,12 +139,7 @@ pub extern "C" fn btcheck_check_new_pieces(
 pub extern "C" fn btcheck_check_push(alloc: Global, handle: &mut Handle, bytes: &[u8]) -> u32
     ensures { Through (PushesFile bytes.now) handle.old.slot.held result handle.new.slot.held }
 {
-    let Some(mut thing) = handle.take(alloc) else {
-        return WRONG_HANDLE;
-    };
-    let status = push_file(&mut thing, bytes, &mut []);
-    handle.put(thing);
-    status
+    lend!(handle, alloc, Check(check) => push_file(check, bytes, &mut []))
 }
 
 /// Takes the next bytes as [`btcheck_check_push`] does, and sets the bit of each piece that is
@@ -186,12 +157,7 @@ pub extern "C" fn btcheck_check_push_bits(
         handle.new.slot.held }
     ensures unwritten { result ≢ 0 → good.new ≡ good.old }
 {
-    let Some(mut thing) = handle.take(alloc) else {
-        return WRONG_HANDLE;
-    };
-    let status = push_file(&mut thing, bytes, good);
-    handle.put(thing);
-    status
+    lend!(handle, alloc, Check(check) => push_file(check, bytes, good))
 }
 
 /// Ends the check of a whole file, which begins anew. Status 1: the handle holds no check. Status
@@ -202,12 +168,7 @@ pub extern "C" fn btcheck_check_finish(alloc: Global, handle: &mut Handle, piece
     ensures done { Through (EndsCheck piece.new) handle.old.slot.held result handle.new.slot.held }
     ensures unwritten { result ≢ 10 → piece.new ≡ piece.old }
 {
-    let Some(mut thing) = handle.take(alloc) else {
-        return WRONG_HANDLE;
-    };
-    let status = finish_file(&mut thing, piece);
-    handle.put(thing);
-    status
+    lend!(handle, alloc, Check(check) => finish_file(check, piece))
 }
 
 /// Ends a check as [`btcheck_check_finish`] does, and sets the last piece's bit too, if that is
@@ -225,12 +186,7 @@ pub extern "C" fn btcheck_check_finish_bits(
     ensures unwritten { result ≢ 10 → piece.new ≡ piece.old }
     ensures size { length good.new ≡ length good.old }
 {
-    let Some(mut thing) = handle.take(alloc) else {
-        return WRONG_HANDLE;
-    };
-    let status = finish_bits(&mut thing, piece, good);
-    handle.put(thing);
-    status
+    lend!(handle, alloc, Check(check) => finish_bits(check, piece, good))
 }
 
 /// Frees what the handle holds, and empties it.

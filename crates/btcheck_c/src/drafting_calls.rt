@@ -2,39 +2,39 @@
 //! written.
 
 ghost use Rattle.std.specs.Prelude.{◌≡◌, ◌≢◌, None};
-ghost use Rattle.btcheck_c.specs.Drafting.{AddsFileTo, DraftMade, DraftWritten, FileStarted, FinishesDraft, OnDraft, PushesPart, StartsFile};
-ghost use Rattle.btcheck_c.specs.Holds.{Fills, Through, ThroughBoth};
+ghost use Rattle.btcheck_c.specs.Drafting.{AddsFileTo, DraftMade, DraftWritten, FileStarted, FinishesDraft, OnDraft, PushesPart, StartsFile, WithFile};
+ghost use Rattle.btcheck_c.specs.Holds.{Begun, Fills, Through, ThroughBoth};
+ghost use Rattle.btcheck_c.specs.declared.thing.Kind.TheVariants as kind;
 
 use crate::handle::Handle;
-use crate::thing::{Kind, Thing};
+use crate::lending::lend;
+use crate::thing::Kind;
 use c_layouts::draft_status::{refused_draft, write_bytes};
 use c_layouts::status::{DONE, NO_MEMORY, TOO_LONG, WRONG_HANDLE};
 use drafting::{ComingFile, OpenDraft};
 use std::alloc::Global;
 
-fn start_file(alloc: Global, thing: &mut Thing) -> Result<ComingFile, u32>
-    ensures { StartsFile thing.old.kind result thing.new.kind }
+fn file_of(alloc: Global, draft: &OpenDraft) -> Result<ComingFile, u32>
+    ensures { StartsFile (kind.Draft draft.now) result (kind.Draft draft.now) }
 {
-    match &mut thing.kind {
-        Kind::Draft(draft) => Ok(draft.new_file(alloc)),
-        _ => Err(WRONG_HANDLE),
-    }
+    Ok(draft.new_file(alloc))
 }
 
-fn push_part(thing: &mut Thing, bytes: &[u8]) -> u32
-    ensures { PushesPart bytes.now thing.old.kind result thing.new.kind }
+fn start_file(alloc: Global, draft: &mut Handle) -> Result<ComingFile, u32>
+    ensures { Begun StartsFile draft.old.slot.held result draft.new.slot.held }
 {
-    match &mut thing.kind {
-        Kind::File(file) => {
-            if bytes.len() as u64 > file.left() {
-                return TOO_LONG;
-            }
-            match file.push(bytes) {
-                Err(_) => NO_MEMORY,
-                Ok(()) => DONE,
-            }
-        }
-        _ => WRONG_HANDLE,
+    lend!(draft, alloc, Draft(lent) => file_of(alloc, lent), else Err(WRONG_HANDLE))
+}
+
+fn push_part(file: &mut ComingFile, bytes: &[u8]) -> u32
+    ensures { PushesPart bytes.now (kind.File file.old) result (kind.File file.new) }
+{
+    if bytes.len() as u64 > file.left() {
+        return TOO_LONG;
+    }
+    match file.push(bytes) {
+        Err(_) => NO_MEMORY,
+        Ok(()) => DONE,
     }
 }
 
@@ -51,17 +51,11 @@ fn add_file(alloc: Global, draft: &mut OpenDraft, file: &mut ComingFile, path: &
     }
 }
 
-fn add(alloc: Global, thing: &mut Thing, beside: &mut Thing, path: &[u8]) -> u32
-    ensures { OnDraft (AddsFileTo path.now) thing.old.kind beside.old.kind result thing.new.kind
-        beside.new.kind }
+fn add(alloc: Global, draft: &mut OpenDraft, file: &mut Handle, path: &[u8]) -> u32
+    ensures { WithFile (AddsFileTo path.now) draft.old file.old.slot.held result draft.new
+        file.new.slot.held }
 {
-    match &mut thing.kind {
-        Kind::Draft(draft) => match &mut beside.kind {
-            Kind::File(file) => add_file(alloc, draft, file, path),
-            _ => WRONG_HANDLE,
-        },
-        _ => WRONG_HANDLE,
-    }
+    lend!(file, alloc, File(lent) => add_file(alloc, draft, lent, path))
 }
 
 // The status of the draft's text, which goes to the front of the room.
@@ -76,16 +70,13 @@ fn write_draft(alloc: Global, draft: &OpenDraft, room: &mut [u8], length: &mut u
     }
 }
 
-fn finish(alloc: Global, thing: &mut Thing, room: &mut [u8], length: &mut u64) -> u32
-    ensures done { FinishesDraft room.old room.new length.new thing.old.kind result
-        thing.new.kind }
+fn finish(alloc: Global, draft: &OpenDraft, room: &mut [u8], length: &mut u64) -> u32
+    ensures done { FinishesDraft room.old room.new length.new (kind.Draft draft.now) result
+        (kind.Draft draft.now) }
     ensures unwritten { result ≢ 0 → (room.new ≡ room.old)
         × (result ≢ 7 → length.new ≡ length.old) }
 {
-    match &mut thing.kind {
-        Kind::Draft(draft) => write_draft(alloc, draft, room, length),
-        _ => WRONG_HANDLE,
-    }
+    write_draft(alloc, draft, room, length)
 }
 
 /// Makes a draft of a torrent in an empty handle, which has no file yet: of this display name and
@@ -128,12 +119,7 @@ pub extern "C" fn btcheck_draft_file_new(
     if handle.is_full() {
         return WRONG_HANDLE;
     }
-    let Some(mut thing) = draft.take(alloc) else {
-        return WRONG_HANDLE;
-    };
-    let started = start_file(alloc, &mut thing);
-    draft.put(thing);
-    match started {
+    match start_file(alloc, draft) {
         Err(status) => status,
         Ok(file) => handle.fill(alloc, Kind::File(file)),
     }
@@ -146,12 +132,7 @@ pub extern "C" fn btcheck_draft_file_new(
 pub extern "C" fn btcheck_draft_file_push(alloc: Global, handle: &mut Handle, bytes: &[u8]) -> u32
     ensures { Through (PushesPart bytes.now) handle.old.slot.held result handle.new.slot.held }
 {
-    let Some(mut thing) = handle.take(alloc) else {
-        return WRONG_HANDLE;
-    };
-    let status = push_part(&mut thing, bytes);
-    handle.put(thing);
-    status
+    lend!(handle, alloc, File(file) => push_part(file, bytes))
 }
 
 /// Adds a file to a draft under this path, whose components a `/` stands between. The file then
@@ -171,17 +152,7 @@ pub extern "C" fn btcheck_draft_add(
     ensures { ThroughBoth (OnDraft (AddsFileTo path.now)) draft.old.slot.held file.old.slot.held
         result draft.new.slot.held file.new.slot.held }
 {
-    let Some(mut thing) = draft.take(alloc) else {
-        return WRONG_HANDLE;
-    };
-    let Some(mut beside) = file.take(alloc) else {
-        draft.put(thing);
-        return WRONG_HANDLE;
-    };
-    let status = add(alloc, &mut thing, &mut beside, path);
-    draft.put(thing);
-    file.put(beside);
-    status
+    lend!(draft, alloc, Draft(lent) => add(alloc, lent, file, path))
 }
 
 /// Writes the torrent file of the draft to the front of the room, and how many bytes it has. The
@@ -201,12 +172,7 @@ pub extern "C" fn btcheck_draft_finish(
     ensures unwritten { result ≢ 0 → (room.new ≡ room.old)
         × (result ≢ 7 → length.new ≡ length.old) }
 {
-    let Some(mut thing) = handle.take(alloc) else {
-        return WRONG_HANDLE;
-    };
-    let status = finish(alloc, &mut thing, room, length);
-    handle.put(thing);
-    status
+    lend!(handle, alloc, Draft(draft) => finish(alloc, draft, room, length))
 }
 
 /// Frees what the handle holds, and empties it.

@@ -5,15 +5,17 @@ ghost use Rattle.btcheck_c.specs.Frames.{FrameTaken, TakesFrame};
 ghost use Rattle.btcheck_c.specs.Holds.{Through};
 
 use crate::handle::Handle;
-use crate::thing::{Kind, Thing};
+use crate::lending::lend;
+use crate::thing::Kind;
 use c_layouts::status::{BAD_SIZE, TOO_LONG, WRONG_HANDLE};
 use c_layouts::verdict_info::{VerdictInfo, write_verdict};
-use owned_sessions::OwnedSession;
+use node_maps::Paged;
+use session::OwnedSession;
 use std::alloc::Global;
 use wire::{Frame, frame_in};
 
 // Takes the message of a body, if it is one.
-fn take_frame(session: &mut OwnedSession, body: &[u8], out: &mut VerdictInfo) -> u32
+fn take_frame(session: &mut OwnedSession<Paged>, body: &[u8], out: &mut VerdictInfo) -> u32
     ensures done { FrameTaken body.now out.old out.new session.old result session.new }
     ensures unwritten { result ≢ 0 → out.new ≡ out.old }
 {
@@ -23,16 +25,6 @@ fn take_frame(session: &mut OwnedSession, body: &[u8], out: &mut VerdictInfo) ->
     match frame_in(body) {
         Frame::BadSize { .. } => BAD_SIZE,
         Frame::Message(message) => write_verdict(&session.step(&message), out),
-    }
-}
-
-fn take_body(thing: &mut Thing, body: &[u8], out: &mut VerdictInfo) -> u32
-    ensures done { TakesFrame body.now out.old out.new thing.old.kind result thing.new.kind }
-    ensures unwritten { result ≢ 0 → out.new ≡ out.old }
-{
-    match &mut thing.kind {
-        Kind::Session(session) => take_frame(session, body, out),
-        _ => WRONG_HANDLE,
     }
 }
 
@@ -51,10 +43,5 @@ pub extern "C" fn btcheck_session_frame(
         handle.new.slot.held }
     ensures unwritten { result ≢ 0 → out.new ≡ out.old }
 {
-    let Some(mut thing) = handle.take(alloc) else {
-        return WRONG_HANDLE;
-    };
-    let status = take_body(&mut thing, body, out);
-    handle.put(thing);
-    status
+    lend!(handle, alloc, Session(session) => take_frame(session, body, out))
 }

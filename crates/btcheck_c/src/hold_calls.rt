@@ -1,91 +1,81 @@
 //! The calls on what is held beside a session of blocks that cannot be proved yet.
 
 ghost use Rattle.std.specs.Prelude.{◌≡◌, ◌≢◌, None};
-ghost use Rattle.btcheck_c.specs.Held.{CountsHeld, HoldingStarted, HoldsBlocks, LooksAt, OnBoth, SettlesHeld, StartsHolding};
-ghost use Rattle.btcheck_c.specs.Holds.{Through, ThroughBoth};
+ghost use Rattle.btcheck_c.specs.Held.{CountsHeld, HoldingStarted, HoldsBlocks, LooksAt, OnBoth, SettlesHeld, StartsHolding, WithHoldings};
+ghost use Rattle.btcheck_c.specs.Holds.{Begun, Through, ThroughBoth};
+ghost use Rattle.btcheck_c.specs.declared.thing.Kind.TheVariants as kind;
 
 use crate::handle::Handle;
 use crate::held::{Cursor, Held};
 use crate::holding::{hold_blocks, settle_held};
-use crate::thing::{Kind, Thing};
+use crate::lending::lend;
+use crate::thing::Kind;
 use c_layouts::held_info::{HeldInfo, RunInfo};
 use c_layouts::status::{DONE, NO_MEMORY, WRONG_HANDLE};
 use hashtree::BLOCK_LENGTH;
+use node_maps::Paged;
+use session::OwnedSession;
 use std::alloc::Global;
 
-fn start_holdings(alloc: Global, thing: &mut Thing, bound: usize) -> Result<Held, u32>
-    ensures { StartsHolding bound thing.old.kind result thing.new.kind }
+fn start_holdings(alloc: Global, session: &mut Handle, bound: usize) -> Result<Held, u32>
+    ensures { Begun (StartsHolding bound) session.old.slot.held result session.new.slot.held }
 {
-    match &mut thing.kind {
-        Kind::Session(session) => {
-            let longest = session.torrent().piece_length() / BLOCK_LENGTH;
-            match Held::new(alloc, bound, longest as usize) {
-                Ok(held) => Ok(held),
-                Err(_) => Err(NO_MEMORY),
-            }
-        }
-        _ => Err(WRONG_HANDLE),
+    lend!(session, alloc, Session(lent) => held_for(alloc, lent, bound), else Err(WRONG_HANDLE))
+}
+
+// Holdings for the torrent of a session, or the status.
+fn held_for(alloc: Global, session: &OwnedSession<Paged>, bound: usize) -> Result<Held, u32>
+    ensures { StartsHolding bound (kind.Session session.now) result (kind.Session session.now) }
+{
+    let longest = session.torrent().piece_length() / BLOCK_LENGTH;
+    match Held::new(alloc, bound, longest as usize) {
+        Ok(held) => Ok(held),
+        Err(_) => Err(NO_MEMORY),
     }
 }
 
 fn hold(
-    thing: &mut Thing,
-    beside: &mut Thing,
+    alloc: Global,
+    session: &mut OwnedSession<Paged>,
+    holdings: &mut Handle,
     index: u32,
     begin: u32,
     bytes: &[u8],
     out: &mut HeldInfo,
 ) -> u32
-    ensures done { OnBoth (HoldsBlocks index begin bytes.now out.new) thing.old.kind
-        beside.old.kind result thing.new.kind beside.new.kind }
+    ensures done { WithHoldings (HoldsBlocks index begin bytes.now out.new) session.old
+        holdings.old.slot.held result session.new holdings.new.slot.held }
     ensures unwritten { result ≢ 0 → out.new ≡ out.old }
 {
-    match &mut thing.kind {
-        Kind::Session(session) => match &mut beside.kind {
-            Kind::Holdings(held) => hold_blocks(session, held, index, begin, bytes, out),
-            _ => WRONG_HANDLE,
-        },
-        _ => WRONG_HANDLE,
-    }
+    lend!(holdings, alloc, Holdings(held) => hold_blocks(session, held, index, begin, bytes, out))
 }
 
-fn settle(thing: &mut Thing, beside: &mut Thing, run: &mut RunInfo) -> u32
-    ensures done { OnBoth (SettlesHeld run.new) thing.old.kind beside.old.kind result
-        thing.new.kind beside.new.kind }
+fn settle(
+    alloc: Global,
+    session: &mut OwnedSession<Paged>,
+    holdings: &mut Handle,
+    run: &mut RunInfo,
+) -> u32
+    ensures done { WithHoldings (SettlesHeld run.new) session.old holdings.old.slot.held result
+        session.new holdings.new.slot.held }
     ensures unwritten { result ≢ 0 → result ≢ 10 → run.new ≡ run.old }
 {
-    match &mut thing.kind {
-        Kind::Session(session) => match &mut beside.kind {
-            Kind::Holdings(held) => settle_held(session, held, run),
-            _ => WRONG_HANDLE,
-        },
-        _ => WRONG_HANDLE,
-    }
+    lend!(holdings, alloc, Holdings(held) => settle_held(session, held, run))
 }
 
-fn look_at(thing: &mut Thing, tree: usize) -> u32
-    ensures { LooksAt tree thing.old.kind result thing.new.kind }
+fn look_at(held: &mut Held, tree: usize) -> u32
+    ensures { LooksAt tree (kind.Holdings held.old) result (kind.Holdings held.new) }
 {
-    match &mut thing.kind {
-        Kind::Holdings(held) => {
-            held.cursor = Cursor::of_tree(tree);
-            DONE
-        }
-        _ => WRONG_HANDLE,
-    }
+    held.cursor = Cursor::of_tree(tree);
+    DONE
 }
 
-fn count_held(thing: &mut Thing, count: &mut u64) -> u32
-    ensures done { CountsHeld count.new thing.old.kind result thing.new.kind }
+fn count_held(held: &Held, count: &mut u64) -> u32
+    ensures done { CountsHeld count.new (kind.Holdings held.now) result (kind.Holdings held.now) }
     ensures unwritten { result ≢ 0 → count.new ≡ count.old }
 {
-    match &mut thing.kind {
-        Kind::Holdings(held) => {
-            *count = held.holdings.held();
-            DONE
-        }
-        _ => WRONG_HANDLE,
-    }
+    *count = held.holdings.held();
+    DONE
 }
 
 /// Makes holdings beside a session in an empty handle, which hold nothing. The bound is how many
@@ -105,12 +95,7 @@ pub extern "C" fn btcheck_holdings_new(
     if handle.is_full() {
         return WRONG_HANDLE;
     }
-    let Some(mut thing) = session.take(alloc) else {
-        return WRONG_HANDLE;
-    };
-    let started = start_holdings(alloc, &mut thing, bound);
-    session.put(thing);
-    match started {
+    match start_holdings(alloc, session, bound) {
         Err(status) => status,
         Ok(held) => handle.fill(alloc, Kind::Holdings(held)),
     }
@@ -138,17 +123,7 @@ pub extern "C" fn btcheck_session_hold(
         holdings.new.slot.held }
     ensures unwritten { result ≢ 0 → out.new ≡ out.old }
 {
-    let Some(mut thing) = session.take(alloc) else {
-        return WRONG_HANDLE;
-    };
-    let Some(mut beside) = holdings.take(alloc) else {
-        session.put(thing);
-        return WRONG_HANDLE;
-    };
-    let status = hold(&mut thing, &mut beside, index, begin, bytes, out);
-    session.put(thing);
-    holdings.put(beside);
-    status
+    lend!(session, alloc, Session(lent) => hold(alloc, lent, holdings, index, begin, bytes, out))
 }
 
 /// Settles what can be settled first of the pieces that are looked at: those that have a block of
@@ -168,17 +143,7 @@ pub extern "C" fn btcheck_session_settle(
         holdings.old.slot.held result session.new.slot.held holdings.new.slot.held }
     ensures unwritten { result ≢ 0 → result ≢ 10 → run.new ≡ run.old }
 {
-    let Some(mut thing) = session.take(alloc) else {
-        return WRONG_HANDLE;
-    };
-    let Some(mut beside) = holdings.take(alloc) else {
-        session.put(thing);
-        return WRONG_HANDLE;
-    };
-    let status = settle(&mut thing, &mut beside, run);
-    session.put(thing);
-    holdings.put(beside);
-    status
+    lend!(session, alloc, Session(lent) => settle(alloc, lent, holdings, run))
 }
 
 /// Has [`btcheck_session_settle`] look at all pieces of a tree, as after hashes of that tree were
@@ -187,12 +152,7 @@ pub extern "C" fn btcheck_session_settle(
 pub extern "C" fn btcheck_holdings_look_at(alloc: Global, handle: &mut Handle, tree: usize) -> u32
     ensures { Through (LooksAt tree) handle.old.slot.held result handle.new.slot.held }
 {
-    let Some(mut thing) = handle.take(alloc) else {
-        return WRONG_HANDLE;
-    };
-    let status = look_at(&mut thing, tree);
-    handle.put(thing);
-    status
+    lend!(handle, alloc, Holdings(held) => look_at(held, tree))
 }
 
 /// Writes how many blocks are held. Status 1: the handle has no holdings. They are as before.
@@ -202,12 +162,7 @@ pub extern "C" fn btcheck_session_held(alloc: Global, handle: &mut Handle, count
         handle.new.slot.held }
     ensures unwritten { result ≢ 0 → count.new ≡ count.old }
 {
-    let Some(mut thing) = handle.take(alloc) else {
-        return WRONG_HANDLE;
-    };
-    let status = count_held(&mut thing, count);
-    handle.put(thing);
-    status
+    lend!(handle, alloc, Holdings(held) => count_held(held, count))
 }
 
 /// Frees what the handle holds, and empties it.

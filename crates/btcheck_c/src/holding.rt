@@ -3,19 +3,19 @@
 ghost use Rattle.std.specs.Prelude.{◌≡◌, ◌≢◌, ◌<◌, ◌≤◌, ◌+◌, ◌*◌, ◌^◌, length, slice_get, Some, Option};
 ghost use Rattle.partial_tree.specs.declared.refusal.BlockRefusal.{BlockRefusal as Why};
 ghost use Rattle.holdings.specs.Holding.{IsTreeBlock};
-ghost use Rattle.btcheck_c.specs.Held.{ArePlaced, EntryHeld, HeldBlocks, HoldsBlocks, SettlesHeld};
+ghost use Rattle.btcheck_c.specs.Held.{ArePiecesOf, ArePlaced, EntryHeld, HeldBlocks, HoldsBlocks, SettlesHeld};
 
 use crate::held::{Cursor, Held};
 use c_layouts::held_info::{HeldInfo, RunInfo, lay_out_unheld, write_hold, write_settled};
 use c_layouts::status::{DONE, NO_MEMORY, NO_SUCH, NOTHING, refused_block};
-use holdings::Holdings;
-use owned_sessions::OwnedSession;
+use holdings::{Holdings, Pieces};
+use node_maps::Paged;
 use partial_tree::{BlockRefusal, block_of};
-use session::Blocks;
+use session::{Blocks, OwnedSession};
 
 /// Takes the blocks of a message, and holds those that cannot be proved yet.
 pub(crate) fn hold_blocks(
-    session: &mut OwnedSession,
+    session: &mut OwnedSession<Paged>,
     held: &mut Held,
     index: u32,
     begin: u32,
@@ -37,14 +37,13 @@ pub(crate) fn hold_blocks(
 
 // Holds the blocks of a message that cannot be proved yet. Their pieces are looked at then.
 fn hold_unproved(
-    session: &mut OwnedSession,
+    session: &OwnedSession<Paged>,
     held: &mut Held,
     blocks: &Blocks,
     bytes: &[u8],
 ) -> HeldInfo
-    requires { ArePlaced session.old blocks.now (length bytes.now) }
-    ensures held { HeldBlocks session.old blocks.now bytes.now held.old result held.new }
-    ensures same { session.new ≡ session.old }
+    requires { ArePlaced session.now blocks.now (length bytes.now) }
+    ensures { HeldBlocks session.now blocks.now bytes.now held.old result held.new }
 {
     session.torrent().recall_sound();
     let (file, first) = blocks.place(0);
@@ -61,14 +60,23 @@ fn hold_unproved(
             &mut out,
         );
     }
-    let pieces = session.pieces_of(tree, first, blocks.len() as u64);
+    let pieces = pieces_of(session, tree, first, blocks.len() as u64);
     held.cursor = Cursor::at(tree, pieces);
     out
 }
 
+// The pieces that have a block among these.
+fn pieces_of(session: &OwnedSession<Paged>, tree: usize, first: u64, count: u64) -> Pieces
+    requires tree { tree < length session.now.torrent.trees }
+    requires few { first + count < 2 ^ 64 }
+    ensures { ArePiecesOf session.now tree first count result }
+{
+    Pieces::of_blocks(session, tree, first, count)
+}
+
 // Holds the block of an entry if it cannot be proved yet.
 fn hold_entry(
-    session: &mut OwnedSession,
+    session: &OwnedSession<Paged>,
     holdings: &mut Holdings,
     tree: usize,
     blocks: &Blocks,
@@ -76,29 +84,32 @@ fn hold_entry(
     entry: usize,
     out: &mut HeldInfo,
 )
-    requires tree { tree < length session.old.torrent.trees }
-    requires block { IsTreeBlock session.old tree (blocks.now.first + entry) }
+    requires tree { tree < length session.now.torrent.trees }
+    requires block { IsTreeBlock session.now tree (blocks.now.first + entry) }
     requires bytes { 16384 * entry ≤ length bytes.now }
     requires entry { entry < length blocks.now.refusals }
     requires few { entry < 17 }
-    ensures held { (r : Option Why) × (slice_get blocks.now.refusals entry ≡ Some r)
-        × EntryHeld session.old tree blocks.now bytes.now entry r holdings.old out.old holdings.new
+    ensures { (r : Option Why) × (slice_get blocks.now.refusals entry ≡ Some r)
+        × EntryHeld session.now tree blocks.now bytes.now entry r holdings.old out.old holdings.new
         out.new }
-    ensures same { session.new ≡ session.old }
 {
     match blocks.refusal(entry) {
         None => {}
         Some(BlockRefusal::BadPlace | BlockRefusal::BadSize | BlockRefusal::BadBlock) => {}
         Some(BlockRefusal::Unproved) => {
             let (_, block) = blocks.place(entry);
-            let hold = session.hold(holdings, tree, block, block_of(bytes, entry as u64));
+            let hold = holdings.hold(session, tree, block, block_of(bytes, entry as u64));
             write_hold(hold, entry, out);
         }
     }
 }
 
 /// Settles what can be settled first of the pieces that are looked at, and writes its blocks.
-pub(crate) fn settle_held(session: &mut OwnedSession, held: &mut Held, run: &mut RunInfo) -> u32
+pub(crate) fn settle_held(
+    session: &mut OwnedSession<Paged>,
+    held: &mut Held,
+    run: &mut RunInfo,
+) -> u32
     ensures done { SettlesHeld run.new session.old held.old result session.new held.new }
     ensures unwritten { result ≢ 0 → result ≢ 10 → run.new ≡ run.old }
 {
@@ -107,7 +118,7 @@ pub(crate) fn settle_held(session: &mut OwnedSession, held: &mut Held, run: &mut
         return NO_SUCH;
     }
     let mut pieces = held.cursor.pieces;
-    match session.settle_next(&mut held.holdings, &mut pieces) {
+    match held.holdings.settle_next(session, &mut pieces) {
         Ok(None) => NOTHING,
         Ok(Some(settled)) => {
             held.cursor = Cursor::at(tree, pieces);

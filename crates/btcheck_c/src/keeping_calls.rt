@@ -4,72 +4,66 @@
 ghost use Rattle.std.specs.Prelude.{◌≡◌, ◌≢◌};
 ghost use Rattle.btcheck_c.specs.Keeping.{ExportWritten, Exports, TakesLayer};
 ghost use Rattle.btcheck_c.specs.Holds.{Through};
+ghost use Rattle.btcheck_c.specs.declared.thing.Kind.TheVariants as kind;
 
 use crate::handle::Handle;
-use crate::thing::{Kind, Thing};
+use crate::lending::lend;
+use crate::thing::Kind;
 use c_layouts::cursor_info::{CursorInfo, lay_out_cursor, read_cursor};
 use c_layouts::hashes_frame::write_hashes_frame;
 use c_layouts::status::{DONE, NO_MEMORY, NO_SUCH, NOTHING, WRONG_HANDLE, status_of_hashes};
-use owned_sessions::OwnedSession;
+use node_maps::Paged;
 use partial_tree::Answer;
+use session::OwnedSession;
+use session_exports::next_export;
 use std::alloc::Global;
 use wire::Hash;
 
-fn take_layer(thing: &mut Thing, tree: usize, layer: u32, hashes: &[Hash], places: &mut u64) -> u32
-    ensures done { TakesLayer tree layer hashes.now places.new thing.old.kind result
-        thing.new.kind }
+fn take_layer(
+    session: &mut OwnedSession<Paged>,
+    tree: usize,
+    layer: u32,
+    hashes: &[Hash],
+    places: &mut u64,
+) -> u32
+    ensures done { TakesLayer tree layer hashes.now places.new (kind.Session session.old) result
+        (kind.Session session.new) }
     ensures unwritten { result ≢ 0 → places.new ≡ places.old }
 {
-    match &mut thing.kind {
-        Kind::Session(session) => {
-            if tree >= session.torrent().trees().len() {
-                return NO_SUCH;
-            }
-            status_of_hashes(session.fill(tree, layer, hashes), places)
-        }
-        _ => WRONG_HANDLE,
+    if tree >= session.torrent().trees().len() {
+        return NO_SUCH;
     }
+    status_of_hashes(session.fill(tree, layer, hashes), places)
 }
 
 // Writes the leaves that are exported next, and moves the cursor behind them.
 fn write_export(
-    session: &mut OwnedSession,
+    session: &OwnedSession<Paged>,
     cursor: &mut CursorInfo,
     room: &mut [u8],
     length: &mut u64,
 ) -> u32
-    ensures done { ExportWritten session.old cursor.old room.old result cursor.new room.new
+    ensures done { ExportWritten session.now cursor.old room.old result cursor.new room.new
         length.new }
-    ensures same { session.new ≡ session.old }
     ensures unwritten { result ≢ 0 → (cursor.new ≡ cursor.old) × (room.new ≡ room.old)
         × (result ≢ 7 → length.new ≡ length.old) }
 {
     session.torrent().recall_sound();
-    let Some(export) = session.next_export(read_cursor(cursor)) else {
+    session.recall_closed_trees();
+    session.recall_distinct_roots();
+    let Some(export) = next_export(session, read_cursor(cursor)) else {
         return NOTHING;
     };
     match session.answer(&export.ask) {
-        None => NO_MEMORY,
-        Some(Answer::Reject) => unreachable!(),
-        Some(Answer::Hashes(hashes)) => {
+        Err(_) => NO_MEMORY,
+        Ok(Answer::Reject) => unreachable!(),
+        Ok(Answer::Hashes(hashes)) => {
             let status = write_hashes_frame(&export.ask, &hashes, room, length);
             if status == DONE {
                 *cursor = lay_out_cursor(export.end());
             }
             status
         }
-    }
-}
-
-fn export(thing: &mut Thing, cursor: &mut CursorInfo, room: &mut [u8], length: &mut u64) -> u32
-    ensures done { Exports cursor.old room.old cursor.new room.new length.new thing.old.kind
-        result thing.new.kind }
-    ensures unwritten { result ≢ 0 → (cursor.new ≡ cursor.old) × (room.new ≡ room.old)
-        × (result ≢ 7 → length.new ≡ length.old) }
-{
-    match &mut thing.kind {
-        Kind::Session(session) => write_export(session, cursor, room, length),
-        _ => WRONG_HANDLE,
     }
 }
 
@@ -91,12 +85,7 @@ pub extern "C" fn btcheck_session_fill(
         result handle.new.slot.held }
     ensures unwritten { result ≢ 0 → places.new ≡ places.old }
 {
-    let Some(mut thing) = handle.take(alloc) else {
-        return WRONG_HANDLE;
-    };
-    let status = take_layer(&mut thing, tree, layer, hashes, places);
-    handle.put(thing);
-    status
+    lend!(handle, alloc, Session(session) => take_layer(session, tree, layer, hashes, places))
 }
 
 /// Writes the frame of a hashes message, with its length, to the front of the room, and how many
@@ -118,10 +107,5 @@ pub extern "C" fn btcheck_session_export(
     ensures unwritten { result ≢ 0 → (cursor.new ≡ cursor.old) × (room.new ≡ room.old)
         × (result ≢ 7 → length.new ≡ length.old) }
 {
-    let Some(mut thing) = handle.take(alloc) else {
-        return WRONG_HANDLE;
-    };
-    let status = export(&mut thing, cursor, room, length);
-    handle.put(thing);
-    status
+    lend!(handle, alloc, Session(session) => write_export(session, cursor, room, length))
 }

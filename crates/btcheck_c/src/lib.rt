@@ -2,8 +2,8 @@
 //!
 //! `bindings/c/btcheck.h` declares the exports, and says what C must keep. A handle is a [`Handle`]
 //! that holds nothing or one `Thing`: the builder of a root, a session with its torrent, or the
-//! draft of one, for example. Each call takes the thing out of its handle, does its work in safe
-//! code, and puts it back; only `loose.rt` and `slot.rt` touch raw memory.
+//! draft of one, for example. Each call has the thing lent by its handle (`lending.rt`), and does
+//! its work in safe code; only `loose.rt` and `slot.rt` touch raw memory.
 #![tactic(auto)]
 
 mod ask_calls;
@@ -19,6 +19,7 @@ mod held;
 mod hold_calls;
 mod holding;
 mod keeping_calls;
+mod lending;
 mod loose;
 mod opening_calls;
 mod root_calls;
@@ -28,6 +29,7 @@ mod slot;
 mod thing;
 mod threads;
 mod torrent_calls;
+mod trees;
 mod version;
 
 pub use handle::Handle;

@@ -10,8 +10,9 @@ use crate::thing::Kind;
 use c_layouts::refusal_info::{NOTHING_MORE, RefusalInfo, lay_out_refusal};
 use c_layouts::status::{NO_MEMORY, TORRENT, WRONG_HANDLE};
 use filetree::Refusal;
+use node_maps::Paged;
 use opening::Torrent;
-use owned_sessions::OwnedSession;
+use session::OwnedSession;
 use std::alloc::Global;
 
 /// Why there is no session: the status, and what a refusal of the torrent has beside its number.
@@ -36,7 +37,7 @@ fn open_session(
     alloc: Global,
     input: &'static [u8],
     with_layers: bool,
-) -> Result<OwnedSession, NoSession>
+) -> Result<OwnedSession<Paged>, NoSession>
     ensures { OpensAs input.now with_layers result }
 {
     let torrent = match Torrent::open(alloc, input) {

@@ -3,43 +3,35 @@
 ghost use Rattle.std.specs.Prelude.{◌≡◌, ◌≢◌, None};
 ghost use Rattle.btcheck_c.specs.RootCalls.{Pushed, RootMade, Finished};
 ghost use Rattle.btcheck_c.specs.Holds.{Fills, Through};
+ghost use Rattle.btcheck_c.specs.declared.thing.Kind.TheVariants as kind;
 
 use crate::handle::Handle;
-use crate::thing::{Kind, Thing};
+use crate::lending::lend;
+use crate::thing::Kind;
 use c_layouts::status::{DONE, NO_MEMORY, NO_ROOT, TOO_LONG, WRONG_HANDLE};
 use hashtree::MAX_LENGTH;
 use short_pushes::FileRoot;
 use std::alloc::Global;
 
-fn push(thing: &mut Thing, bytes: &[u8]) -> u32
-    ensures { Pushed bytes.now thing.old.kind result thing.new.kind }
+fn push(file: &mut FileRoot, bytes: &[u8]) -> u32
+    ensures { Pushed bytes.now (kind.Root file.old) result (kind.Root file.new) }
 {
-    match &mut thing.kind {
-        Kind::Root(file) => {
-            if bytes.len() as u64 > MAX_LENGTH - file.len() {
-                return TOO_LONG;
-            }
-            file.push(bytes);
-            DONE
-        }
-        _ => WRONG_HANDLE,
+    if bytes.len() as u64 > MAX_LENGTH - file.len() {
+        return TOO_LONG;
     }
+    file.push(bytes);
+    DONE
 }
 
-fn finish(thing: &mut Thing, length: &mut u64, root: &mut [u8; 32]) -> u32
-    ensures done { Finished length.new root.new thing.old.kind result thing.new.kind }
+fn finish(file: &mut FileRoot, length: &mut u64, root: &mut [u8; 32]) -> u32
+    ensures done { Finished length.new root.new (kind.Root file.old) result (kind.Root file.new) }
     ensures unwritten { result ≢ 0 → (length.new ≡ length.old) × (root.new ≡ root.old) }
 {
-    match &mut thing.kind {
-        Kind::Root(file) => {
-            if file.is_empty() {
-                return NO_ROOT;
-            }
-            (*length, *root) = file.finish();
-            DONE
-        }
-        _ => WRONG_HANDLE,
+    if file.is_empty() {
+        return NO_ROOT;
     }
+    (*length, *root) = file.finish();
+    DONE
 }
 
 /// Makes a builder that was given nothing, in an empty handle, with room for the bytes of short
@@ -64,12 +56,7 @@ pub extern "C" fn btcheck_root_new(alloc: Global, handle: &mut Handle) -> u32
 pub extern "C" fn btcheck_root_push(alloc: Global, handle: &mut Handle, bytes: &[u8]) -> u32
     ensures { Through (Pushed bytes.now) handle.old.slot.held result handle.new.slot.held }
 {
-    let Some(mut thing) = handle.take(alloc) else {
-        return WRONG_HANDLE;
-    };
-    let status = push(&mut thing, bytes);
-    handle.put(thing);
-    status
+    lend!(handle, alloc, Root(file) => push(file, bytes))
 }
 
 /// Writes the length and the root of the bytes that were pushed, and begins anew. Status 1: the
@@ -85,12 +72,7 @@ pub extern "C" fn btcheck_root_finish(
         handle.new.slot.held }
     ensures unwritten { result ≢ 0 → (length.new ≡ length.old) × (root.new ≡ root.old) }
 {
-    let Some(mut thing) = handle.take(alloc) else {
-        return WRONG_HANDLE;
-    };
-    let status = finish(&mut thing, length, root);
-    handle.put(thing);
-    status
+    lend!(handle, alloc, Root(file) => finish(file, length, root))
 }
 
 /// Frees what the handle holds, and empties it.

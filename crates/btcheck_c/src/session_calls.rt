@@ -3,75 +3,71 @@
 ghost use Rattle.std.specs.Prelude.{◌≡◌, ◌≢◌, None};
 ghost use Rattle.btcheck_c.specs.SessionCalls.{TakesHashes, TakesBlock, Counted, AnswersIfMarked};
 ghost use Rattle.btcheck_c.specs.Holds.{Through};
+ghost use Rattle.btcheck_c.specs.declared.thing.Kind.TheVariants as kind;
 
 use crate::handle::Handle;
-use crate::thing::{Kind, Thing};
+use crate::lending::lend;
+use crate::thing::Kind;
+use crate::trees::has_block;
 use c_layouts::status::{
     DONE, NO_SUCH, WRONG_HANDLE, status_of_answer, status_of_block, status_of_hashes,
 };
+use node_maps::Paged;
+use session::OwnedSession;
 use std::alloc::Global;
 use wire::{Ask, Hash};
 
-fn counts(thing: &mut Thing, tree: usize, known: &mut u64, marked: &mut u64) -> u32
-    ensures done { Counted tree known.new marked.new thing.old.kind result thing.new.kind }
+fn counts(session: &OwnedSession<Paged>, tree: usize, known: &mut u64, marked: &mut u64) -> u32
+    ensures done { Counted tree known.new marked.new (kind.Session session.now) result
+        (kind.Session session.now) }
     ensures unwritten { result ≢ 0 → (known.new ≡ known.old) × (marked.new ≡ marked.old) }
 {
-    match &mut thing.kind {
-        Kind::Session(session) => {
-            if tree >= session.torrent().trees().len() {
-                return NO_SUCH;
-            }
-            (*known, *marked) = session.counts(tree);
-            DONE
-        }
-        _ => WRONG_HANDLE,
+    if tree >= session.torrent().trees().len() {
+        return NO_SUCH;
     }
+    *known = session.known(tree);
+    *marked = session.marked(tree);
+    DONE
 }
 
-fn is_marked(thing: &mut Thing, tree: usize, block: u64) -> u32
-    ensures { AnswersIfMarked tree block thing.old.kind result thing.new.kind }
+fn is_marked(session: &OwnedSession<Paged>, tree: usize, block: u64) -> u32
+    ensures { AnswersIfMarked tree block (kind.Session session.now) result
+        (kind.Session session.now) }
 {
-    match &mut thing.kind {
-        Kind::Session(session) => {
-            if session.has_block(tree, block) {
-                status_of_answer(session.is_marked(tree, block))
-            } else {
-                NO_SUCH
-            }
-        }
-        _ => WRONG_HANDLE,
+    if has_block(session.torrent(), tree, block) {
+        status_of_answer(session.is_marked(tree, block))
+    } else {
+        NO_SUCH
     }
 }
 
-fn take_hashes(thing: &mut Thing, ask: &Ask, hashes: &[Hash], places: &mut u64) -> u32
-    ensures done { TakesHashes ask.now hashes.now places.new thing.old.kind result
-        thing.new.kind }
+fn take_hashes(
+    session: &mut OwnedSession<Paged>,
+    ask: &Ask,
+    hashes: &[Hash],
+    places: &mut u64,
+) -> u32
+    ensures done { TakesHashes ask.now hashes.now places.new (kind.Session session.old) result
+        (kind.Session session.new) }
     ensures unwritten { result ≢ 0 → places.new ≡ places.old }
 {
-    match &mut thing.kind {
-        Kind::Session(session) => status_of_hashes(session.take_hashes(ask, hashes), places),
-        _ => WRONG_HANDLE,
-    }
+    status_of_hashes(session.take_hashes(ask, hashes), places)
 }
 
 fn take_block(
-    thing: &mut Thing,
+    session: &mut OwnedSession<Paged>,
     index: u32,
     begin: u32,
     bytes: &[u8],
     file: &mut u64,
     block: &mut u64,
 ) -> u32
-    ensures done { TakesBlock index begin bytes.now file.new block.new thing.old.kind result
-        thing.new.kind }
+    ensures done { TakesBlock index begin bytes.now file.new block.new
+        (kind.Session session.old) result
+        (kind.Session session.new) }
     ensures unwritten { result ≢ 0 → (file.new ≡ file.old) × (block.new ≡ block.old) }
 {
-    match &mut thing.kind {
-        Kind::Session(session) => {
-            status_of_block(session.take_block(index, begin, bytes), file, block)
-        }
-        _ => WRONG_HANDLE,
-    }
+    status_of_block(session.take_block(index, begin, bytes), file, block)
 }
 
 /// Takes a hashes message: its five fields and its hashes, and writes how many places are newly
@@ -94,9 +90,6 @@ pub extern "C" fn btcheck_session_take_hashes(
         hashes.now places.new) handle.old.slot.held result handle.new.slot.held }
     ensures unwritten { result ≢ 0 → places.new ≡ places.old }
 {
-    let Some(mut thing) = handle.take(alloc) else {
-        return WRONG_HANDLE;
-    };
     let ask = Ask {
         root: *root,
         base,
@@ -104,9 +97,7 @@ pub extern "C" fn btcheck_session_take_hashes(
         length,
         proof,
     };
-    let status = take_hashes(&mut thing, &ask, hashes, places);
-    handle.put(thing);
-    status
+    lend!(handle, alloc, Session(session) => take_hashes(session, &ask, hashes, places))
 }
 
 /// Takes a block of a piece message, and writes which block of which file it is. Status 1: the
@@ -125,12 +116,7 @@ pub extern "C" fn btcheck_session_take_block(
         handle.old.slot.held result handle.new.slot.held }
     ensures unwritten { result ≢ 0 → (file.new ≡ file.old) × (block.new ≡ block.old) }
 {
-    let Some(mut thing) = handle.take(alloc) else {
-        return WRONG_HANDLE;
-    };
-    let status = take_block(&mut thing, index, begin, bytes, file, block);
-    handle.put(thing);
-    status
+    lend!(handle, alloc, Session(session) => take_block(session, index, begin, bytes, file, block))
 }
 
 /// Writes how many places of a tree are known, and how many of its leaves are marked. Status 1: the
@@ -147,12 +133,7 @@ pub extern "C" fn btcheck_session_counts(
         handle.new.slot.held }
     ensures unwritten { result ≢ 0 → (known.new ≡ known.old) × (marked.new ≡ marked.old) }
 {
-    let Some(mut thing) = handle.take(alloc) else {
-        return WRONG_HANDLE;
-    };
-    let status = counts(&mut thing, tree, known, marked);
-    handle.put(thing);
-    status
+    lend!(handle, alloc, Session(session) => counts(session, tree, known, marked))
 }
 
 /// Whether the leaf of a block of a tree is marked as verified. Status 1: the handle holds no
@@ -168,12 +149,7 @@ pub extern "C" fn btcheck_session_is_marked(
     ensures { Through (AnswersIfMarked tree block) handle.old.slot.held result
         handle.new.slot.held }
 {
-    let Some(mut thing) = handle.take(alloc) else {
-        return WRONG_HANDLE;
-    };
-    let status = is_marked(&mut thing, tree, block);
-    handle.put(thing);
-    status
+    lend!(handle, alloc, Session(session) => is_marked(session, tree, block))
 }
 
 /// Frees what the handle holds, and empties it.

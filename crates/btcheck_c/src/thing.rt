@@ -3,7 +3,8 @@
 use crate::file_check::FileCheck;
 use crate::held::Held;
 use drafting::{ComingFile, OpenDraft};
-use owned_sessions::OwnedSession;
+use node_maps::Paged;
+use session::OwnedSession;
 use short_pushes::FileRoot;
 
 /// What a handle of C may hold. One struct for all kinds, since an export can have no type that is
@@ -19,7 +20,7 @@ pub enum Kind {
     /// The root of a file, as its bytes come.
     Root(FileRoot),
     /// A session with its torrent.
-    Session(OwnedSession),
+    Session(OwnedSession<Paged>),
     /// The check of one file's bytes.
     Check(FileCheck),
     /// What is held beside a session of blocks that cannot be proved yet.

@@ -1,9 +1,10 @@
 use Rattle.btcheck_c.specs.AskCalls.{Wants}
+use Rattle.btcheck_c.specs.declared.thing.Kind.TheVariants as kind
 use Rattle.btcheck_c.proofs.Throughs.{through}
 use Rattle.btcheck_c.proofs.ask_calls.btcheck_session_want.Goals as goal
 
-pub returns-clause-done : goal.returns-clause-done
-returns-clause-done c = through (Wants c.args.tree c.args.block c.want-status.new.asked)
+pub returns-in-Session-clause-done : goal.returns-in-Session-clause-done
+returns-in-Session-clause-done c = through (Wants c.args.tree c.args.block c.want-answer.new.asked)
     c.args.handle.now.slot.held c.put.new.self.slot.held
-    c.in-Some.thing.value c.deref_mut.result.now c.want-status.new.thing c.want-status.result
-    c.in-Some.ensures.taken c.put.ensures c.deref_mut.ensures.value c.want-status.ensures.done
+    c.in-Some.thing.value c.deref_mut.result.now (kind.Session c.in-Session.session) (kind.Session c.in-Session.session) c.want-answer.result
+    c.in-Some.ensures.taken c.deref_mut.ensures.value c.in-Session.is c.put.ensures c.want-answer.ensures.done

@@ -1,10 +1,19 @@
-use Rattle.std.proofs.Common.{refl, sym, subst}
-use Rattle.btcheck_c.specs.declared.thing.Kind.TheVariants as kind
-use Rattle.btcheck_c.specs.Blocks.{TakesBlocks}
+use Rattle.std.proofs.Common.{refl}
 use Rattle.btcheck_c.proofs.block_calls.take_blocks.Goals as goal
 
-pub returns-in-Session-clause-done : goal.returns-in-Session-clause-done
-returns-in-Session-clause-done c =
-    subst (λ k. TakesBlocks c.args.index c.args.begin c.args.bytes.now c.write_blocks.new.out k c.write_blocks.result
-    (kind.Session c.take_blocks.new.self)) (sym c.in-Session.is)
-    (c.take_blocks.result, c.write_blocks.ensures.done, (c.take_blocks.new.self, refl, c.take_blocks.ensures))
+pub returns-clause-done : goal.returns-clause-done
+returns-clause-done c = (
+  c.take_blocks.result,
+  c.write_blocks.ensures.done,
+  (
+    c.take_blocks.new.self,
+    refl,
+    record {
+      taken = c.take_blocks.ensures.taken;
+      refused = c.take_blocks.ensures.refused;
+      verified_are_the_blocks = c.take_blocks.ensures.verified_are_the_blocks;
+      keeps_known = c.take_blocks.ensures.keeps_known;
+      verifies_true_blocks = c.take_blocks.ensures.verifies_true_blocks;
+    },
+  ),
+)

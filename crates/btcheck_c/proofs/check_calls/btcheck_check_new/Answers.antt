@@ -2,31 +2,21 @@ use Rattle.std.proofs.Common.{refl, sym, subst}
 use Rattle.btcheck_c.specs.CheckCalls.{StartsCheck}
 use Rattle.btcheck_c.specs.Holds.{IsFilled, Kept}
 use Rattle.btcheck_c.specs.declared.thing.Kind.TheVariants as kind
-use Rattle.btcheck_c.proofs.Starting.{start_none, start_done}
+use Rattle.btcheck_c.proofs.Starting.{started}
 use Rattle.btcheck_c.proofs.Throughs.{holds_nothing}
 use Rattle.btcheck_c.proofs.check_calls.btcheck_check_new.Goals as goal
-
-pub returns-in_default : goal.returns-in_default
-returns-in_default c =
-    start_none kind.Check (StartsCheck c.args.number) c.args.session.now.slot.held c.args.handle.now.slot.held c.take.new.self.slot.held
-    (holds_nothing c.args.handle.now.slot.held c.is_full.result c.is_full.ensures c.if-is_full.false)
-    (sym c.in_default.ensures.taken) c.take.ensures.empty
 
 pub returns-in-Err : goal.returns-in-Err
 returns-in-Err c =
     let free = holds_nothing c.args.handle.now.slot.held c.is_full.result c.is_full.ensures c.if-is_full.false in
-    start_done kind.Check (StartsCheck c.args.number) c.args.session.now.slot.held
-    c.args.handle.now.slot.held c.args.handle.now.slot.held c.put.new.self.slot.held
-    c.in-Some.thing.value c.deref_mut.result.now c.start_check-started.new.thing c.start_check-started.result c.in-Err.status free
-    c.in-Some.ensures.taken c.put.ensures c.deref_mut.ensures.value c.start_check-started.ensures
+    started kind.Check (StartsCheck c.args.number) c.args.session.now.slot.held c.args.handle.now.slot.held c.args.handle.now.slot.held
+    c.start_check.new.session.slot.held c.start_check.result c.in-Err.status free c.start_check.ensures
     (subst (λ made. Kept kind.Check made c.in-Err.status c.args.handle.now.slot.held) (sym c.in-Err.is) (refl, free))
 
 pub returns-in-Ok : goal.returns-in-Ok
 returns-in-Ok c =
     let free = holds_nothing c.args.handle.now.slot.held c.is_full.result c.is_full.ensures c.if-is_full.false in
-    start_done kind.Check (StartsCheck c.args.number)
-    c.args.session.now.slot.held c.args.handle.now.slot.held c.fill.new.self.slot.held c.put.new.self.slot.held
-    c.in-Some.thing.value c.deref_mut.result.now c.start_check-started.new.thing c.start_check-started.result c.fill.result free
-    c.in-Some.ensures.taken c.put.ensures c.deref_mut.ensures.value c.start_check-started.ensures
+    started kind.Check (StartsCheck c.args.number) c.args.session.now.slot.held c.args.handle.now.slot.held c.fill.new.self.slot.held
+    c.start_check.new.session.slot.held c.start_check.result c.fill.result free c.start_check.ensures
     (subst (λ made. Kept kind.Check made c.fill.result c.fill.new.self.slot.held) (sym c.in-Ok.is)
     (subst (λ o. IsFilled (kind.Check c.in-Ok.check) o c.fill.result c.fill.new.self.slot.held) free c.fill.ensures))

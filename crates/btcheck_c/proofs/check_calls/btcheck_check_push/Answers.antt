@@ -1,14 +1,16 @@
 use Rattle.std.proofs.Common.{◌≡◌, [], subst}
 use Rattle.std.proofs.lemmas.List.{nil_from_length}
 use Rattle.btcheck_c.specs.CheckCalls.{PushesBits, PushesFile}
+use Rattle.btcheck_c.specs.declared.thing.Kind.TheVariants as kind
 use Rattle.btcheck_c.proofs.Throughs.{through}
 use Rattle.btcheck_c.proofs.check_calls.btcheck_check_push.Goals as goal
 
-pub returns : goal.returns
-returns c =
-    let bytes = c.args.bytes.now in
-    let before = c.deref_mut.result.now.kind in let after = c.push_file-status.new.thing.kind in let status = c.push_file-status.result in
-    let no_bits : c.push_file-status.new.good ≡ [] = nil_from_length c.push_file-status.new.good c.push_file-status.ensures.size in
+pub returns-in-Check : goal.returns-in-Check
+returns-in-Check c =
+    let bytes = c.args.bytes.now in let status = c.push_file-answer.result in
+    let no_bits : c.push_file-answer.new.good ≡ [] = nil_from_length c.push_file-answer.new.good c.push_file-answer.ensures.size in
     through (PushesFile bytes) c.args.handle.now.slot.held c.put.new.self.slot.held
-    c.in-Some.thing.value c.deref_mut.result.now c.push_file-status.new.thing status c.in-Some.ensures.taken c.put.ensures c.deref_mut.ensures.value
-    (subst (λ marks. PushesBits bytes [] marks before status after) no_bits c.push_file-status.ensures.done)
+    c.in-Some.thing.value c.deref_mut.result.now (kind.Check c.in-Check.check) (kind.Check c.push_file-answer.new.check) status
+    c.in-Some.ensures.taken c.deref_mut.ensures.value c.in-Check.is c.put.ensures
+    (subst (λ marks. PushesBits bytes [] marks (kind.Check c.in-Check.check) status
+    (kind.Check c.push_file-answer.new.check)) no_bits c.push_file-answer.ensures.done)

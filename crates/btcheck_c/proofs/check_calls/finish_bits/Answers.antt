@@ -1,6 +1,4 @@
-use Rattle.std.proofs.Common.{◌≡◌, refl, sym, subst, inl, inr, arith}
-use Rattle.btcheck_c.specs.declared.thing.Kind.TheVariants as kind
-use Rattle.btcheck_c.specs.CheckCalls.{EndsBits}
+use Rattle.std.proofs.Common.{◌≡◌, refl, inl, inr, arith}
 use Rattle.btcheck_c.specs.FileChecks.{bytes_left}
 use Rattle.btcheck_c.proofs.check_calls.finish_bits.Goals as goal
 
@@ -12,18 +10,16 @@ finish-requires c = omega (arith, c.left.ensures)
 
 pub returns-else-left-eq0-clause-done : goal.returns-else-left-eq0-clause-done
 returns-else-left-eq0-clause-done c =
-    subst (λ k. EndsBits c.args.good.now c.stop.new.good c.args.piece.now k 9 (kind.Check c.stop.new.self)) (sym c.in-Check.is)
-    (inr (refl, (omega (arith, c.left.ensures, c.if-left-eq0.false), (c.stop.ensures.verdict, (c.stop.new.self, refl, c.stop.ensures.begins)))))
+    inr (refl, (omega (arith, c.left.ensures, c.if-left-eq0.false), (c.stop.ensures.verdict, (c.stop.new.self, refl, c.stop.ensures.begins))))
 
 pub returns-then-left-eq0-clause-done : goal.returns-then-left-eq0-clause-done
 returns-then-left-eq0-clause-done c =
-    let none : bytes_left c.in-Check.check ≡ 0 = omega (arith, c.left.ensures, c.if-left-eq0.true) in
-    subst (λ k. EndsBits c.args.good.now c.finish.new.good c.write_piece.new.piece k c.write_piece.result (kind.Check c.finish.new.self)) (sym c.in-Check.is)
-    (inl (
+    let none : bytes_left c.args.check.now ≡ 0 = omega (arith, c.left.ensures, c.if-left-eq0.true) in
+    inl (
       none,
       (
         c.finish.result,
         c.write_piece.ensures.done,
         (c.finish.ensures.verdict, (c.finish.new.self, refl, c.finish.ensures.begins)),
       ),
-    ))
+    )

@@ -1,7 +1,5 @@
-use Rattle.std.proofs.Common.{◌≡◌, [], refl, sym, subst, inl, arith}
+use Rattle.std.proofs.Common.{◌≡◌, [], refl, subst, inl, arith}
 use Rattle.std.proofs.lemmas.List.{nil_from_length}
-use Rattle.btcheck_c.specs.declared.thing.Kind.TheVariants as kind
-use Rattle.btcheck_c.specs.CheckCalls.{EndsCheck}
 use Rattle.btcheck_c.specs.FileChecks.{IsFileVerdict, bytes_left}
 use Rattle.btcheck_c.proofs.check_calls.finish_file.Goals as goal
 
@@ -13,17 +11,16 @@ finish-requires c = omega (arith, c.left.ensures)
 
 pub returns-else-left-gt0-clause-done : goal.returns-else-left-gt0-clause-done
 returns-else-left-gt0-clause-done c =
-    let none : bytes_left c.in-Check.check ≡ 0 = omega (arith, c.left.ensures, c.if-left-gt0.false) in
+    let none : bytes_left c.args.check.now ≡ 0 = omega (arith, c.left.ensures, c.if-left-gt0.false) in
     let no_bits : c.finish.new.good ≡ [] = nil_from_length c.finish.new.good c.finish.ensures.size in
-    subst (λ k. EndsCheck c.write_piece.new.piece k c.write_piece.result (kind.Check c.finish.new.self)) (sym c.in-Check.is)
-    (inl (
+    inl (
       none,
       (
         c.finish.result,
         c.write_piece.ensures.done,
         (
-          subst (λ g. IsFileVerdict c.in-Check.check [] g c.finish.result) no_bits c.finish.ensures.verdict,
+          subst (λ g. IsFileVerdict c.args.check.now [] g c.finish.result) no_bits c.finish.ensures.verdict,
           (c.finish.new.self, refl, c.finish.ensures.begins),
         ),
       ),
-    ))
+    )

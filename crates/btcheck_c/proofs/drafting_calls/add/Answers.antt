@@ -1,8 +1,8 @@
 use Rattle.btcheck_c.specs.Drafting.{AddsFileTo}
-use Rattle.btcheck_c.proofs.Drafts.{on_draft}
+use Rattle.btcheck_c.proofs.Drafts.{with_file}
 use Rattle.btcheck_c.proofs.drafting_calls.add.Goals as goal
 
 pub returns-in-File : goal.returns-in-File
-returns-in-File c =
-    on_draft (AddsFileTo c.args.path.now) c.args.thing.now.kind c.args.beside.now.kind c.in-Draft.draft c.add_file.new.draft
-    c.in-File.file c.add_file.new.file c.add_file.result c.in-Draft.is c.in-File.is c.add_file.ensures
+returns-in-File c = with_file (AddsFileTo c.args.path.now) c.args.draft.now c.add_file-answer.new.draft
+    c.args.file.now.slot.held c.put.new.self.slot.held c.in-Some.thing.value c.deref_mut.result.now c.in-File.lent c.add_file-answer.new.file
+    c.add_file-answer.result c.in-Some.ensures.taken c.deref_mut.ensures.value c.in-File.is c.put.ensures c.add_file-answer.ensures

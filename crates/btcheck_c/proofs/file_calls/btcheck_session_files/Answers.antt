@@ -1,9 +1,10 @@
 use Rattle.btcheck_c.specs.Files.{WritesCounts}
+use Rattle.btcheck_c.specs.declared.thing.Kind.TheVariants as kind
 use Rattle.btcheck_c.proofs.Throughs.{through}
 use Rattle.btcheck_c.proofs.file_calls.btcheck_session_files.Goals as goal
 
-pub returns-clause-done : goal.returns-clause-done
-returns-clause-done c = through (WritesCounts c.count_files-status.new.files c.count_files-status.new.trees)
+pub returns-in-Session-clause-done : goal.returns-in-Session-clause-done
+returns-in-Session-clause-done c = through (WritesCounts c.count_files-answer.new.files c.count_files-answer.new.trees)
     c.args.handle.now.slot.held c.put.new.self.slot.held
-    c.in-Some.thing.value c.deref_mut.result.now c.count_files-status.new.thing c.count_files-status.result
-    c.in-Some.ensures.taken c.put.ensures c.deref_mut.ensures.value c.count_files-status.ensures.done
+    c.in-Some.thing.value c.deref_mut.result.now (kind.Session c.in-Session.session) (kind.Session c.in-Session.session) c.count_files-answer.result
+    c.in-Some.ensures.taken c.deref_mut.ensures.value c.in-Session.is c.put.ensures c.count_files-answer.ensures.done

@@ -13,5 +13,5 @@ returns-in-Message-clause-done c = inl (record {
   means = c.in-Message.ensures;
   verdict = c.step.result;
   is = c.write_verdict.ensures.done;
-  step = c.step.ensures;
+  step = c.step.ensures.is_safe;
 })

@@ -1,20 +1,13 @@
-use Rattle.btcheck_c.specs.Held.{OnBoth, SettlesHeld}
-use Rattle.btcheck_c.proofs.Throughs.{both_none, both_first, both_through}
+use Rattle.btcheck_c.specs.Held.{SettlesHeld, OnBoth}
+use Rattle.btcheck_c.proofs.Throughs.{both_none, through_both}
 use Rattle.btcheck_c.proofs.hold_calls.btcheck_session_settle.Goals as goal
 
 pub returns-in_default-clause-done : goal.returns-in_default-clause-done
-returns-in_default-clause-done c = both_none (OnBoth (SettlesHeld c.args.run.now))
-    c.args.session.now.slot.held c.take.new.self.slot.held c.args.holdings.now.slot.held c.in_default.ensures.taken c.take.ensures.empty
+returns-in_default-clause-done c = both_none (OnBoth (SettlesHeld c.args.run.now)) c.args.session.now.slot.held
+    c.take.new.self.slot.held c.args.holdings.now.slot.held c.in_default.ensures.taken c.take.ensures.empty
 
-pub returns-in_default-take-clause-done : goal.returns-in_default-take-clause-done
-returns-in_default-take-clause-done c = both_first (OnBoth (SettlesHeld c.args.run.now))
-    c.args.session.now.slot.held c.put.new.self.slot.held c.args.holdings.now.slot.held c.take-2.new.self.slot.held
-    c.in-Some.thing.value c.in-Some.ensures.taken c.put.ensures c.in_default-take.ensures.taken c.take-2.ensures.empty
-
-pub returns-clause-done : goal.returns-clause-done
-returns-clause-done c = both_through (OnBoth (SettlesHeld c.settle-status.new.run))
-    c.args.session.now.slot.held c.put-2.new.self.slot.held c.args.holdings.now.slot.held c.put-3.new.self.slot.held
-    c.in-Some.thing.value c.deref_mut.result.now c.settle-status.new.thing
-    c.in-Some-take.beside.value c.deref_mut-2.result.now c.settle-status.new.beside c.settle-status.result
-    c.in-Some.ensures.taken c.in-Some-take.ensures.taken c.put-2.ensures c.put-3.ensures c.deref_mut.ensures.value c.deref_mut-2.ensures.value
-    c.settle-status.ensures.done
+pub returns-in-Session-clause-done : goal.returns-in-Session-clause-done
+returns-in-Session-clause-done c = through_both (SettlesHeld c.settle-answer.new.run) c.args.session.now.slot.held c.put.new.self.slot.held
+    c.args.holdings.now.slot.held c.settle-answer.new.holdings.slot.held c.in-Some.thing.value c.deref_mut.result.now c.in-Session.lent
+    c.settle-answer.new.session c.settle-answer.result c.in-Some.ensures.taken c.deref_mut.ensures.value c.in-Session.is c.put.ensures
+    c.settle-answer.ensures.done

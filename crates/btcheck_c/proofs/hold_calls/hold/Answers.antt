@@ -1,9 +1,9 @@
 use Rattle.btcheck_c.specs.Held.{HoldsBlocks}
-use Rattle.btcheck_c.proofs.HeldBlocks.{on_both}
+use Rattle.btcheck_c.proofs.Throughs.{with_holdings}
 use Rattle.btcheck_c.proofs.hold_calls.hold.Goals as goal
 
 pub returns-in-Holdings-clause-done : goal.returns-in-Holdings-clause-done
-returns-in-Holdings-clause-done c =
-    on_both (HoldsBlocks c.args.index c.args.begin c.args.bytes.now c.hold_blocks.new.out) c.args.thing.now.kind c.args.beside.now.kind
-    c.in-Session.session c.hold_blocks.new.session c.in-Holdings.held c.hold_blocks.new.held c.hold_blocks.result
-    c.in-Session.is c.in-Holdings.is c.hold_blocks.ensures.done
+returns-in-Holdings-clause-done c = with_holdings (HoldsBlocks c.args.index c.args.begin c.args.bytes.now c.hold_blocks-answer.new.out) c.args.session.now
+    c.hold_blocks-answer.new.session
+    c.args.holdings.now.slot.held c.put.new.self.slot.held c.in-Some.thing.value c.deref_mut.result.now c.in-Holdings.held c.hold_blocks-answer.new.held
+    c.hold_blocks-answer.result c.in-Some.ensures.taken c.deref_mut.ensures.value c.in-Holdings.is c.put.ensures c.hold_blocks-answer.ensures.done

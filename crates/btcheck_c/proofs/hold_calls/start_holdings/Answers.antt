@@ -1,28 +1,10 @@
-use Rattle.std.proofs.Common.{◌/◌, Ok, Err, inl, inr, refl, sym, ap, ◌∙◌, subst}
-use Rattle.opening.specs.Description.{Description}
-use Rattle.holdings.specs.Holdings.{most_pieces}
 use Rattle.btcheck_c.specs.Held.{StartsHolding}
 use Rattle.btcheck_c.specs.declared.thing.Kind.TheVariants as kind
+use Rattle.btcheck_c.proofs.Starting.{begins}
 use Rattle.btcheck_c.proofs.hold_calls.start_holdings.Goals as goal
 
-pub returns-in-Ok : goal.returns-in-Ok
-returns-in-Ok c =
-    let same = c.piece_length-longest.ensures ∙ ap (λ (d : Description). d.piece_length) c.torrent.ensures in
-    subst (λ k. StartsHolding c.args.bound k (Ok c.in-Ok.held) (kind.Session c.in-Session.session)) (sym c.in-Session.is) (
-      refl,
-      inr (
-        c.in-Ok.held,
-        refl,
-        record {
-          nothing = c.in-Ok.ensures.empty;
-          most = c.in-Ok.ensures.most ∙ ap (λ n. most_pieces c.args.bound (n / 16384)) same;
-          longest = c.in-Ok.ensures.longest ∙ ap (λ n. n / 16384) same;
-          clock = c.in-Ok.ensures.clock;
-          looks = c.in-Ok.ensures.looks;
-        },
-      ),
-    )
-
-pub returns-in-Err : goal.returns-in-Err
-returns-in-Err c =
-    subst (λ k. StartsHolding c.args.bound k (Err 2) (kind.Session c.in-Session.session)) (sym c.in-Session.is) (refl, inl refl)
+pub returns-in-Session : goal.returns-in-Session
+returns-in-Session c = begins (StartsHolding c.args.bound) c.args.session.now.slot.held c.put.new.self.slot.held
+    c.in-Some.thing.value c.deref_mut.result.now (kind.Session c.in-Session.lent) (kind.Session c.in-Session.lent) c.held_for-answer.result
+    c.in-Some.ensures.taken c.deref_mut.ensures.value c.in-Session.is c.put.ensures
+    c.held_for-answer.ensures

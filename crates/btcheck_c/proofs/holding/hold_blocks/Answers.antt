@@ -1,6 +1,6 @@
 use Rattle.std.proofs.Common.{IfOk, subst}
 use Rattle.session.specs.Session.{AreTaken}
-use Rattle.owned_sessions.proofs.Torrents.{torrent_after_blocks}
+use Rattle.btcheck_c.proofs.Taking.{torrent_after_blocks}
 use Rattle.btcheck_c.proofs.Placing.{taken_placed}
 use Rattle.btcheck_c.proofs.holding.hold_blocks.Goals as goal
 

@@ -1,8 +1,7 @@
 use Rattle.std.proofs.Common.{◌≡◌, ℕ, suc, ◌+◌, ◌^◌, ◌<◌, length, sym, ap, ◌∙◌, subst, arith}
 use Rattle.opening.specs.Sound.{IsSound}
-use Rattle.session.specs.Session.{SessionSeen}
 use Rattle.holdings.specs.Holding.{IsTreeBlock}
-use Rattle.btcheck_c.specs.Held.{EntriesHeld, EntryHeld}
+use Rattle.btcheck_c.specs.Held.{EntriesHeld}
 use Rattle.btcheck_c.proofs.Placing.{entry_block, entry_bytes, few_blocks, number_is, tree_inside}
 use Rattle.btcheck_c.proofs.holding.hold_unproved.Goals as goal
 
@@ -12,7 +11,7 @@ hold_entry-requires-clause-tree c =
     let number : c.unwrap-tree.result ≡ c.requires.number =
     number_is S v size c.requires c.torrent-2.result.now c.place-file.result c.tree_of.result c.unwrap-tree.result c.torrent-2.ensures c.place-file.ensures
     c.tree_of.ensures c.unwrap-tree.ensures in
-    omega (arith, tree_inside S v size c.requires, number, ap (λ (s : SessionSeen). length s.torrent.trees) c.entries.invariant.0)
+    omega (arith, tree_inside S v size c.requires, number)
 
 pub hold_entry-requires-clause-block : goal.hold_entry-requires-clause-block
 hold_entry-requires-clause-block c =
@@ -21,8 +20,7 @@ hold_entry-requires-clause-block c =
     number_is S v size c.requires c.torrent-2.result.now c.place-file.result c.tree_of.result c.unwrap-tree.result c.torrent-2.ensures c.place-file.ensures
     c.tree_of.ensures c.unwrap-tree.ensures in
     let low : c.entries.entry < length v.refusals = omega (arith, c.entries-test.true, c.len-entry-end.ensures.count) in
-    subst (λ (s : SessionSeen). IsTreeBlock s c.unwrap-tree.result (v.first + c.entries.entry)) (sym c.entries.invariant.0)
-    (subst (λ n. IsTreeBlock S n (v.first + c.entries.entry)) (sym number) (entry_block S v size c.requires c.entries.entry low))
+    subst (λ n. IsTreeBlock S n (v.first + c.entries.entry)) (sym number) (entry_block S v size c.requires c.entries.entry low)
 
 pub hold_entry-requires-clause-bytes : goal.hold_entry-requires-clause-bytes
 hold_entry-requires-clause-bytes c =
@@ -34,32 +32,13 @@ hold_entry-requires-clause-bytes c =
 pub entries-preserved : goal.entries-preserved
 entries-preserved c =
     let S = c.args.session.now in let v = c.args.blocks.now in let bytes = c.args.bytes.now in let n = c.unwrap-tree.result in
-    let inv = c.entries.invariant in let e = c.hold_entry.ensures.held in
+    let inv = c.entries.invariant in let e = c.hold_entry.ensures in
     let next : suc c.entries.entry ≡ c.entries.entry + 1 = omega arith in (
-      c.hold_entry.ensures.same ∙ inv.0,
+      inv.0,
       (
         inv.1.0,
-        (
-          inv.1.1.0,
-          subst (λ k. EntriesHeld S n v bytes k c.args.held.now.holdings inv.1.0 c.hold_entry.new.holdings c.hold_entry.new.out) next (
-            c.entries.held.holdings,
-            (
-              c.entries.out,
-              (
-                inv.1.1.1,
-                (
-                  e.0,
-                  (
-                    e.1,
-                    subst (λ (s : SessionSeen). EntryHeld s n v bytes c.entries.entry e.0 c.entries.held.holdings c.entries.out c.hold_entry.new.holdings
-                        c.hold_entry.new.out)
-                        inv.0 e.2,
-                  ),
-                ),
-              ),
-            ),
-          ),
-        ),
+        subst (λ k. EntriesHeld S n v bytes k c.args.held.now.holdings inv.0 c.hold_entry.new.holdings c.hold_entry.new.out) next
+            (c.entries.held.holdings, (c.entries.out, (inv.1.1, e))),
       ),
     )
 
@@ -69,7 +48,7 @@ pieces_of-pieces-requires-clause-tree c =
     let number : c.unwrap-tree.result ≡ c.requires.number =
     number_is S v size c.requires c.torrent-2.result.now c.place-file.result c.tree_of.result c.unwrap-tree.result c.torrent-2.ensures c.place-file.ensures
     c.tree_of.ensures c.unwrap-tree.ensures in
-    omega (arith, tree_inside S v size c.requires, number, ap (λ (s : SessionSeen). length s.torrent.trees) c.entries.invariant.0)
+    omega (arith, tree_inside S v size c.requires, number)
 
 pub pieces_of-pieces-requires-clause-few : goal.pieces_of-pieces-requires-clause-few
 pieces_of-pieces-requires-clause-few c =

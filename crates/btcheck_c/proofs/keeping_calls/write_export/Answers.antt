@@ -15,11 +15,11 @@ returns-in_default-clause-done c =
 pub unreachable-requires : goal.unreachable-requires
 unreachable-requires c =
     let next = c.in-Some.ensures.found in let ask = c.in-Some.export.ask in let S' = c.next_export.new.self in
-    let refused = subst (λ (a : Answer). IsAnswerTo S' ask a) c.in-Some-Reject.field-0-is c.in-Some-Reject.ensures.answer in
-    refused (range-can c.args.session.now S' c.in-Some.export.tree next.block ask c.next_export.ensures.same next.range)
+    let refused = subst (λ (a : Answer). IsAnswerTo S ask a) c.in-Ok-Reject.field-0-is c.in-Ok-Reject.ensures.answer in
+    refused (range-can S S c.in-Some.export.tree next.block ask refl next.range)
 
-pub returns-in-None-clause-done : goal.returns-in-None-clause-done
-returns-in-None-clause-done c =
+pub returns-in-Err-clause-done : goal.returns-in-Err-clause-done
+returns-in-Err-clause-done c =
     let next = c.in-Some.ensures.found in
     inr (inr (
       refl,
@@ -33,20 +33,20 @@ returns-in-None-clause-done c =
 pub write_hashes_frame-status-requires : goal.write_hashes_frame-status-requires
 write_hashes_frame-status-requires c =
     let next = c.in-Some.ensures.found in let ask = c.in-Some.export.ask in let S' = c.next_export.new.self in
-    let given = subst (λ (a : Answer). IsAnswerTo S' ask a) c.in-Some-Hashes.field-0-is c.in-Some-Hashes.ensures.answer in
+    let given = subst (λ (a : Answer). IsAnswerTo S ask a) c.in-Ok-Hashes.field-0-is c.in-Ok-Hashes.ensures.answer in
     let few : IsFewFrom c.args.session.now ask c.deref.result.now =
-    export-answered c.args.session.now S' c.torrent.result.now c.in-Some.export.tree next.block ask c.in-Some-Hashes.hashes.items c.deref.result.now
-    c.next_export.ensures.same c.torrent.ensures c.recall_sound.ensures c.next_export.ensures.closed c.next_export.ensures.distinct next.range
+    export-answered S S c.torrent.result.now c.in-Some.export.tree next.block ask c.in-Ok-Hashes.hashes.items c.deref.result.now
+    refl c.torrent.ensures c.recall_sound.ensures c.recall_closed_trees.ensures c.recall_distinct_roots.ensures next.range
     c.deref.ensures.value given in
     omega (arith, few.few)
 
 pub returns-after-status-eq-DONE-clause-done : goal.returns-after-status-eq-DONE-clause-done
 returns-after-status-eq-DONE-clause-done c =
     let next = c.in-Some.ensures.found in let ask = c.in-Some.export.ask in let S' = c.next_export.new.self in
-    let given = subst (λ (a : Answer). IsAnswerTo S' ask a) c.in-Some-Hashes.field-0-is c.in-Some-Hashes.ensures.answer in
+    let given = subst (λ (a : Answer). IsAnswerTo S ask a) c.in-Ok-Hashes.field-0-is c.in-Ok-Hashes.ensures.answer in
     let few : IsFewFrom c.args.session.now ask c.deref.result.now =
-    export-answered c.args.session.now S' c.torrent.result.now c.in-Some.export.tree next.block ask c.in-Some-Hashes.hashes.items c.deref.result.now
-    c.next_export.ensures.same c.torrent.ensures c.recall_sound.ensures c.next_export.ensures.closed c.next_export.ensures.distinct next.range
+    export-answered S S c.torrent.result.now c.in-Some.export.tree next.block ask c.in-Ok-Hashes.hashes.items c.deref.result.now
+    refl c.torrent.ensures c.recall_sound.ensures c.recall_closed_trees.ensures c.recall_distinct_roots.ensures next.range
     c.deref.ensures.value given in
     let is_next = subst (λ p. IsExport c.args.session.now p c.in-Some.export) c.read_cursor.ensures next in
     inl (record {

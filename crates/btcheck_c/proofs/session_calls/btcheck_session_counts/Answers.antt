@@ -1,9 +1,10 @@
 use Rattle.btcheck_c.specs.SessionCalls.{Counted}
+use Rattle.btcheck_c.specs.declared.thing.Kind.TheVariants as kind
 use Rattle.btcheck_c.proofs.Throughs.{through}
 use Rattle.btcheck_c.proofs.session_calls.btcheck_session_counts.Goals as goal
 
-pub returns-clause-done : goal.returns-clause-done
-returns-clause-done c = through (Counted c.args.tree c.counts-status.new.known c.counts-status.new.marked)
+pub returns-in-Session-clause-done : goal.returns-in-Session-clause-done
+returns-in-Session-clause-done c = through (Counted c.args.tree c.counts-answer.new.known c.counts-answer.new.marked)
     c.args.handle.now.slot.held c.put.new.self.slot.held
-    c.in-Some.thing.value c.deref_mut.result.now c.counts-status.new.thing c.counts-status.result
-    c.in-Some.ensures.taken c.put.ensures c.deref_mut.ensures.value c.counts-status.ensures.done
+    c.in-Some.thing.value c.deref_mut.result.now (kind.Session c.in-Session.session) (kind.Session c.in-Session.session) c.counts-answer.result
+    c.in-Some.ensures.taken c.deref_mut.ensures.value c.in-Session.is c.put.ensures c.counts-answer.ensures.done

@@ -1,9 +1,10 @@
 use Rattle.btcheck_c.specs.Torrents.{AnswersIfHybrid}
+use Rattle.btcheck_c.specs.declared.thing.Kind.TheVariants as kind
 use Rattle.btcheck_c.proofs.Throughs.{through}
 use Rattle.btcheck_c.proofs.torrent_calls.btcheck_session_is_hybrid.Goals as goal
 
-pub returns : goal.returns
-returns c = through AnswersIfHybrid
+pub returns-in-Session : goal.returns-in-Session
+returns-in-Session c = through AnswersIfHybrid
     c.args.handle.now.slot.held c.put.new.self.slot.held
-    c.in-Some.thing.value c.deref_mut.result.now c.is_hybrid-status.new.thing c.is_hybrid-status.result
-    c.in-Some.ensures.taken c.put.ensures c.deref_mut.ensures.value c.is_hybrid-status.ensures
+    c.in-Some.thing.value c.deref_mut.result.now (kind.Session c.in-Session.session) (kind.Session c.in-Session.session) c.is_hybrid-answer.result
+    c.in-Some.ensures.taken c.deref_mut.ensures.value c.in-Session.is c.put.ensures c.is_hybrid-answer.ensures
