@@ -7,6 +7,7 @@ ghost use Rattle.part_texts.specs.Texts.{flag_text, number_text, sized};
 pub(crate) fn number(text: &[u8]) -> Option<(u64, &[u8])>
     ensures written { (n : ℕ) (more : List ℕ) → n < 2 ^ 64 → text.now ≡ number_text n ++ more
         → IsSomeAnd result (λ p. (p.0 ≡ n) × (p.1.now ≡ more)) }
+    ensures front { IfSome result (λ p. text.now ≡ number_text p.0 ++ p.1.now) }
     ensures shorter { IfSome result (λ p. length p.1.now + 8 ≡ length text.now) }
 {
     let (bytes, rest) = text.split_first_chunk::<8>()?;
@@ -30,6 +31,8 @@ pub(crate) fn flag(text: &[u8]) -> Option<(bool, &[u8])>
 pub(crate) fn sized(text: &[u8]) -> Option<(&[u8], &[u8])>
     ensures written { (bytes more : List ℕ) → length bytes < 2 ^ 64 → text.now ≡ sized bytes ++ more
         → IsSomeAnd result (λ p. (p.0.now ≡ bytes) × (p.1.now ≡ more)) }
+    ensures front { IfSome result (λ p. text.now ≡ sized p.0.now ++ p.1.now) }
+    ensures small { IfSome result (λ p. length p.0.now < 2 ^ 64) }
     ensures shorter { IfSome result (λ p. length p.1.now + 8 ≤ length text.now) }
 {
     let (count, rest) = number(text)?;
