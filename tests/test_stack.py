@@ -66,6 +66,21 @@ def test_torrents_and_folders():
                     out=f"{place}/out")
 
 
+def test_checks_of_small_files():
+    """So many that they are judged together, in more than one batch; some are damaged."""
+    with folder() as place:
+        os.mkdir(f"{place}/all")
+        for number in range(150):
+            write(f"{place}/all/{number:03}", bytes([number]) * (number * 997 % 70_000 + 1))
+        for kind in ([], ["--hybrid"]):
+            path = f"{place}/torrent{len(kind)}"
+            expect_same("create", f"{place}/all", path, "--name", "x", "--piece-length", "65536", *kind, out=path)
+        write(f"{place}/all/077", b"x" + written(f"{place}/all/077")[1:])
+        for path in (f"{place}/torrent0", f"{place}/torrent1"):
+            for more in ([], ["--json"], ["--quiet"], ["--bad"], ["--part", "1/2"]):
+                expect_same("check", path, f"{place}/all", *more, statuses=(0, 1))
+
+
 def test_checks_of_hybrids():
     with folder() as place:
         path = write(f"{place}/torrent", torrent(hybrid()))
