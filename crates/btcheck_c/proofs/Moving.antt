@@ -13,6 +13,7 @@ use Rattle.pieces.proofs.v1_feed.V1.TheSendSync as version1
 use Rattle.pieces.proofs.piece_length.PieceLength.TheSendSync as piece_length
 use Rattle.node_maps.proofs.paged.Paged.TheSendSync as paged
 use Rattle.session.proofs.session.SessionOf.TheSendSync as session_of
+use Rattle.session.specs.contracts.torrent_holder.OwnTorrent as OwnTorrent
 use Rattle.short_pushes.proofs.row_check.RowCheck.TheSendSync as row_check
 use Rattle.short_pushes.proofs.file_root.FileRoot.TheSendSync as root
 use Rattle.hashtree.proofs.shape.Shape.TheSendSync as shape
@@ -34,6 +35,9 @@ file κ = search (path, sendable) depth 40 fits 100000
 torrent : (κ : NamedLft) → IsSend (Torrent.the_row κ)
 torrent κ = search (file, tree_info.the_send, version1.the_send, piece_length.the_send, maps.crosses, heap.crosses, sendable) depth 40 fits 100000
 
+own : IsSend OwnTorrent.the_row
+own = search (torrent, declared_send, as_row_send, sendable) depth 40 fits 100000
+
 check : IsSend FileCheck.the_row
 check = search (row_check.the_field_send, declared_send, as_row_send, sendable) depth 30 fits 100000
 
@@ -41,7 +45,7 @@ held : IsSend Held.the_row
 held = search (holdings.the_send, declared_send, as_row_send, sendable) depth 30 fits 100000
 
 kind : IsSend Kind.the_row
-kind = search (session_of.the_send, torrent, paged.the_send, root.the_field_send, check, held, draft.the_send, coming.the_field_send, variants_send, as_row_send, sendable) depth 40 fits 100000
+kind = search (session_of.the_send, own, paged.the_send, root.the_field_send, check, held, draft.the_send, coming.the_field_send, variants_send, as_row_send, sendable) depth 40 fits 100000
 
 pub thing : IsSend Thing.the_row
 thing = search (kind, declared_send, sendable) depth 30 fits 100000

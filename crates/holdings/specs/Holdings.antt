@@ -125,14 +125,16 @@ seen_at m q = get m.pieces q
 
 -- what contracts see of it
 abbrev pub seen_holdings : KeptPieces → ℕ → ℕ → HoldingsSeen
-seen_holdings m most clock = record { pieces = m.pieces; most = most; longest = m.width; clock = clock }
+seen_holdings m most clock =
+    record { pieces = m.pieces; most = most; longest = m.width; clock = clock }
 
 -- with this of a piece
 abbrev pub with_table_piece : KeptPieces → ℕ × ℕ → PieceSeen → KeptPieces
 with_table_piece m q x = record m { pieces = insert m.pieces q x }
 
 -- the digest of a block of a piece that is there is written
-pub record WritesCell (m : KeptPieces) (q : ℕ × ℕ) (j : ℕ) (d : Hash) (now : ℕ) (m' : KeptPieces) : Type 0 where
+pub record WritesCell (m : KeptPieces) (q : ℕ × ℕ) (j : ℕ) (d : Hash) (now : ℕ) (m' : KeptPieces)
+    : Type 0 where
   pub seen : PieceSeen
   pub there : seen_at m q ≡ Some seen
   pub inside : j < length seen.cells
@@ -152,8 +154,8 @@ pub record IsAged (piece : ℕ × ℕ → Option PieceSeen) (age : ℕ → Optio
   pub past : (t : ℕ) (q : ℕ × ℕ) → age t ≡ Some q → t < clock
   pub low : (q : ℕ × ℕ) (x : PieceSeen) → piece q ≡ Some x → IsLowPiece q x
 
--- the same of the two maps, which have as many entries; each age stands behind a zero; and there are
--- no more pieces than there may be, and room for one more
+-- the same of the two maps, which have as many entries; each age stands behind a zero; and there
+-- are no more pieces than there may be, and room for one more
 pub record IsKept (pieces : KeptPieces) (ages : KeptAges) (most clock : ℕ) : Type 0 where
   pub aged : IsAged (seen_at pieces) (age_at ages) clock
   pub zero : (k q : ℕ × ℕ) → get (map_of ages) k ≡ Some q → k.0 ≡ 0

@@ -14,11 +14,15 @@ RowOf = ℕ × ℕ
 
 -- what contracts see of a piece: of each row, only the cells of its blocks
 abbrev pub seen_row : Cells → List ℕ → ℕ → RowOf → PieceSeen
-seen_row cells newest width p = record { cells = take p.1 (drop (p.0 * width) cells); newest = slice_index_or newest p.0 0 }
+seen_row cells newest width p = record {
+  cells = take p.1 (drop (p.0 * width) cells);
+  newest = slice_index_or newest p.0 0;
+}
 
 -- what contracts see of all pieces
 abbrev pub seen_rows : Cells → List ℕ → ℕ → FinMap place_cmp RowOf → FinMap place_cmp PieceSeen
-seen_rows cells newest width m = from_sorted (map (λ e. (e.0, seen_row cells newest width e.1)) (entries m))
+seen_rows cells newest width m =
+    from_sorted (map (λ e. (e.0, seen_row cells newest width e.1)) (entries m))
 
 -- how many digests are held of the piece of an entry
 abbrev pub weigh : Cells → ℕ → (ℕ × ℕ) × RowOf → ℕ
@@ -37,7 +41,8 @@ pub record IsTable (order : FixedMapSeen) (rows : Slab (ℕ × ℕ)) (cells : Ce
     (width room most_cells most_rows : ℕ) : Type 0 where
   pub back : (q : ℕ × ℕ) (p : RowOf) → get (map_of order) q ≡ Some p → slab.get rows p.0 ≡ Some q
   pub low : (q : ℕ × ℕ) (p : RowOf) → get (map_of order) q ≡ Some p → p.1 ≤ width
-  pub inside : (q : ℕ × ℕ) (p : RowOf) → get (map_of order) q ≡ Some p → p.0 * width + width ≤ length cells
+  pub inside : (q : ℕ × ℕ) (p : RowOf) → get (map_of order) q ≡ Some p
+      → p.0 * width + width ≤ length cells
   pub timed : (q : ℕ × ℕ) (p : RowOf) → get (map_of order) q ≡ Some p → p.0 < length newest
   pub count : slab_len rows ≡ len (map_of order)
   pub all : slab_len rows ≤ rows.capacity

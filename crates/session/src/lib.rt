@@ -20,5 +20,5 @@ pub use node_maps::{Flat, NodeMap, Paged};
 pub use partial_tree::{Answer, BlockRefusal, GrowingTree, GrownTree, HashRefusal, PieceRefusal};
 pub use running::recall_message_hashes;
 pub use session::{OwnedSession, Session, SessionOf};
-pub use torrent_holder::HoldsTorrent;
+pub use torrent_holder::{HoldsTorrent, OwnTorrent};
 pub use verdict::{Blocks, Verdict};

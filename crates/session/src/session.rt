@@ -14,7 +14,7 @@ ghost use Rattle.session.specs.Fresh.{IsFresh};
 
 use crate::open_asks::OpenAsks;
 use crate::planting::planted_all;
-use crate::torrent_holder::HoldsTorrent;
+use crate::torrent_holder::{HoldsTorrent, OwnTorrent};
 use hashtree::NoMemory;
 use node_maps::NodeMap;
 use opening::Torrent;
@@ -38,7 +38,7 @@ pub type Session<'t, N> = SessionOf<&'t Torrent<'t>, N>;
 
 /// A session that owns its torrent, and borrows only the bytes that the torrent was read from. So
 /// it can be a field, lie in a collection, or stand behind a handle of C.
-pub type OwnedSession<N> = SessionOf<Torrent<'static>, N>;
+pub type OwnedSession<N> = SessionOf<OwnTorrent, N>;
 
 impl<T: HoldsTorrent, N: NodeMap> Model for SessionOf<T, N> {
     ghost use Rattle.session.specs.Layouts.{SessionSeen, seen, AreKept};
@@ -88,14 +88,14 @@ impl<N: NodeMap> OwnedSession<N> {
         ensures fresh { IfOk result (IsFresh torrent.entry with_layers) }
         ensures no_memory { OnErr result (0 < length torrent.entry.trees) }
     {
-        SessionOf::start(alloc, torrent, with_layers)
+        SessionOf::start(alloc, OwnTorrent { torrent }, with_layers)
     }
 
     /// The torrent.
     pub fn torrent(&self) -> &Torrent<'static>
         ensures { result.now ≡ self.now.torrent }
     {
-        &self.torrent
+        &self.torrent.torrent
     }
 }
 

@@ -23,10 +23,17 @@ impl<'t> HoldsTorrent for &'t Torrent<'t> {
     }
 }
 
-impl HoldsTorrent for Torrent<'static> {
-    ghost described = { λ t. t };
+/// A torrent whose bytes live as long as the program may need them. It is a type of its own, since
+/// its name has no lifetime, so that a session that owns it may be lent to any call.
+#[derive(Drop)]
+pub struct OwnTorrent {
+    pub(crate) torrent: Torrent<'static>,
+}
+
+impl HoldsTorrent for OwnTorrent {
+    ghost described = { λ t. t.torrent };
 
     fn lend(&self) -> &Torrent<'_> {
-        self
+        &self.torrent
     }
 }

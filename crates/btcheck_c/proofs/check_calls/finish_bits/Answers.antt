@@ -8,8 +8,8 @@ stop-requires c = omega (arith, c.left.ensures, c.if-left-eq0.false)
 pub finish-requires : goal.finish-requires
 finish-requires c = omega (arith, c.left.ensures)
 
-pub returns-else-left-eq0-clause-done : goal.returns-else-left-eq0-clause-done
-returns-else-left-eq0-clause-done c =
+pub returns-clause-done : goal.returns-clause-done
+returns-clause-done c =
     inr (refl, (omega (arith, c.left.ensures, c.if-left-eq0.false), (c.stop.ensures.verdict, (c.stop.new.self, refl, c.stop.ensures.begins))))
 
 pub returns-then-left-eq0-clause-done : goal.returns-then-left-eq0-clause-done

@@ -9,8 +9,8 @@ returns-then-left-gt0-clause-unwritten c = λ wrote. refl
 pub finish-requires : goal.finish-requires
 finish-requires c = omega (arith, c.left.ensures)
 
-pub returns-else-left-gt0-clause-done : goal.returns-else-left-gt0-clause-done
-returns-else-left-gt0-clause-done c =
+pub returns-clause-done : goal.returns-clause-done
+returns-clause-done c =
     let none : bytes_left c.args.check.now ≡ 0 = omega (arith, c.left.ensures, c.if-left-gt0.false) in
     let no_bits : c.finish.new.good ≡ [] = nil_from_length c.finish.new.good c.finish.ensures.size in
     inl (

@@ -38,7 +38,7 @@ entries-preserved c =
       (
         inv.1.0,
         subst (λ k. EntriesHeld S n v bytes k c.args.held.now.holdings inv.0 c.hold_entry.new.holdings c.hold_entry.new.out) next
-            (c.entries.held.holdings, (c.entries.out, (inv.1.1, e))),
+            (c.entries.held.holdings, (c.entries.out, (inv.1.1, (e.0, (e.1, e.2))))),
       ),
     )
 

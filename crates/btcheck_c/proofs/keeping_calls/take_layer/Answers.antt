@@ -17,8 +17,8 @@ fill-requires c =
     ∙ ap length c.trees.ensures ∙ ap (λ (d : Description). length d.trees) c.torrent.ensures in
     omega (arith, c.if-tree-trees.false, count)
 
-pub returns-else-tree-trees-clause-done : goal.returns-else-tree-trees-clause-done
-returns-else-tree-trees-clause-done c = inl (
+pub returns-clause-done : goal.returns-clause-done
+returns-clause-done c = inl (
   c.fill.result,
   c.status_of_hashes.ensures.done,
   (

@@ -14,7 +14,7 @@ returns-in_default-clause-done c =
 
 pub unreachable-requires : goal.unreachable-requires
 unreachable-requires c =
-    let next = c.in-Some.ensures.found in let ask = c.in-Some.export.ask in let S' = c.next_export.new.self in
+    let next = c.in-Some.ensures.found in let ask = c.in-Some.export.ask in let S = c.args.session.now in
     let refused = subst (λ (a : Answer). IsAnswerTo S ask a) c.in-Ok-Reject.field-0-is c.in-Ok-Reject.ensures.answer in
     refused (range-can S S c.in-Some.export.tree next.block ask refl next.range)
 
@@ -32,7 +32,7 @@ returns-in-Err-clause-done c =
 
 pub write_hashes_frame-status-requires : goal.write_hashes_frame-status-requires
 write_hashes_frame-status-requires c =
-    let next = c.in-Some.ensures.found in let ask = c.in-Some.export.ask in let S' = c.next_export.new.self in
+    let next = c.in-Some.ensures.found in let ask = c.in-Some.export.ask in let S = c.args.session.now in
     let given = subst (λ (a : Answer). IsAnswerTo S ask a) c.in-Ok-Hashes.field-0-is c.in-Ok-Hashes.ensures.answer in
     let few : IsFewFrom c.args.session.now ask c.deref.result.now =
     export-answered S S c.torrent.result.now c.in-Some.export.tree next.block ask c.in-Ok-Hashes.hashes.items c.deref.result.now
@@ -42,7 +42,7 @@ write_hashes_frame-status-requires c =
 
 pub returns-after-status-eq-DONE-clause-done : goal.returns-after-status-eq-DONE-clause-done
 returns-after-status-eq-DONE-clause-done c =
-    let next = c.in-Some.ensures.found in let ask = c.in-Some.export.ask in let S' = c.next_export.new.self in
+    let next = c.in-Some.ensures.found in let ask = c.in-Some.export.ask in let S = c.args.session.now in
     let given = subst (λ (a : Answer). IsAnswerTo S ask a) c.in-Ok-Hashes.field-0-is c.in-Ok-Hashes.ensures.answer in
     let few : IsFewFrom c.args.session.now ask c.deref.result.now =
     export-answered S S c.torrent.result.now c.in-Some.export.tree next.block ask c.in-Ok-Hashes.hashes.items c.deref.result.now

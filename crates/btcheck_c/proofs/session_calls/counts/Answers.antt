@@ -23,5 +23,5 @@ marked-requires c =
     ∙ ap length c.trees.ensures ∙ ap (λ (d : Description). length d.trees) c.torrent.ensures in
     omega (arith, c.if-tree-trees.false, count)
 
-pub returns-else-tree-trees-clause-done : goal.returns-else-tree-trees-clause-done
-returns-else-tree-trees-clause-done c = (refl, inl (refl, (c.known.ensures, c.marked.ensures)))
+pub returns-clause-done : goal.returns-clause-done
+returns-clause-done c = (refl, inl (refl, (c.known.ensures, c.marked.ensures)))
