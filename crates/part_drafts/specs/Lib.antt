@@ -1,3 +1,4 @@
 -- What contracts of hashing one part cite.
+pub mod Faults
 pub mod Parts
 pub mod Rows

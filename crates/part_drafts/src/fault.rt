@@ -1,4 +1,7 @@
 //! Why a part was not hashed.
+ghost use Rattle.std.specs.Prelude.{◌≡◌};
+ghost use Rattle.part_drafts.specs.Faults.{at_place};
+
 use std::alloc::AllocError;
 
 /// Why a part was not hashed. A file is named by its place in the listing, from 0.
@@ -38,7 +41,9 @@ pub(crate) enum RowFault {
 
 impl RowFault {
     /// The fault, with the file's place in the listing.
-    pub(crate) fn at(self, place: usize) -> PartFault {
+    pub(crate) fn at(self, place: usize) -> PartFault
+        ensures { result ≡ at_place self place }
+    {
         match self {
             RowFault::Device => PartFault::Device(place),
             RowFault::Changed => PartFault::Changed(place),

@@ -1,7 +1,8 @@
 //! The hashing of one part.
-ghost use Rattle.std.specs.Prelude.{◌≡◌, ◌<◌, ◌≤◌, ◌++◌, ℕ, List, length, map, IfOk, OnOk};
+ghost use Rattle.std.specs.Prelude.{◌≡◌, ◌<◌, ◌≤◌, ◌++◌, ℕ, List, length, map, IfErr, IfOk, OnOk};
 ghost use Rattle.std.specs.String.{string_bytes};
 ghost use Rattle.gathering.specs.Hashing.{AreHashesOf};
+ghost use Rattle.part_drafts.specs.Faults.{IsAtFile, IsFault};
 ghost use Rattle.part_drafts.specs.Parts.{AreRows, IsPartText, IsRow, rows_text};
 ghost use Rattle.part_drafts.specs.Rows.{row_text};
 ghost use Rattle.part_texts.specs.Divisions.{total_of};
@@ -37,6 +38,7 @@ pub fn hash_part<S: SeekShelf>(
     requires { part < parts }
     ensures text { IfOk result (λ text. IsPartText (S.Shelf.contents shelf.old).under
         (inventory listing.now) part parts text.items) }
+    ensures fault { IfErr result (IsFault (inventory listing.now)) }
     ensures stays { S.Shelf.contents shelf.new ≡ S.Shelf.contents shelf.old }
 {
     let Some(kind) = TorrentKind::new(listing.piece_length, listing.hybrid) else {
@@ -63,6 +65,7 @@ fn put_rows<S: SeekShelf>(
         (total_of (map listed files.now)) parts part 0 (map listed files.now) rows
         × (text.new.items ≡ text.old.items ++ rows_text kind.now.piece_length kind.now.hybrid
         (map listed files.now) rows)) }
+    ensures fault { IfErr result (IsAtFile (length files.now)) }
     ensures stays { S.Shelf.contents shelf.new ≡ S.Shelf.contents shelf.old }
 {
     let division = Division::of(kind.piece_length, files, parts);

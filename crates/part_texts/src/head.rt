@@ -21,6 +21,7 @@ pub struct Head<'t> {
 /// Reads the front of a part's text; `None` if it is none. There is such a part.
 pub fn read_head(text: &[u8]) -> Option<Head<'_>>
     ensures there { IfSome result (λ h. h.part < h.parts) }
+    ensures small { IfSome result (λ h. (h.parts < 2 ^ 64) × (length h.listing.now < 2 ^ 64)) }
     ensures front { IfSome result (λ h.
         text.now ≡ head_text h.part h.parts h.listing.now ++ h.rows.now) }
     ensures written { (part parts : ℕ) (listing rows : List ℕ) → part < parts → parts < 2 ^ 64

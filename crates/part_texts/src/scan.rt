@@ -32,6 +32,7 @@ pub(crate) fn sized(text: &[u8]) -> Option<(&[u8], &[u8])>
     ensures written { (bytes more : List ℕ) → length bytes < 2 ^ 64 → text.now ≡ sized bytes ++ more
         → IsSomeAnd result (λ p. (p.0.now ≡ bytes) × (p.1.now ≡ more)) }
     ensures front { IfSome result (λ p. text.now ≡ sized p.0.now ++ p.1.now) }
+    ensures small { IfSome result (λ p. length p.0.now < 2 ^ 64) }
     ensures shorter { IfSome result (λ p. length p.1.now + 8 ≤ length text.now) }
 {
     let (count, rest) = number(text)?;

@@ -1,4 +1,5 @@
 -- Lemmas on round trips.
+pub mod Alike
 pub mod CutDigests
 pub mod Entries
 pub mod Gathering

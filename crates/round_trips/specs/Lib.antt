@@ -1,2 +1,3 @@
 -- What contracts of round trips cite.
+pub mod Alike
 pub mod RoundTrip

@@ -1,5 +1,6 @@
-//! The law of the whole round trip.
+//! The laws of what is gathered, and of the whole round trip.
 
+ghost use Rattle.round_trips.specs.Alike.{AlikeWriteAlike};
 ghost use Rattle.round_trips.specs.RoundTrip.{RoundTrips};
 
 use drafts::Draft;
@@ -15,3 +16,9 @@ pub fn gathered_checks_good(draft: &Draft)
     draft_describes();
     torrent_is_one();
 }
+
+/// Drafts that are gathered of the same paths and contents are written as the same bytes, however
+/// each was made: by reading the files in one go, or of what was hashed in parts.
+pub fn alike_write_alike()
+    ensures { AlikeWriteAlike }
+{}

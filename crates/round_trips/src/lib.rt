@@ -3,4 +3,4 @@
 
 mod laws;
 
-pub use laws::gathered_checks_good;
+pub use laws::{alike_write_alike, gathered_checks_good};
