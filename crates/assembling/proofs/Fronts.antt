@@ -1,12 +1,17 @@
 -- The fronts of parts' texts.
 use Rattle.std.proofs.Common.{◌≡◌, ◌≢◌, ℕ, zero, suc, ◌+◌, ◌<◌, ◌^◌, ◌++◌, ◌∷◌, ◌⊎◌, List, [], Bor, get_or, length, map, take, slice_get, Some, inl, inr, refl, sym, ◌∙◌, ap, subst}
-use Rattle.std.proofs.Common.{arith, length-append, add-one}
+use Rattle.std.proofs.Common.{Bool, true, false, not, None, Option, Result, IfSome, arith, if◌then◌else◌, is_ok, is_some, length-append, length-map, add-one}
 use Rattle.std.proofs.Math.Seq.{take-suc}
 use Rattle.std.proofs.lemmas.Option.{get_or_from_slice_get, none-some, same_Some, slice_get-get_or, slice_get-map, slice_get_within}
 use Rattle.std.specs.Option.{option_map}
 use Rattle.part_texts.specs.declared.head.Head.{Head}
 use Rattle.assembling.specs.Fronts.{AreAllParts, AreOfOne, Front, HasPart, IsFront}
-use Rattle.assembling.specs.Heads.{front_of}
+use Rattle.std.specs.Str.{bytes_eq}
+use Rattle.std.proofs.lemmas.List.{map_push}
+use Rattle.std.proofs.lemmas.Slice.Eq.{bytes_eq-Decides}
+use Rattle.assembling.specs.Heads.{ArePartsOf, front_of}
+use Rattle.assembling.specs.Reasons.{IsMissing}
+use Rattle.assembling.specs.declared.numbers.Parts.{Parts}
 
 -- the item of a list that another list is made of
 pub item_of : {A B : Type 0} (f : A → B) (xs : List A) (i : ℕ) (d : A) → i < length xs → slice_get (map f xs) i ≡ Some (f (get_or xs i d))
@@ -130,3 +135,119 @@ taken_push fronts rows places part place f rest rows_are places_are there own be
     behind ∙ sym last.0,
   )
 ]
+
+-- ---- what is known of the fronts that were read
+
+pub push_ok : {A E : Type 0} (r : Result (Unit {0}) E) (old new : List A) (x : A) → new ≡ (if is_ok r then old ++ x ∷ [] else old) → is_ok r ≡ true
+    → new ≡ old ++ x ∷ []
+push_ok r old new x is ok = is ∙ ap (λ b. (if b then old ++ x ∷ [] else old)) ok
+
+pub found_part : (o : Option ℕ) (heads : List Head) (part : ℕ) → true ≡ is_some o
+    → IfSome o (λ i. (h : Head) × (slice_get heads i ≡ Some h) × (h.part ≡ part)) → HasPart (map front_of heads) part
+found_part None heads part some found = let no : ⊥ = cc in absurd no
+found_part (Some i) heads part some found = (i, front_of found.0, item_to front_of heads i found.0 found.1, found.2)
+
+pub none_of : (o : Option ℕ) → is_some o ≡ false → o ≡ None
+none_of None none = refl
+none_of (Some i) none = let no : ⊥ = cc in absurd no
+
+pub no_part : (heads : List Head) (part : ℕ) → ((i : ℕ) (h : Head) → slice_get heads i ≡ Some h → h.part ≢ part) → (i : ℕ) (g : Front)
+    → slice_get (map front_of heads) i ≡ Some g → g.part ≢ part
+no_part heads part none i g at same =
+    let h = item_from front_of heads i g at in none i h.0 h.1 (ap (λ (f : Front). f.part) h.2 ∙ same)
+
+pub same_first : (heads : List Head) (head first : Head) (g : Front) → slice_get heads 0 ≡ Some first → head.parts ≡ first.parts
+    → head.listing.now ≡ first.listing.now → slice_get (map front_of heads) 0 ≡ Some g → (head.parts ≡ g.parts) × (head.listing.now ≡ g.listing)
+same_first heads head first g at parts listing there =
+    let same : front_of first ≡ g = same_Some (front_of first) g (sym (item_to front_of heads 0 first at) ∙ there) in
+    (parts ∙ ap (λ (f : Front). f.parts) same, listing ∙ ap (λ (f : Front). f.listing) same)
+
+pub no_first : (heads : List Head) (head : Head) (g : Front) → slice_get heads 0 ≡ None → slice_get (map front_of heads) 0 ≡ Some g
+    → (head.parts ≡ g.parts) × (head.listing.now ≡ g.listing)
+no_first heads head g none there = let h = item_from front_of heads 0 g there in absurd (none-some h.0 (sym none ∙ h.1))
+
+pub same_bytes : (xs ys : List ℕ) → false ≡ not (bytes_eq xs ys) → xs ≡ ys
+same_bytes xs ys is = (bytes_eq-Decides xs ys).0 (turned (bytes_eq xs ys) is)
+  where
+    turned : (b : Bool) → false ≡ not b → b ≡ true
+    turned true is = refl
+    turned false is = let no : ⊥ = cc in absurd no
+
+pub other_bytes : (xs ys : List ℕ) → true ≡ not (bytes_eq xs ys) → xs ≢ ys
+other_bytes xs ys is same = let bad : true ≡ false = is ∙ ap not ((bytes_eq-Decides xs ys).1 same) in let no : ⊥ = cc in no
+
+-- ---- the parts in order
+
+pub taken_next : (heads : List Head) (rows rows' : List (Bor (List ℕ))) (places places' : List ℕ) (part place : ℕ) (h : Head) (r : Bor (List ℕ))
+    → length rows ≡ part → length places ≡ part → slice_get heads place ≡ Some h → h.part ≡ part → r ≡ h.rows → rows' ≡ rows ++ r ∷ []
+    → places' ≡ places ++ place ∷ [] → AreTaken (map front_of heads) (map (λ x. x.now) rows) places
+    → AreTaken (map front_of heads) (map (λ x. x.now) rows') places'
+taken_next heads rows rows' places places' part place h r rows_are places_are there own behind rows_is places_is taken =
+    subst (λ ps. AreTaken (map front_of heads) (map (λ x. x.now) rows') ps) (sym places_is)
+    (subst (λ rs. AreTaken (map front_of heads) rs (places ++ place ∷ [])) (sym (ap (map (λ x. x.now)) rows_is ∙ map_push (λ x. x.now) rows r))
+    (taken_push (map front_of heads) (map (λ x. x.now) rows) places part place (front_of h) r.now (length-map rows (λ x. x.now) ∙ rows_are) places_are
+    (item_to front_of heads place h there) own (ap (λ x. x.now) (sym behind)) taken))
+
+front_as : (text : List ℕ) (f : Front) (part parts : ℕ) (listing rows : List ℕ) → IsFront text f → f.part ≡ part → f.parts ≡ parts → f.listing ≡ listing
+    → f.rows ≡ rows → IsFront text (record { part = part; parts = parts; listing = listing; rows = rows })
+front_as text f part parts listing rows is own count of behind =
+    subst (λ r. IsFront text (record { part = part; parts = parts; listing = listing; rows = r })) behind
+    (subst (λ l. IsFront text (record { part = part; parts = parts; listing = l; rows = f.rows })) of
+    (subst (λ n. IsFront text (record { part = part; parts = n; listing = f.listing; rows = f.rows })) count
+    (subst (λ k. IsFront text (record { part = k; parts = f.parts; listing = f.listing; rows = f.rows })) own is)))
+
+pub parts_are : (texts : List (List ℕ)) (heads : List Head) (first : Head) (p : Parts) → AreOfOne texts (map front_of heads) → slice_get heads 0 ≡ Some first
+    → p.listing ≡ first.listing → length p.places.items ≡ length p.rows.items → length p.rows.items ≡ first.parts
+    → AreTaken (map front_of heads) (map (λ x. x.now) p.rows.items) p.places.items
+    → ((k : ℕ) → k < length p.rows.items → HasPart (map front_of heads) k) → ArePartsOf texts p
+parts_are texts heads first p are at listing places_are count taken found = record {
+  count = places_are;
+  all = record {
+    fronts = map front_of heads;
+    are = are;
+    some = some;
+    of = of;
+    all = found;
+  };
+  each = λ k rest there.
+      let t = taken k rest there in
+      let low : t.0 < length texts = omega (arith, slice_get_within (map front_of heads) t.0 t.1 t.3, are.count) in
+      let text_at : slice_get texts t.0 ≡ Some (get_or texts t.0 []) = slice_get-get_or texts t.0 [] low in
+      let own = of t.0 t.1 t.3 in
+      record {
+        place = t.0;
+        text = get_or texts t.0 [];
+        at = t.2;
+        there = text_at;
+        front = front_as (get_or texts t.0 []) t.1 k (length p.rows.items) p.listing.now rest (are.each t.0 (get_or texts t.0 []) t.1 text_at t.3) t.4 own.0 own.1
+            t.5;
+      };
+}
+  where
+    first_at : slice_get (map front_of heads) 0 ≡ Some (front_of first)
+    first_at = item_to front_of heads 0 first at
+
+    of : (i : ℕ) (f : Front) → slice_get (map front_of heads) i ≡ Some f → (f.parts ≡ length p.rows.items) × (f.listing ≡ p.listing.now)
+    of i f there =
+        let same = are.one i 0 f (front_of first) there first_at in (same.0 ∙ sym count, same.1 ∙ ap (λ x. x.now) (sym listing))
+
+    some : 0 < length p.rows.items
+    some =
+        let low : 0 < length texts = omega (arith, slice_get_within (map front_of heads) 0 (front_of first) first_at, are.count) in
+        let is = are.each 0 (get_or texts 0 []) (front_of first) (slice_get-get_or texts 0 [] low) first_at in omega (arith, is.there, count)
+
+pub missing_part : (texts : List (List ℕ)) (heads : List Head) (first : Head) (part : ℕ) → AreOfOne texts (map front_of heads) → slice_get heads 0 ≡ Some first
+    → part < first.parts → ((k : ℕ) → k < part → HasPart (map front_of heads) k)
+    → ((i : ℕ) (h : Head) → slice_get heads i ≡ Some h → h.part ≢ part) → IsMissing texts (part + 1) first.parts
+missing_part texts heads first part are at low found none = record {
+  fronts = map front_of heads;
+  are = are;
+  of = λ i f there. (are.one i 0 f (front_of first) there first_at).0;
+  none = λ empty. absurd (omega (arith, slice_get_within (map front_of heads) 0 (front_of first) first_at, are.count, ap length empty));
+  before = λ k less. found k (omega (arith, less));
+  missing = λ i f there same. no_part heads part none i f there (omega (arith, same));
+  within = (omega arith, omega (arith, low));
+}
+  where
+    first_at : slice_get (map front_of heads) 0 ≡ Some (front_of first)
+    first_at = item_to front_of heads 0 first at

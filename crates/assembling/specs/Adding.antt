@@ -9,8 +9,8 @@ use Rattle.part_texts.specs.Divisions.{total_of}
 use Rattle.part_texts.specs.Listings.{Inventory, Listed}
 use Rattle.assembling.specs.Assembly.{AreHeld, Assembles, RefusesListed}
 use Rattle.assembling.specs.Said.{EachSays}
-use Rattle.assembling.specs.declared.adding.FileFault.{FileFault}
-use Rattle.assembling.specs.declared.adding.FileFault.TheVariants as file
+use Rattle.assembling.specs.declared.one_file.FileFault.{FileFault}
+use Rattle.assembling.specs.declared.one_file.FileFault.TheVariants as file
 use Rattle.assembling.specs.declared.fault.AssembleFault.{AssembleFault}
 use Rattle.assembling.specs.declared.fault.AssembleFault.TheVariants as fault
 

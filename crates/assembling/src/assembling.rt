@@ -7,11 +7,11 @@ ghost use Rattle.part_texts.specs.Divisions.{total_of};
 ghost use Rattle.part_texts.specs.Listings.{inventory, listed};
 ghost use Rattle.pieces.specs.Pieces.{IsPieceLength};
 
-use crate::adding::{FileFault, add_file};
+use crate::one_file::{FileFault, add_file};
 use crate::fault::{AssembleFault, unread};
 use crate::numbers::{Parts, parts_of};
 use crate::sizes::test_sizes;
-use crate::taking::rows_of;
+use crate::all_rows::rows_of;
 use drafts::Draft;
 use filetree::Refusal;
 use part_texts::{Division, Listing, hashed, read_listing};
@@ -66,7 +66,7 @@ fn add_all(
     requires total { division.now.total ≡ total_of (map listed listing.files.items) }
     ensures draft { IfOk result (IsDraftOf (inventory listing)) }
     ensures no_write { IfErr result AreNoWrite }
-    ensures gathers { AddsAll (inventory listing) (map (λ x. x.now) parts.rows.items) result }
+    ensures gathers { AddsAll (inventory listing) (map (λ x. x.now) parts.entry.rows.items) result }
 {
     let mut parts = parts;
     let mut listing = listing;

@@ -1,5 +1,5 @@
 //! What a part's text says of the pieces of one file, read.
-ghost use Rattle.std.specs.Prelude.{◌≡◌, ◌+◌, ◌++◌, ◌≤◌, ℕ, List, length, true};
+ghost use Rattle.std.specs.Prelude.{◌≡◌, ◌+◌, ◌++◌, ◌<◌, ℕ, List, length, true};
 ghost use Rattle.assembling.specs.Reading.{AddsCount, IfAdded, IfRead, IsBehind};
 ghost use Rattle.assembling.specs.Said.{FitsCount, RowSaid, said_text};
 ghost use Rattle.drafts.specs.Outline.{AreOfLength};
@@ -22,7 +22,8 @@ pub(crate) struct FileRows {
 type Rest<'t> = Result<Option<&'t [u8]>, AllocError>;
 
 /// Reads what stands in front of a text of this many pieces, and gives what stands behind it;
-/// `None` if the text is too short. It takes memory for what is there.
+/// `None` if the text is too short. Of no pieces nothing stands there. It takes memory for what is
+/// there.
 pub(crate) fn read_row<'t>(
     text: &'t [u8],
     count: u64,
@@ -30,10 +31,15 @@ pub(crate) fn read_row<'t>(
     rows: &mut FileRows,
 ) -> Rest<'t>
     ensures count { IfAdded result (AddsCount count hybrid rows.old rows.new) }
-    ensures said { (row : RowSaid) (more : List ℕ) → FitsCount count row
+    ensures nothing { count ≡ 0
+        → IfRead result (λ rest. (rest.now ≡ text.now) × (rows.new ≡ rows.old)) }
+    ensures said { (row : RowSaid) (more : List ℕ) → 0 < count → FitsCount count row
         → text.now ≡ said_text hybrid row ++ more
         → IfRead result (λ rest. (rest.now ≡ more) × IsBehind hybrid row rows.old rows.new) }
 {
+    if count == 0 {
+        return Ok(Some(text));
+    }
     let Some(rest) = read_each(text, count, &mut rows.nodes)? else {
         return Ok(None);
     };

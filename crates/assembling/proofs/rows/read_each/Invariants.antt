@@ -6,6 +6,6 @@ use Rattle.assembling.proofs.rows.read_each.Given as goal
 abbrev pub invariant-digests : goal.invariant-digests
 invariant-digests g l = record {
   count : length l.digests.items ≡ length l.fn.digests.items + l._number;
-  said : (given : List (List ℕ)) (more : List ℕ) → length given ≡ l.count → AreOfLength g.N given → l.fn.text ≡ joined given ++ more
+  said : (given : List (List ℕ)) (more : List ℕ) → length given ≡ l.count → AreOfLength g.row.N given → l.fn.text ≡ joined given ++ more
       → (l.rest ≡ joined (drop l._number given) ++ more) × (l.digests.items ≡ l.fn.digests.items ++ take l._number given);
 }

@@ -38,7 +38,7 @@ impl From<Refusal> for FileFault {
 }
 
 impl From<AllocError> for FileFault {
-    ghost use Rattle.assembling.specs.declared.adding.FileFault.TheVariants.{NoMemory};
+    ghost use Rattle.assembling.specs.declared.one_file.FileFault.TheVariants.{NoMemory};
 
     ghost from_gives = { λ _ e. e ≡ NoMemory };
 

@@ -4,7 +4,7 @@ use Rattle.part_texts.specs.Divisions.{first_piece}
 use Rattle.part_texts.specs.Listings.{Listed}
 use Rattle.assembling.specs.Taking.{HasEach, IsHeld}
 use Rattle.assembling.proofs.Passing.{IsUnderWay}
-use Rattle.assembling.proofs.taking.rows_of.Given as goal
+use Rattle.assembling.proofs.all_rows.rows_of.Given as goal
 
 abbrev pub invariant-parts : goal.invariant-parts
 invariant-parts l = record {
