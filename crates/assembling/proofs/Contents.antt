@@ -15,7 +15,9 @@ use Rattle.hashtree.specs.Tree.{block_count, height, root_of, root_over}
 use Rattle.opening.specs.PieceLayers.{piece_layer}
 use Rattle.part_texts.specs.Listings.{Listed}
 use Rattle.pieces.specs.Cuts.{cut_digests}
+use Rattle.assembling.specs.Adding.{AddsContent, IsRefusal}
 use Rattle.assembling.specs.Taking.{IsOfContent}
+use Rattle.assembling.specs.declared.one_file.FileFault.{FileFault}
 use Rattle.assembling.specs.Whole.{IsWhole}
 use Rattle.assembling.specs.declared.rows.FileRows.{FileRows}
 
@@ -80,36 +82,11 @@ content_added d e path n c root rows layer whole is size same none added = recor
       (λ longer. same ∙ is.many (omega (arith, longer, size))) added;
 }
 
--- no test of a draft is that of a write
-pub no_write : (d : Outline) (f : OutlineFile) (r : Refusal) → First (add_rows d f) r → r ≡ refusals.Write → ⊥
-no_write d f r first is = elim first [
-  | inl one ↦ path (sym is ∙ one.1)
-  | inr two ↦ elim two.1 [
-    | inl one ↦ long (sym is ∙ one.1)
-    | inr three ↦ elim three.1 [
-      | inl one ↦ reused (sym is ∙ one.1)
-      | inr four ↦ elim four.1 [
-        | inl one ↦ many (sym is ∙ one.1)
-        | inr five ↦ elim five.1 [
-          | inl one ↦ clash (sym is ∙ one.1)
-          | inr none ↦ none.1
-        ]
-      ]
-    ]
-  ]
-]
-  where
-    path : refusals.Write ≡ refusals.Path → ⊥
-    path same = cc
-
-    long : refusals.Write ≡ refusals.Length → ⊥
-    long same = cc
-
-    reused : refusals.Write ≡ refusals.RootReused → ⊥
-    reused same = cc
-
-    many : refusals.Write ≡ refusals.TooManyPieces → ⊥
-    many same = cc
-
-    clash : refusals.Write ≡ refusals.PathClash → ⊥
-    clash same = cc
+-- what a draft refuses of it
+pub content_refused : (d e : Outline) (f : Listed) (c : List ℕ) (file : OutlineFile) (r : Refusal) (x : FileFault) (result : Result (Unit {0}) FileFault)
+    → result ≡ Err x → IsRefusal r x → f.bytes ≤ 2 ^ 46 → IsDraftFile d.piece_length d.hybrid f.path c file
+    → (r ≢ refusals.NoMemory → First (add_rows d file) r) → AddsContent d f c e result
+content_refused d e f c file r x result at said short is refused = subst (AddsContent d f c e) (sym at) (elim said [
+  | inl lacks ↦ subst (λ y. AddsContent d f c e (Err y)) (sym lacks.1) tt
+  | inr other ↦ subst (λ y. AddsContent d f c e (Err y)) (sym other.1) (inr (short, record { file = file; is = is; first = refused other.0 }))
+])

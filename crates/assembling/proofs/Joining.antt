@@ -93,7 +93,7 @@ pub record Upto (p : ℕ) (hybrid : Bool) (c : List ℕ) (k : ℕ) (nodes cuts :
   pub padded_is : hybrid ≡ true → 0 < k → padded ≡ sha1 (filled_up p (last_cut_of p (first_of p c k)))
 
 -- whole pieces
-legal_some : (p : ℕ) → IsPieceLength p → 0 < p
+pub legal_some : (p : ℕ) → IsPieceLength p → 0 < p
 legal_some p legal = omega (arith, pow_pos legal.0, legal.3)
 
 no_bytes : (p : ℕ) (c : List ℕ) → first_of p c 0 ≡ []

@@ -1,5 +1,5 @@
 //! The adding of one file to a draft.
-ghost use Rattle.std.specs.Prelude.{◌≡◌, ℕ, List, IfOk, OnOk, length, map};
+ghost use Rattle.std.specs.Prelude.{◌≡◌, ◌^◌, ◌≤◌, ℕ, List, IfOk, OnOk, length, map};
 ghost use Rattle.std.specs.String.{string_bytes};
 ghost use Rattle.assembling.specs.Added.{IsWithListed};
 ghost use Rattle.assembling.specs.Adding.{AddsContent, IsRefusal, RefusesNoWrite};
@@ -62,6 +62,7 @@ pub(crate) fn add_file(
     ensures hybrid { draft.new.hybrid ≡ draft.old.hybrid }
     ensures piece_length { draft.new.piece_length ≡ draft.old.piece_length }
     ensures added { OnOk result (IsWithListed draft.old draft.new (listed file.now)) }
+    ensures short { OnOk result (file.now.length ≤ 2 ^ 46) }
     ensures no_write { RefusesNoWrite result }
     ensures content { (content : List ℕ) → IsOfContent piece_length hybrid content rows
         → length content ≡ file.now.length
