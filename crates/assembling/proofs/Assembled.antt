@@ -1,5 +1,5 @@
 -- A draft to which files were added of which each part says what is true.
-use Rattle.std.proofs.Common.{◌≡◌, ℕ, zero, suc, ◌+◌, ◌<◌, ◌++◌, ◌∷◌, List, [], get_or, length, map, take, drop, slice_get, Some, refl, sym, ap, ◌∙◌, subst, arith}
+use Rattle.std.proofs.Common.{◌≡◌, ℕ, zero, suc, ◌+◌, ◌<◌, ◌++◌, ◌∷◌, Bool, List, [], get_or, length, map, take, drop, slice_get, Some, refl, sym, ap, ◌∙◌, subst, arith}
 use Rattle.std.proofs.Common.{drop-cons, add-one}
 use Rattle.std.proofs.lemmas.List.{length-map, take_all}
 use Rattle.std.proofs.lemmas.Option.{get_or_from_slice_get, none-some, same_Some, slice_get-get_or, slice_get_within}
@@ -37,6 +37,14 @@ files_from files number f at =
     drop-cons files number f (slice_get_within files number f at)
     ∙ ap (λ x. x ∷ drop (suc number) files) (get_or_from_slice_get files number f f at)
     ∙ ap (λ k. f ∷ drop k files) (sym (add-one number))
+
+-- the same, of what is the same
+pub says_as : (under : KnownPaths) (p q : ℕ) (h k : Bool) (t u n before : ℕ) (fs gs : List Listed) (texts : List (List ℕ)) → p ≡ q → h ≡ k → t ≡ u → fs ≡ gs
+    → EachSays under p h t n before fs texts → EachSays under q k u n before gs texts
+says_as under p q h k t u n before fs gs texts pieces kind total files says =
+    subst (λ x. EachSays under q k u n before x texts) files
+    (subst (λ x. EachSays under q k x n before fs texts) total
+    (subst (λ x. EachSays under q x t n before fs texts) kind (subst (λ x. EachSays under x h t n before fs texts) pieces says)))
 
 -- one file more
 pub one_further : (under : KnownPaths) (l : Inventory) (contents : List (List ℕ)) (number before before' : ℕ) (d e : Outline) (texts texts' : List (List ℕ))

@@ -24,6 +24,16 @@ AreNoWrite (fault.Twice number) = ⊤
 AreNoWrite (fault.Missing number parts) = ⊤
 AreNoWrite fault.NoMemory = ⊤
 
+-- a text is no whole text of a part, or memory was refused
+abbrev pub IsRowsFault : AssembleFault → Type 0
+IsRowsFault (fault.Refused r path) = ⊥
+IsRowsFault (fault.NoPart place) = ⊤
+IsRowsFault (fault.OtherFolder number) = ⊥
+IsRowsFault (fault.OtherCount place) = ⊥
+IsRowsFault (fault.Twice number) = ⊥
+IsRowsFault (fault.Missing number parts) = ⊥
+IsRowsFault fault.NoMemory = ⊤
+
 abbrev pub RefusesNoWrite : Result (Unit {0}) FileFault → Type 0
 RefusesNoWrite (Ok u) = ⊤
 RefusesNoWrite (Err (file.Refused r)) = r ≢ refusals.Write

@@ -1,6 +1,6 @@
 //! What all parts say of one file.
 ghost use Rattle.std.specs.Prelude.{◌≡◌, ◌<◌, ℕ, List, IfErr, IfOk, length, map, true};
-ghost use Rattle.assembling.specs.Adding.{AreNoWrite};
+ghost use Rattle.assembling.specs.Adding.{AreNoWrite, IsRowsFault};
 ghost use Rattle.assembling.specs.Taking.{HasEach, IsHeld, IsTaken};
 ghost use Rattle.part_drafts.specs.Parts.{KnownPaths};
 ghost use Rattle.part_texts.specs.Divisions.{hashed};
@@ -32,6 +32,7 @@ pub(crate) fn rows_of(
     ensures places { parts.new.places ≡ parts.old.places }
     ensures each { IfOk result (HasEach hybrid (pieces_of division.now.piece_length (hashed bytes))) }
     ensures no_write { IfErr result AreNoWrite }
+    ensures fault { IfErr result IsRowsFault }
     ensures taken { (under : KnownPaths) (f : Listed) (fs : List Listed) (content : List ℕ)
         → f.bytes ≡ bytes → IsHeld under division.now.piece_length hybrid division.now.total before
         f fs content (map (λ x. x.now) parts.old.rows.items)
