@@ -39,6 +39,12 @@ RefusesNoWrite (Ok u) = ⊤
 RefusesNoWrite (Err (file.Refused r)) = r ≢ refusals.Write
 RefusesNoWrite (Err file.NoMemory) = ⊤
 
+-- a file was refused for its length
+abbrev pub IsTooLong : Result (Unit {0}) FileFault → Type 0
+IsTooLong (Ok u) = ⊥
+IsTooLong (Err (file.Refused r)) = r ≡ refusals.Length
+IsTooLong (Err file.NoMemory) = ⊥
+
 -- the fault of a file that a draft refused
 abbrev pub IsRefusal : Refusal → FileFault → Type 0
 IsRefusal r f =

@@ -1,9 +1,12 @@
-use Rattle.std.proofs.Common.{◌≡◌, ◌<◌, ◌+◌, ◌∷◌, ℕ, Bor, List, Some, ap, arith, drop, get_or, length, map, rules, slice_get, subst, sym, take_all, ◌∙◌, refl}
+use Rattle.std.proofs.Common.{◌≡◌, ◌<◌, ◌+◌, ◌∷◌, ℕ, Bor, List, Some, ap, arith, drop, get_or, length, map, rules, slice_get, subst, sym, take_all, ◌∙◌, ◌^◌, inl, inr, refl}
 use Rattle.std.proofs.lemmas.List.{length-map}
+use Rattle.std.proofs.lemmas.Bool.{cases_lt}
 use Rattle.std.specs.String.{string_bytes}
 use Rattle.drafts.specs.Outline.{empty_outline}
+use Rattle.folders.specs.Shelf.{path_bytes}
 use Rattle.part_texts.specs.Divisions.{capped, hashed, total_of}
 use Rattle.part_texts.specs.Listings.{Listed, inventory, listed}
+use Rattle.part_texts.specs.declared.listing.ListedFile.{ListedFile}
 use Rattle.part_texts.specs.declared.listing.Listing.{Listing}
 use Rattle.assembling.specs.Added.{HasAdded, IsWithListed}
 use Rattle.assembling.specs.Said.{EachSays}
@@ -66,3 +69,40 @@ returns-clause-gathers c = λ under contents held says.
     (c.files.invariant.true_so_far under contents held
     (subst (λ n. EachSays under l.piece_length l.hybrid (total_of (map listed l.files.items)) n 0 (map listed l.files.items)
     (map (λ (x : Bor (List ℕ)). x.now) c.args.parts.rows.items)) (length-map c.args.parts.rows.items (λ x. x.now)) says))
+
+pub returns-in-Err-Refused-clause-gathers : goal.returns-in-Err-Refused-clause-gathers
+returns-in-Err-Refused-clause-gathers c = λ under contents held given.
+    let l = c.args.listing in
+    let d = c.args.division.now in
+    let i = c.files.number in
+    let file = c.index-file.result.now in
+    let is : file ≡ get_or l.files.items i file = c.index-file.ensures ∙ ap (λ (q : Listing). get_or q.files.items i file) c.files.invariant.listing in
+    let lt : i < length l.files.items = omega (arith, c.files-test.true, c.files.invariant.end) in
+    let fs = map listed l.files.items in
+    let f = listed file in
+    let says = subst (λ n. EachSays under l.piece_length l.hybrid (total_of fs) n 0 fs (map (λ (x : Bor (List ℕ)). x.now) c.args.parts.rows.items))
+    (length-map c.args.parts.rows.items (λ x. x.now)) given in
+    let so = c.files.invariant.true_so_far under contents held says in
+    let at : slice_get fs i ≡ Some f = item_of listed l.files.items i file lt ∙ ap (λ x. Some (listed x)) (sym is) in
+    let h = held_at under fs contents i f held at in
+    let texts = map (λ (x : Bor (List ℕ)). x.now) c.files.parts.rows.items in
+    let kind = ap (λ (q : Listing). q.hybrid) c.files.invariant.listing in
+    let here = says_as under l.piece_length d.piece_length l.hybrid c.files.listing.hybrid (total_of fs) d.total (length texts) c.files.before
+    (drop i fs) (f ∷ drop (i + 1) fs) texts (sym c.requires.shared) (sym kind) (sym c.requires.total) (files_from fs i f at) so.says in
+    inr (record {
+      number = i;
+      file = f;
+      content = h.0;
+      there = at;
+      held = h.1;
+      path_is = ap (λ (x : ListedFile). path_bytes x.path) (c.swap_remove-refused.ensures.value ∙ sym c.index-file.ensures);
+      draft = c.files.draft;
+      before = so.gathered;
+      why = elim (cases_lt (2 ^ 46) file.length) [
+        | inl long ↦ inl (long, rw c.in-Err-Refused.field-0-is at (c.in-Err-Refused.ensures.long long))
+        | inr short ↦
+            let taken = c.in_ok-rows.ensures.taken under f (drop (i + 1) fs) h.0 refl (record { says = here; known = h.2; short = short }) in
+            let own = subst (λ p. IsOfContent p c.files.listing.hybrid h.0 c.in_ok-rows.rows) (c.requires.shared ∙ sym c.requires.piece_length) taken.is in
+            rw c.in-Err-Refused.field-0-is at (c.in-Err-Refused.ensures.content h.0 own taken.size)
+      ];
+    })
