@@ -25,6 +25,10 @@ item_from f (x ∷ xs) (suc i) y at = item_from f xs i y at
 pub item_to : {A B : Type 0} (f : A → B) (xs : List A) (i : ℕ) (x : A) → slice_get xs i ≡ Some x → slice_get (map f xs) i ≡ Some (f x)
 item_to f xs i x at = slice_get-map f xs i ∙ ap (option_map f) at
 
+-- what stands in a list, whatever is answered of other places
+pub same_item : {A : Type 0} (xs : List A) (i : ℕ) (d e : A) → i < length xs → get_or xs i d ≡ get_or xs i e
+same_item xs i d e within = get_or_from_slice_get xs i (get_or xs i e) d (slice_get-get_or xs i e within)
+
 -- the text at this place
 pub text_there : (texts : List (Bor (List ℕ))) (i : ℕ) (other : Bor (List ℕ)) → i < length texts
     → slice_get (map (λ x. x.now) texts) i ≡ Some (get_or texts i other).now

@@ -8,6 +8,8 @@ pub mod Joining
 pub mod OneFront
 pub mod Passing
 pub mod Reading
+pub mod Refusing
+pub mod Results
 pub mod Saying
 pub mod Shares
 pub mod Widths

@@ -34,6 +34,26 @@ IsRowsFault (fault.Twice number) = ⊥
 IsRowsFault (fault.Missing number parts) = ⊥
 IsRowsFault fault.NoMemory = ⊤
 
+-- memory was refused, or it is by what stands in front
+abbrev pub IsFrontFault : AssembleFault → Type 0
+IsFrontFault (fault.Refused r path) = ⊥
+IsFrontFault (fault.NoPart place) = ⊤
+IsFrontFault (fault.OtherFolder number) = ⊤
+IsFrontFault (fault.OtherCount place) = ⊤
+IsFrontFault (fault.Twice number) = ⊤
+IsFrontFault (fault.Missing number parts) = ⊤
+IsFrontFault fault.NoMemory = ⊤
+
+-- a text is no whole text of a part, a file was refused, or memory was
+abbrev pub IsLateFault : AssembleFault → Type 0
+IsLateFault (fault.Refused r path) = ⊤
+IsLateFault (fault.NoPart place) = ⊤
+IsLateFault (fault.OtherFolder number) = ⊥
+IsLateFault (fault.OtherCount place) = ⊥
+IsLateFault (fault.Twice number) = ⊥
+IsLateFault (fault.Missing number parts) = ⊥
+IsLateFault fault.NoMemory = ⊤
+
 abbrev pub RefusesNoWrite : Result (Unit {0}) FileFault → Type 0
 RefusesNoWrite (Ok u) = ⊤
 RefusesNoWrite (Err (file.Refused r)) = r ≢ refusals.Write

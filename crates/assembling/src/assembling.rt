@@ -1,7 +1,7 @@
 //! The assembly of a torrent.
 ghost use Rattle.std.specs.Prelude.{◌≡◌, ◌<◌, ◌≤◌, IfErr, IfOk, length, map};
 ghost use Rattle.assembling.specs.Added.{IsDraftOf};
-ghost use Rattle.assembling.specs.Adding.{AddsAll, AreNoWrite};
+ghost use Rattle.assembling.specs.Adding.{AddsAll, AreNoWrite, IsLateFault};
 ghost use Rattle.assembling.specs.Outcome.{IsAssembled};
 ghost use Rattle.part_texts.specs.Divisions.{total_of};
 ghost use Rattle.part_texts.specs.Listings.{inventory, listed};
@@ -66,6 +66,7 @@ fn add_all(
     requires total { division.now.total ≡ total_of (map listed listing.files.items) }
     ensures draft { IfOk result (IsDraftOf (inventory listing)) }
     ensures no_write { IfErr result AreNoWrite }
+    ensures fault { IfErr result IsLateFault }
     ensures gathers { AddsAll (inventory listing) (map (λ x. x.now) parts.entry.rows.items) result }
 {
     let mut parts = parts;

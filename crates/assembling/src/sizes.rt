@@ -1,5 +1,6 @@
 //! How much each part is to say.
-ghost use Rattle.std.specs.Prelude.{◌≡◌, ◌<◌, length};
+ghost use Rattle.std.specs.Prelude.{◌≡◌, ◌<◌, IfErr, length};
+ghost use Rattle.assembling.specs.Adding.{IsRowsFault};
 
 use crate::fault::AssembleFault;
 use crate::numbers::Parts;
@@ -13,6 +14,7 @@ pub(crate) fn test_sizes(
 ) -> Result<(), AssembleFault>
     requires places { length parts.now.places.items ≡ length parts.now.rows.items }
     requires parts { division.now.parts ≡ length parts.now.rows.items }
+    ensures fault { IfErr result IsRowsFault }
 {
     'parts: for part in 0..parts.rows.len() {
         let size = size_of(listing, division, part as u64);

@@ -9,11 +9,13 @@ use Rattle.part_texts.specs.Listings.{Listed, inventory, listed}
 use Rattle.part_texts.specs.declared.listing.ListedFile.{ListedFile}
 use Rattle.part_texts.specs.declared.listing.Listing.{Listing}
 use Rattle.assembling.specs.Added.{HasAdded, IsWithListed}
+use Rattle.assembling.specs.Assembly.{RefusesListed}
 use Rattle.assembling.specs.Said.{EachSays}
 use Rattle.assembling.specs.Taking.{IsOfContent}
 use Rattle.assembling.proofs.Assembled.{all_gathered, files_from, held_at, one_further, says_as}
 use Rattle.assembling.proofs.Drafts.{next_added}
-use Rattle.assembling.proofs.Fronts.{item_of}
+use Rattle.assembling.proofs.Fronts.{item_of, same_item}
+use Rattle.assembling.proofs.Refusing.{refused_content, too_long}
 use Rattle.assembling.proofs.assembling.add_all.Goals as goal
 
 pub files-preserved : goal.files-preserved
@@ -95,14 +97,17 @@ returns-in-Err-Refused-clause-gathers c = λ under contents held given.
       content = h.0;
       there = at;
       held = h.1;
-      path_is = ap (λ (x : ListedFile). path_bytes x.path) (c.swap_remove-refused.ensures.value ∙ sym c.index-file.ensures);
+      path_is = ap (λ (x : ListedFile). path_bytes x.path) (c.swap_remove-refused.ensures.value
+          ∙ same_item c.files.listing.files.items i _ file (omega (arith, lt, ap (λ (q : Listing). length q.files.items) c.files.invariant.listing))
+          ∙ sym c.index-file.ensures);
       draft = c.files.draft;
       before = so.gathered;
-      why = elim (cases_lt (2 ^ 46) file.length) [
-        | inl long ↦ inl (long, rw c.in-Err-Refused.field-0-is at (c.in-Err-Refused.ensures.long long))
+      why = subst (RefusesListed c.files.draft f h.0) (sym c.in-Err-Refused.refusal-is) (elim (cases_lt (2 ^ 46) file.length) [
+        | inl long ↦ inl (long, too_long c.in-Err-Refused.field-0 c.in-Err-Refused.refusal c.in-Err-Refused.field-0-is (c.in-Err-Refused.ensures.long long))
         | inr short ↦
             let taken = c.in_ok-rows.ensures.taken under f (drop (i + 1) fs) h.0 refl (record { says = here; known = h.2; short = short }) in
             let own = subst (λ p. IsOfContent p c.files.listing.hybrid h.0 c.in_ok-rows.rows) (c.requires.shared ∙ sym c.requires.piece_length) taken.is in
-            rw c.in-Err-Refused.field-0-is at (c.in-Err-Refused.ensures.content h.0 own taken.size)
-      ];
+            refused_content c.files.draft c.add_file.new.draft f h.0 c.in-Err-Refused.field-0 c.in-Err-Refused.refusal c.in-Err-Refused.field-0-is
+            (c.in-Err-Refused.ensures.content h.0 own taken.size)
+      ]);
     })
