@@ -1,9 +1,9 @@
 -- What a draft is given of a content that all parts say.
-use Rattle.std.proofs.Common.{◌≡◌, ◌≢◌, ◌⊎◌, inl, inr, ℕ, ◌<◌, ◌≤◌, ◌^◌, Bool, true, false, ◌&&◌, cond, List, [], ◌∷◌, length, Some, slice_get, refl, sym, ◌∙◌, ap, subst, arith}
-use Rattle.std.specs.Prelude.{nat_lt, Result, Ok, Err}
-use Rattle.std.proofs.lemmas.Bool.{cases_lt, lt-ltb, lt-leb, ltb-true}
+use Rattle.std.proofs.Common.{◌≡◌, ◌≢◌, inl, inr, ℕ, ◌<◌, ◌≤◌, ◌^◌, Bool, true, false, ◌&&◌, cond, List, [], length, slice_get, refl, sym, ◌∙◌, ap, subst, arith}
+use Rattle.std.specs.Prelude.{nat_lt, Result, Err}
+use Rattle.std.proofs.lemmas.Bool.{cases_lt, ltb-true}
 use Rattle.std.proofs.lemmas.Option.{same_Some}
-use Rattle.drafts.specs.Adding.{Adds, IsWith, add_rows, given_file, with_layer}
+use Rattle.drafts.specs.Adding.{IsWith, add_rows, given_file, with_layer}
 use Rattle.drafts.specs.Outline.{Outline, OutlineFile}
 use Rattle.filetree.specs.Tests.{First, NoneHolds}
 use Rattle.filetree.specs.declared.refusal.Refusal.{Refusal}

@@ -1,11 +1,11 @@
 -- The fronts of parts' texts.
-use Rattle.std.proofs.Common.{◌≡◌, ◌≢◌, ℕ, zero, suc, ◌+◌, ◌<◌, ◌^◌, ◌++◌, ◌∷◌, ◌⊎◌, List, [], Bor, get_or, length, map, take, slice_get, Some, inl, inr, refl, sym, ◌∙◌, ap, subst}
+use Rattle.std.proofs.Common.{◌≡◌, ◌≢◌, ℕ, zero, suc, ◌+◌, ◌<◌, ◌++◌, ◌∷◌, ◌⊎◌, List, [], Bor, get_or, length, map, take, slice_get, Some, inl, inr, refl, sym, ◌∙◌, ap, subst}
 use Rattle.std.proofs.Common.{Bool, true, false, not, None, Option, Result, IfSome, arith, if◌then◌else◌, is_ok, is_some, length-append, add-one}
 use Rattle.std.proofs.Math.Seq.{take-suc}
 use Rattle.std.proofs.lemmas.Option.{get_or_from_slice_get, none-some, same_Some, slice_get-get_or, slice_get-map, slice_get_within}
 use Rattle.std.specs.Option.{option_map}
 use Rattle.part_texts.specs.declared.head.Head.{Head}
-use Rattle.assembling.specs.Fronts.{AreAllParts, AreOfOne, Front, HasPart, IsFront}
+use Rattle.assembling.specs.Fronts.{AreOfOne, Front, HasPart, IsFront}
 use Rattle.std.specs.Str.{bytes_eq}
 use Rattle.std.proofs.lemmas.List.{length-map, map_push}
 use Rattle.std.proofs.lemmas.Slice.Eq.{bytes_eq-Decides}
@@ -101,7 +101,7 @@ module _ (texts : List (List ℕ)) (fronts : List Front) (text : List ℕ) (f : 
       | inl old ↦ elim (push_at fronts f j y there) [
         | inl known ↦ are.one i j x y old known
         | inr last ↦ subst (λ (z : Front). (x.parts ≡ z.parts) × (x.listing ≡ z.listing)) (sym last.0)
-        (sym (like i x old).0, sym (like i x old).1)
+            (sym (like i x old).0, sym (like i x old).1)
       ]
       | inr here ↦ elim (push_at fronts f j y there) [
         | inl known ↦ subst (λ (z : Front). (z.parts ≡ y.parts) × (z.listing ≡ y.listing)) (sym here.0) (like j y known)

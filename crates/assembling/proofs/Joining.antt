@@ -1,13 +1,12 @@
 -- What all parts say of one file: the nodes over its pieces, and a hybrid's digests of its cuts.
-use Rattle.std.proofs.Common.{◌≡◌, inl, inr, ℕ, zero, suc, ◌+◌, ◌-◌, ◌*◌, ◌^◌, ◌<◌, ◌≤◌, min, Bool, true, false, List, [], ◌∷◌, ◌++◌, length, map, take, drop}
-use Rattle.std.proofs.Common.{refl, sym, ap, ◌∙◌, subst, arith, length-append}
+use Rattle.std.proofs.Common.{◌≡◌, inl, inr, ℕ, zero, suc, ◌+◌, ◌-◌, ◌*◌, ◌^◌, ◌<◌, ◌≤◌, min, Bool, true, List, [], ◌∷◌, ◌++◌, length, map, take, drop}
+use Rattle.std.proofs.Common.{refl, sym, ap, ◌∙◌, arith, length-append}
 use Rattle.std.proofs.Math.Seq.{drop-append-add, take-add}
 use Rattle.std.specs.List.{range_with_len}
 use Rattle.std.proofs.lemmas.Bool.{cases_lt}
 use Rattle.std.proofs.lemmas.List.{length-take-le, map-append, nil_from_length, take_all}
 use Rattle.std.proofs.lemmas.Nat.{pow_pos}
 use Rattle.folders.proofs.Layers.{layer_is_low, piece_is_blocks}
-use Rattle.gathering.specs.Gathered.{piece_hashes}
 use Rattle.hashtree.proofs.PieceNodes.{layer_is_pieces}
 use Rattle.hashtree.proofs.RowNodes.{rows_join}
 use Rattle.hashtree.specs.Pieces.{piece_nodes}
@@ -16,7 +15,6 @@ use Rattle.opening.specs.PieceLayers.{piece_layer}
 use Rattle.part_drafts.specs.Rows.{row_nodes}
 use Rattle.pieces.proofs.Cutting.{cut_append, cut_count_is, cut_count_none, cut_ends, more_pieces, pieces_cover, some_pieces}
 use Rattle.pieces.specs.Cuts.{cut, cut_digests, filled_up, last_cut_of}
-use Rattle.pieces.specs.FileCuts.{IsV1File}
 use Rattle.pieces.specs.Pieces.{IsPieceLength, pieces_of}
 use Rattle.sha1.specs.Sha1.{sha1}
 use Rattle.assembling.specs.Taking.{IsOfContent}

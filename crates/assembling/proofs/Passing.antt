@@ -1,19 +1,19 @@
 -- How what all parts say of one file is taken, part by part.
-use Rattle.std.proofs.Common.{◌≡◌, ◌≢◌, ◌⊎◌, inl, inr, ℕ, zero, suc, ◌+◌, ◌-◌, ◌*◌, ◌^◌, ◌<◌, ◌≤◌, min, Bool, true, false, List, [], ◌∷◌, ◌++◌, Bor, length, map, take, drop, set, slice_get, Some, get_or}
-use Rattle.std.proofs.Common.{refl, sym, ap, ◌∙◌, subst, arith, if◌then◌else◌}
+use Rattle.std.proofs.Common.{◌≡◌, ◌≢◌, ◌⊎◌, inl, inr, ℕ, zero, suc, ◌+◌, ◌-◌, ◌*◌, ◌^◌, ◌<◌, ◌≤◌, min, Bool, true, List, [], ◌∷◌, ◌++◌, length, map, take, drop, set, slice_get, Some, get_or}
+use Rattle.std.proofs.Common.{refl, sym, ap, ◌∙◌, subst, arith}
 use Rattle.std.proofs.lemmas.Bool.{cases_lt}
-use Rattle.std.proofs.lemmas.List.{length-set, nil_from_length}
+use Rattle.std.proofs.lemmas.List.{nil_from_length}
 use Rattle.std.proofs.lemmas.Option.{none-some, same_Some, slice_get-get_or, slice_get_within}
 use Rattle.part_drafts.specs.Parts.{IsRow, KnownPaths}
 use Rattle.part_drafts.specs.Rows.{row_nodes, row_text}
-use Rattle.part_texts.specs.Divisions.{bytes_of, capped, first_piece, hashed, offset_of, span_of}
+use Rattle.part_texts.specs.Divisions.{capped, first_piece, hashed, span_of}
 use Rattle.part_texts.specs.Listings.{Listed}
 use Rattle.pieces.specs.Cuts.{cut_digests, filled_up, last_cut_of}
 use Rattle.pieces.specs.Pieces.{IsPieceLength, pieces_of}
 use Rattle.sha1.specs.Sha1.{sha1}
 use Rattle.assembling.specs.Reading.{IsBehind}
 use Rattle.assembling.specs.Said.{EachSays, FitsCount, RowSaid, Says, said_text}
-use Rattle.assembling.specs.Taking.{IsHeld, IsOfContent, IsTaken}
+use Rattle.assembling.specs.Taking.{IsHeld, IsTaken}
 use Rattle.assembling.specs.declared.rows.FileRows.{FileRows}
 use Rattle.assembling.proofs.Joining.{Upto, legal_some, upto_all, upto_more, upto_none}
 use Rattle.assembling.proofs.Saying.{SaysFirst, content_size, hashed_is, says_first}
@@ -144,7 +144,7 @@ module _ (under : KnownPaths) (p : ℕ) (hybrid : Bool) (total parts before : �
     upto = upto;
     done = λ q x lt at. elim (set_at texts part rest q x (sym (ap (λ xs. slice_get xs q) set_is) ∙ at)) [
       | inl here ↦ subst (λ k. Says under p hybrid total parts k (capped before (hashed f.bytes)) fs x) (sym here.0)
-      (subst (λ (t : List ℕ). Says under p hybrid total parts part (capped before (hashed f.bytes)) fs t) (sym (here.1 ∙ is)) first.later)
+          (subst (λ (t : List ℕ). Says under p hybrid total parts part (capped before (hashed f.bytes)) fs t) (sym (here.1 ∙ is)) first.later)
       | inr other ↦ way.done q x (below q lt other.0) other.1
     ];
     todo = λ q x le at. elim (set_at texts part rest q x (sym (ap (λ xs. slice_get xs q) set_is) ∙ at)) [

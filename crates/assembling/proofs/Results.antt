@@ -1,11 +1,11 @@
 -- What is answered of all texts.
-use Rattle.std.proofs.Common.{◌≡◌, ◌≢◌, ℕ, ◌<◌, Bor, List, [], get_or, length, map, slice_get, Some, inl, inr, refl, sym, ◌∙◌, ap, subst, arith}
-use Rattle.std.specs.Prelude.{IfErr, IfOk, Result, Ok, Err}
+use Rattle.std.proofs.Common.{◌≡◌, ℕ, ◌<◌, Bor, List, [], get_or, length, map, slice_get, Some, inl, inr, refl, sym, ◌∙◌, ap, subst, arith}
+use Rattle.std.specs.Global.{Global, Vec}
+use Rattle.std.specs.Prelude.{IfErr, IfOk, Result, Ok, Err, String}
 use Rattle.std.proofs.lemmas.List.{length-map}
 use Rattle.std.proofs.lemmas.Option.{slice_get-get_or, slice_get_within}
 use Rattle.drafts.specs.Outline.{Outline}
 use Rattle.filetree.specs.declared.refusal.Refusal.TheVariants as refusals
-use Rattle.folders.specs.Shelf.{path_bytes}
 use Rattle.part_drafts.specs.Parts.{AreRows, KnownPaths, rows_text}
 use Rattle.part_texts.specs.Divisions.{total_of}
 use Rattle.part_texts.specs.Listings.{Inventory, inventory}
@@ -183,3 +183,8 @@ added_all texts p found result are read draft no_write late gathers = record {
       subst (λ k. AddsAll k (map (λ (x : Bor (List ℕ)). x.now) p.rows.items) result)
       (read l listed (first_listing texts p l are (true_listing under l texts p are each))) gathers under contents held (each_says under l texts p are each);
 }
+
+-- the same fault, passed on
+pub passed_on : (texts : List (List ℕ)) (e x : AssembleFault) (r : Result Outline AssembleFault) → r ≡ Err x → x ≡ e → IsAssembled texts (Err e)
+    → IsAssembled texts r
+passed_on texts e x r is same stop = subst (IsAssembled texts) (ap Err (sym same) ∙ sym is) stop

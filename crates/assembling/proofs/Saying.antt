@@ -1,15 +1,15 @@
 -- What a part says of the first of some files, and of those behind it.
-use Rattle.std.proofs.Common.{◌≡◌, ◌⊎◌, inl, inr, ℕ, zero, suc, ◌+◌, ◌-◌, ◌*◌, ◌^◌, ◌<◌, ◌≤◌, min, Bool, true, false, ◌&&◌, ◌||◌, ◌==◌, List, [], ◌∷◌, ◌++◌, length, Some, refl, sym, ap, ◌∙◌}
-use Rattle.std.proofs.Common.{subst, slice_get, arith, if◌then◌else◌}
+use Rattle.std.proofs.Common.{◌≡◌, ◌⊎◌, inl, inr, ℕ, zero, suc, ◌+◌, ◌-◌, ◌*◌, ◌^◌, ◌<◌, ◌≤◌, Bool, true, false, ◌&&◌, ◌||◌, ◌==◌, List, [], ◌∷◌, ◌++◌, length, Some, refl, sym, ap, ◌∙◌}
+use Rattle.std.proofs.Common.{subst, arith, if◌then◌else◌}
 use Rattle.std.specs.Prelude.{nat_lt, nat_le}
 use Rattle.std.proofs.lemmas.Bool.{cases_lt, eq-eqb, ne_eqb, le-leb, lt-ltb}
 use Rattle.part_drafts.specs.Parts.{AreRows, IsRow, KnownPaths, rows_text}
 use Rattle.part_drafts.specs.Rows.{row_text}
-use Rattle.part_texts.specs.Divisions.{bytes_of, capped, first_piece, has_end, hashed, offset_of, span_of, start_of}
+use Rattle.part_texts.specs.Divisions.{capped, first_piece, has_end, hashed, span_of, start_of}
 use Rattle.part_texts.specs.Listings.{Listed}
 use Rattle.pieces.proofs.Cutting.{cut_count_none, pieces_cover, some_pieces}
 use Rattle.pieces.specs.Pieces.{pieces_of}
-use Rattle.assembling.specs.Said.{EachSays, Says}
+use Rattle.assembling.specs.Said.{Says}
 use Rattle.assembling.proofs.Shares.{at_end, at_most, at_start, piece_begins}
 
 module _ (under : KnownPaths) (p : ℕ) (hybrid : Bool) (total parts part before : ℕ) (f : Listed) (fs : List Listed) where

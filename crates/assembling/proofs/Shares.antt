@@ -1,12 +1,11 @@
 -- Which pieces of a file the parts have: all of them, in turn.
-use Rattle.std.proofs.Common.{◌≡◌, ◌⊎◌, inl, inr, ℕ, zero, suc, ◌+◌, ◌-◌, ◌*◌, ◌/◌, ◌^◌, ◌<◌, ◌≤◌, min, Bool, true, false, ◌&&◌, ◌||◌, ◌==◌, refl, sym, ap, ◌∙◌}
-use Rattle.std.proofs.Common.{if◌then◌else◌, arith, subst}
-use Rattle.std.specs.Prelude.{nat_lt, nat_le}
+use Rattle.std.proofs.Common.{◌≡◌, inl, inr, ℕ, ◌+◌, ◌-◌, ◌*◌, ◌/◌, ◌<◌, ◌≤◌, min, Bool, true, false, ◌==◌, refl, ap, ◌∙◌}
+use Rattle.std.proofs.Common.{if◌then◌else◌, arith}
 use Rattle.std.proofs.Math.Nat.{div-mul-le_self, le-div_iff_mul-le}
 use Rattle.std.proofs.lemmas.Bool.{cases_lt, eq-eqb, ne_eqb}
 use Rattle.pieces.proofs.Cutting.{cut_count_is, cut_count_none}
 use Rattle.pieces.specs.Pieces.{pieces_of}
-use Rattle.part_texts.specs.Divisions.{bytes_of, first_piece, has_end, hashed, span_of, start_of}
+use Rattle.part_texts.specs.Divisions.{first_piece, hashed, start_of}
 
 -- ---- pieces
 

@@ -1,10 +1,9 @@
 -- The widths of nodes and of digests, and how many there are.
 use Rattle.std.proofs.Common.{◌≡◌, inl, inr, ℕ, zero, suc, ◌+◌, ◌-◌, ◌*◌, ◌^◌, ◌<◌, ◌≤◌, Bool, true, false, List, [], ◌∷◌, ◌++◌, length, map, take, drop, replicate, get_or}
-use Rattle.std.proofs.Common.{refl, sym, ap, ◌∙◌, subst, arith, append-nil, if◌then◌else◌}
-use Rattle.std.specs.Prelude.{nat_le}
+use Rattle.std.proofs.Common.{refl, sym, ap, ◌∙◌, subst, arith, if◌then◌else◌}
 use Rattle.std.specs.List.{range_with_len}
 use Rattle.std.proofs.lemmas.Bool.{cases_lt, le-leb, lt-leb}
-use Rattle.std.proofs.lemmas.List.{get_or_append_left, length-append, length-drop, length-take}
+use Rattle.std.proofs.lemmas.List.{get_or_append_left, length-drop, length-take}
 use Rattle.std.proofs.lemmas.List.FromFn.{get_or-map-range_with_len}
 use Rattle.std.proofs.lemmas.Nat.{pow_pos}
 use Rattle.sha1.specs.Sha1.{digest_bytes, sha1}
@@ -20,7 +19,7 @@ use Rattle.hashtree.specs.Pieces.{padded_row, piece_at, piece_node, piece_nodes}
 use Rattle.hashtree.specs.Tree.{block, block_count, block_hashes, first_pad, height, pad_leaf, root_of, tree}
 use Rattle.opening.specs.PieceLayers.{piece_layer}
 use Rattle.part_drafts.proofs.Found.{cuts_joined, row_is}
-use Rattle.part_drafts.specs.Rows.{joined, row_cuts, row_nodes, row_text}
+use Rattle.part_drafts.specs.Rows.{joined, row_nodes, row_text}
 use Rattle.pieces.proofs.Cutting.{cut_count_is, length-cut_digests}
 use Rattle.pieces.specs.Cuts.{cut_digests, cuts, filled_up, last_cut_of}
 use Rattle.pieces.specs.Pieces.{IsPieceLength, pieces_of}

@@ -21,11 +21,11 @@ AreWhole texts = (parts : ℕ) × (listing : List ℕ) × AreAllParts parts list
 -- the same contents, then the draft is that which is gathered of these, and a refusal the first of
 -- such a draft.
 pub record IsAssembled (texts : List (List ℕ)) (result : Result Outline AssembleFault) : Type 0
-    where
-  pub all : IfOk result (λ _. AreWhole texts)
-  pub reason : IfErr result (HasReason texts)
-  pub no_write : IfErr result AreNoWrite
-  pub draft : (l : Inventory) → CanBeListed l → IsOfListing (listing_text l) texts
-      → IfOk result (IsDraftOf l)
-  pub gathers : (l : Inventory) (under : KnownPaths) (contents : List (List ℕ)) → CanBeListed l
-      → AreHeld under l.files contents → AreTrueParts under l texts → Assembles l contents result
+  where
+    pub all : IfOk result (λ _. AreWhole texts)
+    pub reason : IfErr result (HasReason texts)
+    pub no_write : IfErr result AreNoWrite
+    pub draft : (l : Inventory) → CanBeListed l → IsOfListing (listing_text l) texts
+        → IfOk result (IsDraftOf l)
+    pub gathers : (l : Inventory) (under : KnownPaths) (contents : List (List ℕ)) → CanBeListed l
+        → AreHeld under l.files contents → AreTrueParts under l texts → Assembles l contents result

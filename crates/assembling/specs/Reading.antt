@@ -1,5 +1,5 @@
 -- What is read of a part's text. Public clauses do not name these.
-use Rattle.std.specs.Prelude.{◌≡◌, ℕ, ◌+◌, Bool, true, List, ◌++◌, length, Option, Some, None, Result, Ok, Err, ⊤}
+use Rattle.std.specs.Prelude.{◌≡◌, ℕ, ◌+◌, Bool, true, ◌++◌, length, Option, Some, None, Result, Ok, Err, ⊤}
 use Rattle.assembling.specs.Said.{RowSaid}
 use Rattle.assembling.specs.declared.rows.FileRows.{FileRows}
 

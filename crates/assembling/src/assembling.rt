@@ -7,11 +7,11 @@ ghost use Rattle.part_texts.specs.Divisions.{total_of};
 ghost use Rattle.part_texts.specs.Listings.{inventory, listed};
 ghost use Rattle.pieces.specs.Pieces.{IsPieceLength};
 
-use crate::one_file::{FileFault, add_file};
+use crate::all_rows::rows_of;
 use crate::fault::{AssembleFault, unread};
 use crate::numbers::{Parts, parts_of};
+use crate::one_file::{FileFault, add_file};
 use crate::sizes::test_sizes;
-use crate::all_rows::rows_of;
 use drafts::Draft;
 use filetree::Refusal;
 use part_texts::{Division, Listing, hashed, read_listing};
@@ -78,7 +78,14 @@ fn add_all(
     let mut before: u64 = 0;
     'files: for number in 0..listing.files.len() {
         let file = &listing.files[number];
-        let rows = rows_of(alloc, &mut parts, listing.hybrid, division, before, file.length)?;
+        let rows = rows_of(
+            alloc,
+            &mut parts,
+            listing.hybrid,
+            division,
+            before,
+            file.length,
+        )?;
         before = before.saturating_add(hashed(file.length));
         match add_file(alloc, &mut draft, file, rows, piece_length, listing.hybrid) {
             Ok(()) => {}

@@ -70,11 +70,7 @@ fn read_cuts<'t>(text: &'t [u8], count: u64, v1: &mut V1File) -> Rest<'t>
 }
 
 // Reads this many digests, and puts them behind the others.
-fn read_each<'t, const N: usize>(
-    text: &'t [u8],
-    count: u64,
-    digests: &mut Vec<[u8; N]>,
-) -> Rest<'t>
+fn read_each<'t, const N: usize>(text: &'t [u8], count: u64, digests: &mut Vec<[u8; N]>) -> Rest<'t>
     ensures count { IfAdded result (length digests.new.items ≡ length digests.old.items + count) }
     ensures said { (given : List (List ℕ)) (more : List ℕ) → length given ≡ count
         → AreOfLength N given → text.now ≡ joined given ++ more

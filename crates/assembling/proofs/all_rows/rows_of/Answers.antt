@@ -1,4 +1,4 @@
-use Rattle.std.proofs.Common.{◌≡◌, ◌<◌, ◌+◌, ◌-◌, ℕ, Bool, List, ◌∷◌, Bor, Some, length, map, rules, set, slice_get, subst, sym, true, ◌∙◌, ap, arith, refl}
+use Rattle.std.proofs.Common.{◌≡◌, ◌<◌, ◌+◌, ◌-◌, ℕ, Bool, List, ◌∷◌, Bor, Some, length, map, rules, set, slice_get, subst, sym, ◌∙◌, ap, arith, refl}
 use Rattle.std.proofs.lemmas.List.{length-map, length-set}
 use Rattle.part_drafts.specs.Parts.{KnownPaths}
 use Rattle.part_texts.specs.Divisions.{first_piece}

@@ -1,4 +1,4 @@
-use Rattle.std.proofs.Common.{◌≡◌, ℕ, List, length, map, true}
+use Rattle.std.proofs.Common.{◌≡◌, ℕ, List, length, map}
 use Rattle.part_drafts.specs.Parts.{KnownPaths}
 use Rattle.part_texts.specs.Divisions.{first_piece}
 use Rattle.part_texts.specs.Listings.{Listed}

@@ -5,7 +5,7 @@ use Rattle.std.specs.String.{string_bytes}
 use Rattle.drafts.specs.Outline.{empty_outline}
 use Rattle.folders.specs.Shelf.{path_bytes}
 use Rattle.part_texts.specs.Divisions.{capped, hashed, total_of}
-use Rattle.part_texts.specs.Listings.{Listed, inventory, listed}
+use Rattle.part_texts.specs.Listings.{inventory, listed}
 use Rattle.part_texts.specs.declared.listing.ListedFile.{ListedFile}
 use Rattle.part_texts.specs.declared.listing.Listing.{Listing}
 use Rattle.assembling.specs.Added.{HasAdded, IsWithListed}

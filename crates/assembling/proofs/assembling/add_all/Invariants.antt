@@ -1,4 +1,4 @@
-use Rattle.std.proofs.Common.{◌≡◌, ℕ, List, drop, length, map, take}
+use Rattle.std.proofs.Common.{◌≡◌, ℕ, List, length, map, take}
 use Rattle.std.specs.String.{string_bytes}
 use Rattle.drafts.specs.Outline.{empty_outline}
 use Rattle.part_drafts.specs.Parts.{KnownPaths}

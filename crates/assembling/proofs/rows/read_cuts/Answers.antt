@@ -1,4 +1,4 @@
-use Rattle.std.proofs.Common.{◌≡◌, ◌++◌, drop, length, sym, take, ◌∙◌, ap}
+use Rattle.std.proofs.Common.{◌++◌, drop, sym, take, ◌∙◌, ap}
 use Rattle.std.proofs.Math.Seq.{drop-append_seam, take-append_seam}
 use Rattle.assembling.proofs.rows.read_cuts.Goals as goal
 
