@@ -1,7 +1,7 @@
 -- What the making of a torrent in parts answers.
 use Rattle.std.specs.Prelude.{◌≡◌, ◌⊎◌, ℕ, List, [], String, slice_get, Some, Result, Ok, Err}
 use Rattle.std.specs.Global.{Global, Vec}
-use Rattle.std.specs.Prelude.{map}
+use Rattle.std.specs.Prelude.{false, map}
 use Rattle.benc.specs.Device.{SentAndFlushed, SinkSeen}
 use Rattle.drafts.specs.Outline.{Outline}
 use Rattle.filetree.specs.declared.refusal.Refusal.{Refusal}
@@ -11,8 +11,7 @@ use Rattle.folders.specs.declared.shelf.Shelf.{Ghosts}
 use Rattle.folders.specs.declared.shelf_fault.ShelfFault.{ShelfFault}
 use Rattle.gathering.specs.Gathering.{IsListedAs}
 use Rattle.part_drafts.specs.Parts.{IsPartText, KnownPaths}
-use Rattle.part_texts.specs.Listings.{Listed, inventory, listed}
-use Rattle.part_texts.specs.declared.listing.ListedFile.{ListedFile}
+use Rattle.part_texts.specs.Listings.{Listed, inventory}
 use Rattle.part_texts.specs.declared.listing.Listing.{Listing}
 use Rattle.pieces.specs.Pieces.{IsPieceLength}
 use Rattle.printing.specs.declared.fault.Fault.{Fault}
@@ -49,11 +48,6 @@ ListsFiles shelf old new piece_length unlisted out out' (Err f) =
     ⊎ ((g : ShelfFault) × shelf.lists old (Err g) new × IsListingFault unlisted g f × (out' ≡ out))
 
 -- ---- a part
-
--- the fault is that this file cannot be read, or that memory was refused for its path
-abbrev pub IsUnreadFile : ListedFile → Fault → Type 0
-IsUnreadFile file f = (f ≡ faults.NoMemory) ⊎ ((path : Vec (String Global))
-    × (path_bytes path ≡ (listed file).path) × (f ≡ faults.ReadBelow path))
 
 -- the fault is that one of the listed files cannot be read, or that memory was refused
 abbrev pub NamesListed : List Listed → Fault → Type 0

@@ -1,7 +1,8 @@
 //! What the making of a torrent in parts answers.
-ghost use Rattle.std.specs.Prelude.{◌≡◌, ◌-◌, map};
+ghost use Rattle.std.specs.Prelude.{◌≡◌, ◌-◌, ◌<◌, length, map};
 ghost use Rattle.assembling.specs.Outcome.{IsAssembled};
-ghost use Rattle.commands.specs.Creations.{AnswersPart, AssemblesDraft, IsUnreadFile, ListsFiles};
+ghost use Rattle.commands.specs.Creations.{AnswersPart, AssemblesDraft, ListsFiles, NamesListed};
+ghost use Rattle.part_texts.specs.Listings.{listed};
 
 use crate::outcomes::{fault_of_listing, refuse};
 use actions::{Create, Part};
@@ -24,7 +25,7 @@ pub fn list_files<'a, S: Shelf, W: Sink>(
     shelf: &mut S,
     out: &mut W,
 ) -> Result<Result<Vec<Vec<String>>, u8>, Fault<'a>>
-    ensures lists { ListsFiles S shelf.old shelf.new asked.now.piece_length
+    ensures lists { ListsFiles S.Shelf shelf.old shelf.new asked.now.piece_length
         (Fault.Read asked.now.dir) (W.seen out.old) (W.seen out.new) result }
     ensures stays { S.contents shelf.new ≡ S.contents shelf.old }
 {
@@ -60,16 +61,18 @@ pub fn hash_part<'a, S: SeekShelf, W: Sink>(
             Ok(Err(refuse(&Refusal::PieceLength, &Vec::new(alloc), out)?))
         }
         Err(PartFault::Device(place) | PartFault::Changed(place)) => {
-            Err(unread(&listing.files[place]))
+            Err(unread(&listing.files, place))
         }
         Err(PartFault::NoMemory) => Err(Fault::NoMemory),
     }
 }
 
-// The fault that a listed file cannot be read.
-fn unread<'a>(file: &ListedFile) -> Fault<'a>
-    ensures { IsUnreadFile file.now result }
+// The fault that this listed file cannot be read.
+fn unread<'a>(files: &[ListedFile], place: usize) -> Fault<'a>
+    requires { place < length files.now }
+    ensures { NamesListed (map listed files.now) result }
 {
+    let file = &files[place];
     match file.path.clone() {
         Ok(path) => Fault::ReadBelow(path),
         Err(_) => Fault::NoMemory,
