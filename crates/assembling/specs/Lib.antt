@@ -1,4 +1,12 @@
 -- What contracts of the assembly of a torrent cite.
 pub mod Added
+pub mod Adding
+pub mod Assembly
 pub mod Fronts
+pub mod Heads
+pub mod Outcome
+pub mod Reading
+pub mod Reasons
+pub mod Said
+pub mod Taking
 pub mod Whole

@@ -1,4 +1,6 @@
 //! Why no torrent is assembled.
+ghost use Rattle.assembling.specs.Adding.{IsRowsFault};
+
 use filetree::Refusal;
 use part_texts::ListingFault;
 use std::alloc::AllocError;
@@ -37,7 +39,9 @@ impl From<AllocError> for AssembleFault {
 }
 
 /// The fault, for the text at this place.
-pub(crate) fn unread(fault: ListingFault, place: usize) -> AssembleFault {
+pub(crate) fn unread(fault: ListingFault, place: usize) -> AssembleFault
+    ensures { IsRowsFault result }
+{
     match fault {
         ListingFault::None => AssembleFault::NoPart(place),
         ListingFault::NoMemory => AssembleFault::NoMemory,

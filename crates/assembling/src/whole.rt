@@ -1,36 +1,33 @@
-//! The hashes of a whole file, of those of its pieces.
-ghost use Rattle.std.specs.Prelude.{◌^◌, ◌≤◌, IfSome};
+//! The root of a whole file, over the nodes of its pieces.
+ghost use Rattle.std.specs.Prelude.{◌^◌, ◌≤◌};
+ghost use Rattle.assembling.specs.Taking.{HasEach};
 ghost use Rattle.assembling.specs.Whole.{IsWhole};
+ghost use Rattle.part_texts.specs.Divisions.{hashed};
+ghost use Rattle.pieces.specs.Pieces.{pieces_of};
 
 use crate::rows::FileRows;
 use hashtree::{Hash, Shape, layer_root};
 use pieces::PieceLength;
 
-/// The root of a file of this length over the nodes of its pieces; `None` unless there is one for
-/// each piece, and in a hybrid a digest of each cut. Of an empty file it means nothing. Condition:
-/// a file may have as many bytes.
+/// The root of a file of this length over the nodes of its pieces. Of an empty file it means
+/// nothing. Conditions: a file may have as many bytes, and there is a node for each piece, and in a
+/// hybrid a digest of each.
 pub(crate) fn root_of_rows(
     rows: &FileRows,
     length: u64,
     piece_length: PieceLength,
     hybrid: bool,
-) -> Option<Hash>
-    requires { length ≤ 2 ^ 46 }
-    ensures { IfSome result (IsWhole piece_length hybrid length rows.now) }
+) -> Hash
+    requires fits { length ≤ 2 ^ 46 }
+    requires each { HasEach hybrid (pieces_of piece_length (hashed length)) rows.now }
+    ensures { IsWhole piece_length hybrid length rows.now result }
 {
-    let count = piece_length.pieces(length);
-    if rows.nodes.len() as u64 != count {
-        return None;
-    }
-    if hybrid && rows.v1.cuts.len() as u64 != count {
-        return None;
-    }
     if length == 0 {
-        return Some([0; 32]);
+        return [0; 32];
     }
     if length <= piece_length.bytes() {
-        return rows.nodes.first().copied();
+        return rows.nodes[0];
     }
     let layer = Shape::of(piece_length.bytes()).unwrap().height();
-    Some(layer_root(Shape::of(length).unwrap(), layer, &rows.nodes))
+    layer_root(Shape::of(length).unwrap(), layer, &rows.nodes)
 }

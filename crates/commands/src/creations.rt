@@ -1,6 +1,8 @@
 //! What the making of a torrent in parts answers.
-ghost use Rattle.std.specs.Prelude.{◌≡◌, ◌-◌};
-ghost use Rattle.commands.specs.Creations.{AnswersPart};
+ghost use Rattle.std.specs.Prelude.{◌≡◌, ◌-◌, ◌<◌, length, map};
+ghost use Rattle.assembling.specs.Outcome.{IsAssembled};
+ghost use Rattle.commands.specs.Creations.{AnswersPart, AssemblesDraft, ListsFiles, NamesListed};
+ghost use Rattle.part_texts.specs.Listings.{listed};
 
 use crate::outcomes::{fault_of_listing, refuse};
 use actions::{Create, Part};
@@ -10,9 +12,9 @@ use drafts::Draft;
 use filetree::Refusal;
 use folders::{SeekShelf, Shelf};
 use part_drafts::PartFault;
-use part_texts::Listing;
+use part_texts::{ListedFile, Listing};
 use pieces::PieceLength;
-use printing::{Fault, OUTPUT};
+use printing::Fault;
 use std::alloc::Global;
 
 /// Lists the files of a shelf, in the order of their paths. If there is no torrent of the piece
@@ -23,6 +25,8 @@ pub fn list_files<'a, S: Shelf, W: Sink>(
     shelf: &mut S,
     out: &mut W,
 ) -> Result<Result<Vec<Vec<String>>, u8>, Fault<'a>>
+    ensures lists { ListsFiles S.Shelf shelf.old shelf.new asked.now.piece_length
+        (Fault.Read asked.now.dir) (W.seen out.old) (W.seen out.new) result }
     ensures stays { S.contents shelf.new ≡ S.contents shelf.old }
 {
     if PieceLength::new(asked.piece_length).is_none() {
@@ -48,7 +52,7 @@ pub fn hash_part<'a, S: SeekShelf, W: Sink>(
     out: &mut W,
 ) -> Result<Result<Vec<u8>, u8>, Fault<'a>>
     ensures text { AnswersPart (S.Shelf.contents shelf.old).under listing.now (part.number - 1)
-        part.count result }
+        part.count (W.seen out.old) (W.seen out.new) result }
     ensures stays { S.Shelf.contents shelf.new ≡ S.Shelf.contents shelf.old }
 {
     match part_drafts::hash_part(alloc, shelf, listing, part.number - 1, part.count) {
@@ -57,20 +61,21 @@ pub fn hash_part<'a, S: SeekShelf, W: Sink>(
             Ok(Err(refuse(&Refusal::PieceLength, &Vec::new(alloc), out)?))
         }
         Err(PartFault::Device(place) | PartFault::Changed(place)) => {
-            Err(unread(alloc, listing, place))
+            Err(unread(&listing.files, place))
         }
         Err(PartFault::NoMemory) => Err(Fault::NoMemory),
     }
 }
 
-// The fault that the file at this place of a listing cannot be read.
-fn unread<'a>(alloc: Global, listing: &Listing, place: usize) -> Fault<'a> {
-    match listing.files.get(place) {
-        Some(file) => match file.path.clone() {
-            Ok(path) => Fault::ReadBelow(path),
-            Err(_) => Fault::NoMemory,
-        },
-        None => Fault::ReadBelow(Vec::new(alloc)),
+// The fault that this listed file cannot be read.
+fn unread<'a>(files: &[ListedFile], place: usize) -> Fault<'a>
+    requires { place < length files.now }
+    ensures { NamesListed (map listed files.now) result }
+{
+    let file = &files[place];
+    match file.path.clone() {
+        Ok(path) => Fault::ReadBelow(path),
+        Err(_) => Fault::NoMemory,
     }
 }
 
@@ -81,11 +86,12 @@ pub fn assemble<'a, W: Sink>(
     alloc: Global,
     texts: &[&[u8]],
     out: &mut W,
-) -> Result<Result<Result<Draft, u8>, AssembleFault>, Fault<'a>> {
+) -> Result<Result<Result<Draft, u8>, AssembleFault>, Fault<'a>>
+    ensures { AssemblesDraft (IsAssembled (map (λ x. x.now) texts.now)) (W.seen out.old)
+        (W.seen out.new) result }
+{
     match assembling::assemble(alloc, texts) {
         Ok(draft) => Ok(Ok(Ok(draft))),
-        // Nothing is written yet, so no draft answers this.
-        Err(AssembleFault::Refused(Refusal::Write, _)) => Err(Fault::Write(OUTPUT)),
         Err(AssembleFault::Refused(refusal, path)) => Ok(Ok(Err(refuse(&refusal, &path, out)?))),
         Err(AssembleFault::NoMemory) => Err(Fault::NoMemory),
         Err(fault) => Ok(Err(fault)),

@@ -1,15 +1,27 @@
-use Rattle.std.proofs.Common.{◌≡◌, ◌<◌, get_or, length, map, subst, arith, rules, ap, ◌∙◌, take_all}
+use Rattle.std.proofs.Common.{◌≡◌, ◌<◌, ◌+◌, ◌∷◌, ℕ, Bor, List, Some, ap, arith, drop, get_or, length, map, rules, slice_get, subst, sym, take_all, ◌∙◌, ◌^◌, inl, inr, refl}
+use Rattle.std.proofs.lemmas.List.{length-map}
+use Rattle.std.proofs.lemmas.Bool.{cases_lt}
 use Rattle.std.specs.String.{string_bytes}
 use Rattle.drafts.specs.Outline.{empty_outline}
-use Rattle.part_texts.specs.Listings.{listed}
+use Rattle.folders.specs.Shelf.{path_bytes}
+use Rattle.part_texts.specs.Divisions.{capped, hashed, total_of}
+use Rattle.part_texts.specs.Listings.{inventory, listed}
+use Rattle.part_texts.specs.declared.listing.ListedFile.{ListedFile}
 use Rattle.part_texts.specs.declared.listing.Listing.{Listing}
 use Rattle.assembling.specs.Added.{HasAdded, IsWithListed}
+use Rattle.assembling.specs.Assembly.{RefusesListed}
+use Rattle.assembling.specs.Said.{EachSays}
+use Rattle.assembling.specs.Taking.{IsOfContent}
+use Rattle.assembling.proofs.Assembled.{all_gathered, files_from, held_at, one_further, says_as}
 use Rattle.assembling.proofs.Drafts.{next_added}
+use Rattle.assembling.proofs.Fronts.{item_of, same_item}
+use Rattle.assembling.proofs.Refusing.{refused_content, too_long}
 use Rattle.assembling.proofs.assembling.add_all.Goals as goal
 
 pub files-preserved : goal.files-preserved
 files-preserved c =
     let l = c.args.listing in
+    let d = c.args.division.now in
     let i = c.files.number in
     let file = c.index-file.result.now in
     let is : file ≡ get_or l.files.items i file = c.index-file.ensures ∙ ap (λ (q : Listing). get_or q.files.items i file) c.files.invariant.listing in
@@ -24,10 +36,78 @@ files-preserved c =
       so_far = next_added (empty_outline (string_bytes l.name) l.piece_length l.hybrid) c.files.draft c.add_file.new.draft l.files.items i file lt
           c.files.invariant.so_far
           (subst (λ y. IsWithListed c.files.draft c.add_file.new.draft (listed y)) is c.in-Ok-add_file.ensures.added);
+      true_so_far = λ under contents held says.
+          let fs = map listed l.files.items in
+          let f = listed file in
+          let so = c.files.invariant.true_so_far under contents held says in
+          let at : slice_get fs i ≡ Some f = item_of listed l.files.items i file lt ∙ ap (λ x. Some (listed x)) (sym is) in
+          let h = held_at under fs contents i f held at in
+          let texts = map (λ (x : Bor (List ℕ)). x.now) c.files.parts.rows.items in
+          let texts' = map (λ (x : Bor (List ℕ)). x.now) c.rows_of.new.parts.rows.items in
+          let kind = ap (λ (q : Listing). q.hybrid) c.files.invariant.listing in
+          let here = says_as under l.piece_length d.piece_length l.hybrid c.files.listing.hybrid (total_of fs) d.total (length texts) c.files.before
+          (drop i fs) (f ∷ drop (i + 1) fs) texts (sym c.requires.shared) (sym kind) (sym c.requires.total) (files_from fs i f at) so.says in
+          let taken = c.in_ok-rows.ensures.taken under f (drop (i + 1) fs) h.0 refl
+          (record { says = here; known = h.2; short = c.in-Ok-add_file.ensures.short }) in
+          let adds = c.in-Ok-add_file.ensures.content h.0
+          (subst (λ p. IsOfContent p c.files.listing.hybrid h.0 c.in_ok-rows.rows) (c.requires.shared ∙ sym c.requires.piece_length) taken.is) taken.size in
+          one_further under (inventory l) contents i c.files.before c.saturating_add-before.result c.files.draft c.add_file.new.draft texts texts' f h.0 at h.1
+          (c.saturating_add-before.ensures ∙ ap (capped c.files.before) c.hashed.ensures) adds
+          (says_as under d.piece_length l.piece_length c.files.listing.hybrid l.hybrid d.total (total_of fs) (length texts')
+          (capped c.files.before (hashed f.bytes)) (drop (i + 1) fs) (drop (i + 1) fs) texts' c.requires.shared kind c.requires.total refl taken.later) so;
     }
 
-pub returns : goal.returns
-returns c =
+pub returns-clause-draft : goal.returns-clause-draft
+returns-clause-draft c =
     let l = c.args.listing in
     let all = take_all c.files.number l.files.items (omega (arith, c.files-test.false, c.files.invariant.end)) in
     subst (λ fs. HasAdded (empty_outline (string_bytes l.name) l.piece_length l.hybrid) (map listed fs) c.files.draft) all c.files.invariant.so_far
+
+pub returns-clause-gathers : goal.returns-clause-gathers
+returns-clause-gathers c = λ under contents held says.
+    let l = c.args.listing in
+    all_gathered under (inventory l) contents c.files.number c.files.before c.files.draft (map (λ (x : Bor (List ℕ)). x.now) c.files.parts.rows.items)
+    (omega (arith, length-map l.files.items listed, c.files-test.false, c.files.invariant.end, c.files.auto.number-end)) held
+    (c.files.invariant.true_so_far under contents held
+    (subst (λ n. EachSays under l.piece_length l.hybrid (total_of (map listed l.files.items)) n 0 (map listed l.files.items)
+    (map (λ (x : Bor (List ℕ)). x.now) c.args.parts.rows.items)) (length-map c.args.parts.rows.items (λ x. x.now)) says))
+
+pub returns-in-Err-Refused-clause-gathers : goal.returns-in-Err-Refused-clause-gathers
+returns-in-Err-Refused-clause-gathers c = λ under contents held given.
+    let l = c.args.listing in
+    let d = c.args.division.now in
+    let i = c.files.number in
+    let file = c.index-file.result.now in
+    let is : file ≡ get_or l.files.items i file = c.index-file.ensures ∙ ap (λ (q : Listing). get_or q.files.items i file) c.files.invariant.listing in
+    let lt : i < length l.files.items = omega (arith, c.files-test.true, c.files.invariant.end) in
+    let fs = map listed l.files.items in
+    let f = listed file in
+    let says = subst (λ n. EachSays under l.piece_length l.hybrid (total_of fs) n 0 fs (map (λ (x : Bor (List ℕ)). x.now) c.args.parts.rows.items))
+    (length-map c.args.parts.rows.items (λ x. x.now)) given in
+    let so = c.files.invariant.true_so_far under contents held says in
+    let at : slice_get fs i ≡ Some f = item_of listed l.files.items i file lt ∙ ap (λ x. Some (listed x)) (sym is) in
+    let h = held_at under fs contents i f held at in
+    let texts = map (λ (x : Bor (List ℕ)). x.now) c.files.parts.rows.items in
+    let kind = ap (λ (q : Listing). q.hybrid) c.files.invariant.listing in
+    let here = says_as under l.piece_length d.piece_length l.hybrid c.files.listing.hybrid (total_of fs) d.total (length texts) c.files.before
+    (drop i fs) (f ∷ drop (i + 1) fs) texts (sym c.requires.shared) (sym kind) (sym c.requires.total) (files_from fs i f at) so.says in
+    inr (record {
+      number = i;
+      file = f;
+      content = h.0;
+      there = at;
+      held = h.1;
+      path_is = ap (λ (x : ListedFile). path_bytes x.path) (c.swap_remove-refused.ensures.value
+          ∙ same_item c.files.listing.files.items i _ file (omega (arith, lt, ap (λ (q : Listing). length q.files.items) c.files.invariant.listing))
+          ∙ sym c.index-file.ensures);
+      draft = c.files.draft;
+      before = so.gathered;
+      why = subst (RefusesListed c.files.draft f h.0) (sym c.in-Err-Refused.refusal-is) (elim (cases_lt (2 ^ 46) file.length) [
+        | inl long ↦ inl (long, too_long c.in-Err-Refused.field-0 c.in-Err-Refused.refusal c.in-Err-Refused.field-0-is (c.in-Err-Refused.ensures.long long))
+        | inr short ↦
+            let taken = c.in_ok-rows.ensures.taken under f (drop (i + 1) fs) h.0 refl (record { says = here; known = h.2; short = short }) in
+            let own = subst (λ p. IsOfContent p c.files.listing.hybrid h.0 c.in_ok-rows.rows) (c.requires.shared ∙ sym c.requires.piece_length) taken.is in
+            refused_content c.files.draft c.add_file.new.draft f h.0 c.in-Err-Refused.field-0 c.in-Err-Refused.refusal c.in-Err-Refused.field-0-is
+            (c.in-Err-Refused.ensures.content h.0 own taken.size)
+      ]);
+    })

@@ -2,7 +2,7 @@ use Rattle.std.proofs.Common.{◌≡◌, length, map, take}
 use Rattle.std.specs.String.{string_bytes}
 use Rattle.std.specs.Prelude.{vec_len}
 use Rattle.std.specs.Vec.{vec_capacity}
-use Rattle.assembling.proofs.assembling.components.Given as goal
+use Rattle.assembling.proofs.one_file.components.Given as goal
 
 abbrev pub invariant-parts : goal.invariant-parts
 invariant-parts l = record {

@@ -1,0 +1,87 @@
+use Rattle.std.proofs.Common.{◌≡◌, ◌<◌, ◌+◌, ◌-◌, ℕ, Bool, List, ◌∷◌, Bor, Some, length, map, rules, set, slice_get, subst, sym, ◌∙◌, ap, arith, refl}
+use Rattle.std.proofs.lemmas.List.{length-map, length-set}
+use Rattle.part_drafts.specs.Parts.{KnownPaths}
+use Rattle.part_texts.specs.Divisions.{first_piece}
+use Rattle.part_texts.specs.Listings.{Listed}
+use Rattle.part_texts.specs.declared.division.Span.{Span}
+use Rattle.assembling.specs.Said.{EachSays, FitsCount}
+use Rattle.assembling.proofs.Fronts.{item_of}
+use Rattle.assembling.proofs.Joining.{legal_some}
+use Rattle.assembling.proofs.Passing.{IsUnderWay, all_taken, begun, held_size, map_set, part_read}
+use Rattle.assembling.proofs.Shares.{at_start, at_up}
+use Rattle.assembling.proofs.all_rows.rows_of.Goals as goal
+
+counted : (under : KnownPaths) (p : ℕ) (hybrid : Bool) (total n parts before : ℕ) (files : List Listed) (texts : List (List ℕ)) → n ≡ parts
+    → EachSays under p hybrid total n before files texts → EachSays under p hybrid total parts before files texts
+counted under p hybrid total n parts before files texts is says = subst (λ k. EachSays under p hybrid total k before files texts) is says
+
+pub parts-init : goal.parts-init
+parts-init c =
+    let d = c.args.division.now in
+    let some = legal_some d.piece_length c.requires.legal in
+    let any : 0 < d.parts = omega (arith, c.requires.parts, c.requires.some) in
+    let texts = map (λ x. x.now) c.args.parts.now.rows.items in
+    let none = sym (at_start d.piece_length d.total d.parts c.args.before c.args.bytes some any) in
+    record {
+      end = search rules;
+      rows = refl;
+      places = refl;
+      each = record { nodes = ap length c.new.ensures.items ∙ none; cuts = λ is. ap length c.new-2.ensures.items ∙ none };
+      way = λ under f fs content same held.
+          begun under d.piece_length c.args.hybrid d.total d.parts c.args.before f fs content _ texts c.requires.legal any c.new.ensures.items c.new-2.ensures.items
+          (counted under d.piece_length c.args.hybrid d.total (length texts) d.parts c.args.before (f ∷ fs) texts
+          (length-map c.args.parts.now.rows.items (λ x. x.now) ∙ sym c.requires.parts) held.says);
+    }
+
+pub parts-preserved : goal.parts-preserved
+parts-preserved c =
+    let d = c.args.division.now in
+    let p = d.piece_length in
+    let inv = c.parts.invariant in
+    let part = c.parts.part in
+    let items = c.parts.parts.rows.items in
+    let old = c.args.parts.now.rows.items in
+    let entry = c.index.result.now in
+    let low : part < length items = omega (arith, c.parts-test.true, inv.end, inv.rows) in
+    let low_part : part < d.parts = omega (arith, low, inv.rows, c.requires.parts) in
+    let span : c.count-count.result ≡ first_piece p d.total d.parts c.args.before c.args.bytes (part + 1) - first_piece p d.total d.parts c.args.before c.args.bytes part =
+    c.count-count.ensures ∙ ap (λ (s : Span). s.to - s.from) c.span.ensures in
+    let there : slice_get (map (λ x. x.now) items) part ≡ Some entry.now = item_of (λ x. x.now) items part entry low
+    ∙ ap (λ (x : Bor (List ℕ)). Some x.now) (sym c.index.ensures) in
+    let added = rw c.in-Some.is at c.in_ok-rest.ensures.count in
+    let up = at_up p d.total d.parts c.args.before c.args.bytes (legal_some p c.requires.legal) part low_part in
+    record {
+      end = inv.end;
+      rows = length-set items part c.in-Some.rest ∙ inv.rows;
+      places = inv.places;
+      each = record {
+        nodes = omega (arith, added.nodes, inv.each.nodes, span, up);
+        cuts = λ is. omega (arith, added.cuts is, inv.each.cuts is, span, up);
+      };
+      way = λ under f fs content same held.
+          let span_is : c.count-count.result ≡ first_piece p d.total d.parts c.args.before f.bytes (part + 1) - first_piece p d.total d.parts c.args.before f.bytes part =
+          span ∙ ap (λ n. first_piece p d.total d.parts c.args.before n (part + 1) - first_piece p d.total d.parts c.args.before n part) (sym same) in
+          let any : 0 < length (map (λ x. x.now) old) = omega (arith, length-map old (λ x. x.now), c.requires.some) in
+          let size = held_size under p c.args.hybrid d.total c.args.before f fs content (map (λ x. x.now) old) c.requires.legal any held in
+          part_read under p c.args.hybrid d.total d.parts c.args.before f fs content part entry.now c.in-Some.rest.now c.parts.rows c.read_row.new.rows
+          (map (λ x. x.now) items) (map (λ x. x.now) (set items part c.in-Some.rest)) c.requires.legal low_part held.known held.short size there
+          (map_set (λ x. x.now) items part c.in-Some.rest) (inv.way under f fs content same held)
+          (λ none. rw c.in-Some.is at (c.in_ok-rest.ensures.nothing (span_is ∙ none)))
+          (λ row more some fitting is. rw c.in-Some.is at (c.in_ok-rest.ensures.said row more (subst (λ n. 0 < n) (sym span_is) some)
+          (subst (λ n. FitsCount n row) (sym span_is) fitting) is));
+    }
+
+pub returns-clause-taken : goal.returns-clause-taken
+returns-clause-taken c = λ under f fs content same held.
+    let d = c.args.division.now in
+    let p = d.piece_length in
+    let inv = c.parts.invariant in
+    let items = c.parts.parts.rows.items in
+    let old = c.args.parts.now.rows.items in
+    let any : 0 < length (map (λ x. x.now) old) = omega (arith, length-map old (λ x. x.now), c.requires.some) in
+    let size = held_size under p c.args.hybrid d.total c.args.before f fs content (map (λ x. x.now) old) c.requires.legal any held in
+    let end : c.parts.part ≡ d.parts = omega (arith, c.parts-test.false, c.parts.auto.part-end, inv.end, c.requires.parts) in
+    all_taken under p c.args.hybrid d.total c.args.before f fs content d.parts c.parts.rows (map (λ x. x.now) items) c.requires.legal held.short size
+    (length-map items (λ x. x.now) ∙ inv.rows ∙ sym c.requires.parts)
+    (subst (λ k. IsUnderWay under p c.args.hybrid d.total d.parts c.args.before f fs content k c.parts.rows (map (λ x. x.now) items)) end
+    (inv.way under f fs content same held))

@@ -1,0 +1,31 @@
+-- What the assembly of a torrent did, by its answer.
+use Rattle.std.specs.Prelude.{ℕ, List, IfErr, IfOk, Result}
+use Rattle.drafts.specs.Outline.{Outline}
+use Rattle.part_drafts.specs.Parts.{KnownPaths}
+use Rattle.part_texts.specs.Listings.{Inventory}
+use Rattle.part_texts.specs.Readings.{CanBeListed}
+use Rattle.part_texts.specs.Texts.{listing_text}
+use Rattle.assembling.specs.Added.{IsDraftOf}
+use Rattle.assembling.specs.Adding.{AreNoWrite}
+use Rattle.assembling.specs.Assembly.{AreHeld, AreTrueParts, Assembles}
+use Rattle.assembling.specs.Fronts.{AreAllParts, IsOfListing}
+use Rattle.assembling.specs.Reasons.{HasReason}
+use Rattle.assembling.specs.declared.fault.AssembleFault.{AssembleFault}
+
+-- the texts are those of all parts of one whole
+abbrev pub AreWhole : List (List ℕ) → Type 0
+AreWhole texts = (parts : ℕ) × (listing : List ℕ) × AreAllParts parts listing texts
+
+-- A draft comes only of the texts of all parts of one whole, and holds the files of their listing;
+-- a fault only for its reason, and never that of a failed write. If each text says what is true of
+-- the same contents, then the draft is that which is gathered of these, and a refusal the first of
+-- such a draft.
+pub record IsAssembled (texts : List (List ℕ)) (result : Result Outline AssembleFault) : Type 0
+  where
+    pub all : IfOk result (λ _. AreWhole texts)
+    pub reason : IfErr result (HasReason texts)
+    pub no_write : IfErr result AreNoWrite
+    pub draft : (l : Inventory) → CanBeListed l → IsOfListing (listing_text l) texts
+        → IfOk result (IsDraftOf l)
+    pub gathers : (l : Inventory) (under : KnownPaths) (contents : List (List ℕ)) → CanBeListed l
+        → AreHeld under l.files contents → AreTrueParts under l texts → Assembles l contents result
