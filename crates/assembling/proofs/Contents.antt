@@ -1,5 +1,6 @@
 -- What a draft is given of a content that all parts say.
-use Rattle.std.proofs.Common.{◌≡◌, ◌≢◌, inl, inr, ℕ, ◌<◌, ◌≤◌, ◌^◌, Bool, true, false, ◌&&◌, cond, List, [], length, slice_get, refl, sym, ◌∙◌, ap, subst, arith}
+use Rattle.std.proofs.Common.{◌≡◌, ◌≢◌, inl, inr, ℕ, ◌<◌, ◌≤◌, ◌^◌, Bool, true, false, ◌&&◌, cond, List, [], length, slice_get, refl, sym, ◌∙◌, ap, subst}
+use Rattle.std.proofs.Common.{arith}
 use Rattle.std.specs.Prelude.{nat_lt, Result, Err}
 use Rattle.std.proofs.lemmas.Bool.{cases_lt, ltb-true}
 use Rattle.std.proofs.lemmas.Option.{same_Some}
@@ -27,7 +28,8 @@ chosen true false xs ys same = refl
 chosen false b xs ys same = refl
 
 -- the root over what all parts say is the content's
-pub root_is : (p n : ℕ) (hybrid : Bool) (c : List ℕ) (rows : FileRows) (root : List ℕ) → IsWhole p hybrid n rows root → IsOfContent p hybrid c rows → length c ≡ n
+pub root_is : (p n : ℕ) (hybrid : Bool) (c : List ℕ) (rows : FileRows) (root : List ℕ) → IsWhole p hybrid n rows root → IsOfContent p hybrid c rows
+    → length c ≡ n
     → 0 < length c → root ≡ root_of c
 root_is p n hybrid c rows root whole is size some = elim (cases_lt p n) [
   | inl over ↦

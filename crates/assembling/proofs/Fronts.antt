@@ -1,5 +1,6 @@
 -- The fronts of parts' texts.
-use Rattle.std.proofs.Common.{◌≡◌, ◌≢◌, ℕ, zero, suc, ◌+◌, ◌<◌, ◌++◌, ◌∷◌, ◌⊎◌, List, [], Bor, get_or, length, map, take, slice_get, Some, inl, inr, refl, sym, ◌∙◌, ap, subst}
+use Rattle.std.proofs.Common.{◌≡◌, ◌≢◌, ℕ, zero, suc, ◌+◌, ◌<◌, ◌++◌, ◌∷◌, ◌⊎◌, List, [], Bor, get_or, length, map, take, slice_get, Some, inl, inr, refl}
+use Rattle.std.proofs.Common.{sym, ◌∙◌, ap, subst}
 use Rattle.std.proofs.Common.{Bool, true, false, not, None, Option, Result, IfSome, arith, if◌then◌else◌, is_ok, is_some, length-append, add-one}
 use Rattle.std.proofs.Math.Seq.{take-suc}
 use Rattle.std.proofs.lemmas.Option.{get_or_from_slice_get, none-some, same_Some, slice_get-get_or, slice_get-map, slice_get_within}
@@ -126,7 +127,8 @@ abbrev pub AreTaken : List Front → List (List ℕ) → List ℕ → Type 0
 AreTaken fronts rows places = (part : ℕ) (rest : List ℕ) → slice_get rows part ≡ Some rest
     → (i : ℕ) × (f : Front) × (slice_get places part ≡ Some i) × (slice_get fronts i ≡ Some f) × (f.part ≡ part) × (f.rows ≡ rest)
 
-pub taken_push : (fronts : List Front) (rows : List (List ℕ)) (places : List ℕ) (part place : ℕ) (f : Front) (rest : List ℕ) → length rows ≡ part → length places ≡ part
+pub taken_push : (fronts : List Front) (rows : List (List ℕ)) (places : List ℕ) (part place : ℕ) (f : Front) (rest : List ℕ)
+    → length rows ≡ part → length places ≡ part
     → slice_get fronts place ≡ Some f → f.part ≡ part → f.rows ≡ rest → AreTaken fronts rows places → AreTaken fronts (rows ++ rest ∷ []) (places ++ place ∷ [])
 taken_push fronts rows places part place f rest rows_are places_are there own behind taken = λ k x at. elim (push_at rows rest k x at) [
   | inl old ↦ let before = taken k x old in (before.0, before.1, push_kept places place k before.0 before.2, before.3, before.4, before.5)
@@ -223,7 +225,8 @@ parts_are texts heads first p are at listing places_are count taken found = reco
         text = get_or texts t.0 [];
         at = t.2;
         there = text_at;
-        front = front_as (get_or texts t.0 []) t.1 k (length p.rows.items) p.listing.now rest (are.each t.0 (get_or texts t.0 []) t.1 text_at t.3) t.4 own.0 own.1
+        front = front_as (get_or texts t.0 []) t.1 k (length p.rows.items) p.listing.now rest (are.each t.0 (get_or texts t.0 []) t.1 text_at t.3)
+            t.4 own.0 own.1
             t.5;
       };
 }

@@ -1,5 +1,6 @@
 -- How what all parts say of one file is taken, part by part.
-use Rattle.std.proofs.Common.{◌≡◌, ◌≢◌, ◌⊎◌, inl, inr, ℕ, zero, suc, ◌+◌, ◌-◌, ◌*◌, ◌^◌, ◌<◌, ◌≤◌, min, Bool, true, List, [], ◌∷◌, ◌++◌, length, map, take, drop, set, slice_get, Some, get_or}
+use Rattle.std.proofs.Common.{◌≡◌, ◌≢◌, ◌⊎◌, inl, inr, ℕ, zero, suc, ◌+◌, ◌-◌, ◌*◌, ◌^◌, ◌<◌, ◌≤◌, min, Bool, true, List, [], ◌∷◌, ◌++◌, length, map, take}
+use Rattle.std.proofs.Common.{drop, set, slice_get, Some, get_or}
 use Rattle.std.proofs.Common.{refl, sym, ap, ◌∙◌, subst, arith}
 use Rattle.std.proofs.lemmas.Bool.{cases_lt}
 use Rattle.std.proofs.lemmas.List.{nil_from_length}
@@ -49,7 +50,8 @@ module _ (under : KnownPaths) (p : ℕ) (hybrid : Bool) (total parts before : �
   pub begun : (rows : FileRows) (texts : List (List ℕ)) → IsPieceLength p → 0 < parts → rows.nodes.items ≡ [] → rows.v1.cuts.items ≡ []
       → EachSays under p hybrid total parts before (f ∷ fs) texts → IsUnderWay 0 rows texts
   begun rows texts legal any nodes cuts says = record {
-    upto = subst (λ k. Upto p hybrid c k rows.nodes.items rows.v1.cuts.items rows.v1.padded) (sym (at_start p total parts before f.bytes (legal_some p legal) any))
+    upto = subst (λ k. Upto p hybrid c k rows.nodes.items rows.v1.cuts.items rows.v1.padded)
+        (sym (at_start p total parts before f.bytes (legal_some p legal) any))
         (subst (λ x. Upto p hybrid c 0 x rows.v1.cuts.items rows.v1.padded) (sym nodes)
         (subst (λ x. Upto p hybrid c 0 [] x rows.v1.padded) (sym cuts) (upto_none p hybrid c rows.v1.padded legal)));
     done = λ q text lt at. absurd (omega (arith, lt));
@@ -57,7 +59,8 @@ module _ (under : KnownPaths) (p : ℕ) (hybrid : Bool) (total parts before : �
   }
 
   -- what a part says of a row of some pieces
-  module _ (part : ℕ) (legal : IsPieceLength p) (low : part < parts) (known : under f.path ≡ Some (Some c)) (short : f.bytes ≤ 2 ^ 46) (size : length c ≡ f.bytes)
+  module _ (part : ℕ) (legal : IsPieceLength p) (low : part < parts) (known : under f.path ≡ Some (Some c)) (short : f.bytes ≤ 2 ^ 46)
+      (size : length c ≡ f.bytes)
       (row : List ℕ) (is : IsRow under p f (span_of p total parts before f.bytes part) row) where
     abbrev from : ℕ
     from = first_piece p total parts before f.bytes part

@@ -30,7 +30,8 @@ pub(crate) fn rows_of(
     requires legal { IsPieceLength division.now.piece_length }
     ensures rows { length parts.new.rows.items ≡ length parts.old.rows.items }
     ensures places { parts.new.places ≡ parts.old.places }
-    ensures each { IfOk result (HasEach hybrid (pieces_of division.now.piece_length (hashed bytes))) }
+    ensures each { IfOk result (HasEach hybrid
+        (pieces_of division.now.piece_length (hashed bytes))) }
     ensures no_write { IfErr result AreNoWrite }
     ensures fault { IfErr result IsRowsFault }
     ensures taken { (under : KnownPaths) (f : Listed) (fs : List Listed) (content : List ℕ)

@@ -28,7 +28,8 @@ parts-init c =
       places = refl;
       each = record { nodes = ap length c.new.ensures.items ∙ none; cuts = λ is. ap length c.new-2.ensures.items ∙ none };
       way = λ under f fs content same held.
-          begun under d.piece_length c.args.hybrid d.total d.parts c.args.before f fs content _ texts c.requires.legal any c.new.ensures.items c.new-2.ensures.items
+          begun under d.piece_length c.args.hybrid d.total d.parts c.args.before f fs content _ texts c.requires.legal any
+          c.new.ensures.items c.new-2.ensures.items
           (counted under d.piece_length c.args.hybrid d.total (length texts) d.parts c.args.before (f ∷ fs) texts
           (length-map c.args.parts.now.rows.items (λ x. x.now) ∙ sym c.requires.parts) held.says);
     }
@@ -44,7 +45,8 @@ parts-preserved c =
     let entry = c.index.result.now in
     let low : part < length items = omega (arith, c.parts-test.true, inv.end, inv.rows) in
     let low_part : part < d.parts = omega (arith, low, inv.rows, c.requires.parts) in
-    let span : c.count-count.result ≡ first_piece p d.total d.parts c.args.before c.args.bytes (part + 1) - first_piece p d.total d.parts c.args.before c.args.bytes part =
+    let span : c.count-count.result ≡ first_piece p d.total d.parts c.args.before c.args.bytes (part + 1)
+    - first_piece p d.total d.parts c.args.before c.args.bytes part =
     c.count-count.ensures ∙ ap (λ (s : Span). s.to - s.from) c.span.ensures in
     let there : slice_get (map (λ x. x.now) items) part ≡ Some entry.now = item_of (λ x. x.now) items part entry low
     ∙ ap (λ (x : Bor (List ℕ)). Some x.now) (sym c.index.ensures) in
@@ -59,7 +61,8 @@ parts-preserved c =
         cuts = λ is. omega (arith, added.cuts is, inv.each.cuts is, span, up);
       };
       way = λ under f fs content same held.
-          let span_is : c.count-count.result ≡ first_piece p d.total d.parts c.args.before f.bytes (part + 1) - first_piece p d.total d.parts c.args.before f.bytes part =
+          let span_is : c.count-count.result ≡ first_piece p d.total d.parts c.args.before f.bytes (part + 1)
+          - first_piece p d.total d.parts c.args.before f.bytes part =
           span ∙ ap (λ n. first_piece p d.total d.parts c.args.before n (part + 1) - first_piece p d.total d.parts c.args.before n part) (sym same) in
           let any : 0 < length (map (λ x. x.now) old) = omega (arith, length-map old (λ x. x.now), c.requires.some) in
           let size = held_size under p c.args.hybrid d.total c.args.before f fs content (map (λ x. x.now) old) c.requires.legal any held in

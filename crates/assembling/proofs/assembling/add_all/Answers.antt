@@ -1,4 +1,5 @@
-use Rattle.std.proofs.Common.{◌≡◌, ◌<◌, ◌+◌, ◌∷◌, ℕ, Bor, List, Some, ap, arith, drop, get_or, length, map, rules, slice_get, subst, sym, take_all, ◌∙◌, ◌^◌, inl, inr, refl}
+use Rattle.std.proofs.Common.{◌≡◌, ◌<◌, ◌+◌, ◌∷◌, ℕ, Bor, List, Some, ap, arith, drop, get_or, length, map, rules, slice_get, subst, sym, take_all, ◌∙◌, ◌^◌}
+use Rattle.std.proofs.Common.{inl, inr, refl}
 use Rattle.std.proofs.lemmas.List.{length-map}
 use Rattle.std.proofs.lemmas.Bool.{cases_lt}
 use Rattle.std.specs.String.{string_bytes}

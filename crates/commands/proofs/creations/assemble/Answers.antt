@@ -1,5 +1,5 @@
 use Rattle.std.proofs.Common.{◌≡◌, ℕ, Bor, List, map, inr, rules, string_bytes, subst, sym, ap, ◌∙◌}
-use Rattle.std.specs.Prelude.{Result, Ok, Err, String}
+use Rattle.std.specs.Prelude.{Result, Err, String}
 use Rattle.std.specs.Global.{Global, Vec}
 use Rattle.std.proofs.lemmas.Result.{err_from_is_err_and}
 use Rattle.benc.specs.Device.{SinkSeen}

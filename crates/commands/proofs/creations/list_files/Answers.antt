@@ -1,4 +1,4 @@
-use Rattle.std.proofs.Common.{◌≡◌, ℕ, None, Option, Some, is_some, refl, rules, true}
+use Rattle.std.proofs.Common.{◌≡◌, ℕ, None, Option, Some, is_some, refl, true}
 use Rattle.std.specs.Option.{SomeIff}
 use Rattle.gathering.proofs.Listed.{listed_as}
 use Rattle.commands.proofs.creations.list_files.Goals as goal

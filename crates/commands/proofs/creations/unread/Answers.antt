@@ -1,4 +1,4 @@
-use Rattle.std.proofs.Common.{◌≡◌, ◌<◌, ◌∷◌, List, [], Some, ap, inr, map, refl, rules, string_bytes, sym, ◌∙◌, arith}
+use Rattle.std.proofs.Common.{◌≡◌, ◌∷◌, List, [], Some, ap, inr, map, refl, string_bytes, sym, ◌∙◌}
 use Rattle.std.specs.Prelude.{String}
 use Rattle.std.specs.Global.{Global}
 use Rattle.std.specs.List.{AllZip}
