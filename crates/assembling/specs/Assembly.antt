@@ -50,8 +50,8 @@ RefusesListed d f content r =
     ⊎ ((f.bytes ≤ 2 ^ 46) × DraftRefuses d f.path content r)
 
 -- the files before that of this path were gathered, and it was refused
-pub record RefusesFile (l : Inventory) (contents : List (List ℕ)) (path : List (List ℕ)) (r : Refusal)
-    : Type 0 where
+pub record RefusesFile (l : Inventory) (contents : List (List ℕ)) (path : List (List ℕ))
+    (r : Refusal) : Type 0 where
   pub number : ℕ
   pub file : Listed
   pub content : List ℕ
@@ -59,7 +59,8 @@ pub record RefusesFile (l : Inventory) (contents : List (List ℕ)) (path : List
   pub held : slice_get contents number ≡ Some content
   pub path_is : path ≡ file.path
   pub draft : Outline
-  pub before : Gathered (listed_draft l) (take number (paths_of l.files)) (take number contents) draft
+  pub before : Gathered (listed_draft l) (take number (paths_of l.files)) (take number contents)
+      draft
   pub why : RefusesListed draft file content r
 
 -- there is no draft of this piece length

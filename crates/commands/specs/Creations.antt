@@ -40,7 +40,8 @@ pub record StopsRefusing (piece_length : ℕ) (out out' : SinkSeen) (f : Fault) 
 abbrev pub ListsFiles : {S F : Type 0} → Ghosts S F → S → S → (piece_length : ℕ) → Fault → SinkSeen
     → SinkSeen → Result (Result (Vec (Vec (String Global))) ℕ) Fault → Type 0
 ListsFiles shelf old new piece_length unlisted out out' (Ok (Ok paths)) =
-    IsPieceLength piece_length × IsListedAs shelf old (map path_bytes paths.items) new × (out' ≡ out)
+    IsPieceLength piece_length × IsListedAs shelf old (map path_bytes paths.items) new
+    × (out' ≡ out)
 ListsFiles shelf old new piece_length unlisted out out' (Ok (Err status)) =
     (new ≡ old) × RefusesPieces piece_length out out' status
 ListsFiles shelf old new piece_length unlisted out out' (Err f) =
@@ -52,7 +53,8 @@ ListsFiles shelf old new piece_length unlisted out out' (Err f) =
 -- the fault is that one of the listed files cannot be read, or that memory was refused
 abbrev pub NamesListed : List Listed → Fault → Type 0
 NamesListed files f = (f ≡ faults.NoMemory)
-    ⊎ ((place : ℕ) × (file : Listed) × (path : Vec (String Global)) × (slice_get files place ≡ Some file)
+    ⊎ ((place : ℕ) × (file : Listed) × (path : Vec (String Global))
+    × (slice_get files place ≡ Some file)
     × (path_bytes path ≡ file.path) × (f ≡ faults.ReadBelow path))
 
 -- What hashing a part, counted from 0, of this many did, by its answer: it is the part's text, and
