@@ -291,7 +291,8 @@ def test_a_torrent_in_parts_on_machines():
 
 class Daemon:
     """An ssh daemon of this machine's own, on a port of the loopback, for a `with`: `ssh` is the command that reaches it
-    under any name. A login finds what is in `bin`."""
+    under any name. A login finds what is in `bin`. Where the system lets no daemon take a login, `ssh` stays what stands
+    in its place."""
 
     def __init__(self, place, bin):
         self.place, self.daemon = place, shutil.which("sshd", path=f"{os.environ['PATH']}:/usr/sbin")
@@ -323,18 +324,21 @@ UserKnownHostsFile /dev/null
 LogLevel ERROR
 BatchMode yes
 """.encode())
-        self.ssh = f"ssh -F {place}/ssh/client"
+        self.ssh = f"{bin}/ssh"
 
     def __enter__(self):
         if os.geteuid() == 0:
             os.makedirs("/run/sshd", exist_ok=True)
         self.running = subprocess.Popen([self.daemon, "-D", "-e", "-f", f"{self.place}/ssh/sshd"], stderr=subprocess.DEVNULL)
+        own = f"ssh -F {self.place}/ssh/client"
         for _ in range(100):
-            if subprocess.run([*self.ssh.split(), "here", "true"], stdin=subprocess.DEVNULL, stderr=subprocess.DEVNULL, check=False).returncode == 0:
+            reached = subprocess.run([*own.split(), "here", "true"], stdin=subprocess.DEVNULL, stderr=subprocess.DEVNULL, check=False)
+            if reached.returncode == 0:
+                self.ssh = own
                 return self
             time.sleep(0.1)
-        self.__exit__()
-        raise LeftOut("no login by ssh on the loopback: the system allows none")
+        print("no login by ssh on the loopback: its stand-in runs")
+        return self
 
     def __exit__(self, *_):
         self.running.terminate()
