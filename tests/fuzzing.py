@@ -17,7 +17,7 @@ import record_model
 import torrents
 from poison import Peers
 from session_model import Session
-from support import TOP, run, write
+from support import TOP, run, write, written
 from trees import layer, root_of
 
 # The KiB and the seconds that a case may take; `replay` and the others need a few MiB.
@@ -196,7 +196,7 @@ class Fuzz:
     def __init__(self, place, seed):
         self.place, self.seed = place, seed
         self.cases, self.start = collections.Counter(), seconds_of_processors()
-        self.answers = {kind: collections.Counter() for kind in ("torrent", "record", "conversion", "folder", "join")}
+        self.answers = {kind: collections.Counter() for kind in ("torrent", "record", "conversion", "folder", "join", "assembly")}
 
     def case(self, kind):
         """Draws a case of this kind and compares it."""
@@ -312,6 +312,43 @@ class Fuzz:
         self.answers["join"].update([re.sub(r":? /.*| [0-9].*", "", (done.stdout or done.stderr).decode().splitlines()[-1])])
 
 
+    def assembly(self, draw):
+        """The parts of a torrent that is made. True ones make what `create` makes; of others something is made that opens,
+        or it is said why not, and OUT stays."""
+        below, whole, out = (os.fsencode(self.place) + name for name in (b"/folder", b"/whole", b"/out"))
+        shutil.rmtree(below, ignore_errors=True)
+        os.mkdir(below)
+        for number in range(draw.choice([1, 2, 4])):
+            write(b"%s/%d" % (below, number), content_of(draw.choice([0, 1, 16384, 40000, 70000]), number))
+        words = [b"--name", b"x", b"--piece-length", b"16384", *draw.choice([[], [b"--hybrid"]])]
+        made, count = run(b"create", below, whole, *words), draw.choice([1, 2, 3])
+        true = []
+        for number in range(count):
+            part = run(b"create", below, out, *words, b"--part", b"%d/%d" % (number + 1, count))
+            assert part.returncode == 0, part
+            true.append(written(out))
+        given = bent_parts(draw, true)
+        paths = [write(f"{self.place}/part {number}", text) for number, text in enumerate(given)]
+        write(out, b"before")
+        done = run(b"assemble", out, *paths, timeout=SECONDS, memory=MEMORY)
+        seen, left = (done.returncode, done.stdout, done.stderr), written(out)
+        if sorted(given) == sorted(true):
+            is_right = (seen, left) == ((made.returncode, made.stdout, b""), written(whole))
+        elif done.returncode == 0:
+            is_right = seen == (0, b"", b"") and run(b"show", out).returncode == 0
+        elif done.returncode == 1:
+            is_right = re.fullmatch(rb"refused [0-9]+ \w+.*\n", done.stdout, re.S) and not done.stderr
+        else:
+            is_right = (done.returncode, done.stdout, left) == (2, b"", b"before") and ASSEMBLE_FAULT.fullmatch(done.stderr)
+        if not is_right:
+            raise AssertionError(f"case {self.name}: of {given} a torrent was made so: {seen}, {left}")
+        self.answers["assembly"].update([re.sub(r":? /.*| [0-9].*", "", ((done.stdout or done.stderr).decode().splitlines() or ["made"])[-1])])
+
+
+# The lines of an assembly that is refused.
+ASSEMBLE_FAULT = re.compile(rb"fault: (part \d+ of \d+ is missing|part \d+ is (there twice|of another folder)|no whole part: .*"
+                            rb"|a part of another number of parts: .*)\n")
+
 # The lines of a join that is refused.
 JOIN_FAULT = re.compile(rb"fault: (part \d+ of \d+ is missing|part \d+ is there twice|no whole report of a part: .*"
                         rb"|a part of another torrent: .*|a report of another number of parts: .*)\n")
@@ -349,6 +386,28 @@ def bent_reports(draw, true):
         ])()
         if given and draw.random() < 0.8:
             given[at] = bent
+        else:
+            given.insert(at, draw.choice([text, bent]))
+    return given or [b""]
+
+
+def bent_parts(draw, true):
+    """These parts of a torrent in another order, of which some are changed, left out, or there twice."""
+    given = draw.sample(true, len(true))
+    for _ in range(draw.choice([0, 1, 1, 2])):
+        at = draw.randrange(len(given)) if given else 0
+        text = given[at] if given else b""
+        bent = draw.choice([
+            lambda: text[:draw.randrange(len(text) + 1)],
+            lambda: turned(draw, text) if text else b"x",
+            lambda: bend_bytes(draw, text) if text else b"x",
+            lambda: text + draw.choice([b"x", b"\n", text]),
+            lambda: re.sub(rb"[0-9]+", b"%d" % draw.getrandbits(draw.choice([1, 3, 64, 70])), text, count=draw.choice([1, 2, 3])),
+        ])()
+        if given and draw.random() < 0.7:
+            given[at] = bent
+        elif given and draw.random() < 0.5:
+            del given[at]
         else:
             given.insert(at, draw.choice([text, bent]))
     return given or [b""]

@@ -53,8 +53,13 @@ class World:
 
         # Commands that print nothing and write a file: their arguments, what they read, and the file.
         self.made = f"{place}/made"
+        create = ["create", self.folder, self.made, "--name", "x", "--piece-length", "32768", "--hybrid"]
+        expect(run(*create, "--part", "1/1"), 0)
+        self.part = write(f"{place}/part", written(self.made))
         self.writers = {
-            "create": (["create", self.folder, self.made, "--name", "x", "--piece-length", "32768", "--hybrid"], ["a", "c"]),
+            "create": (create, ["a", "c"]),
+            "part of create": ([*create, "--part", "1/1"], ["a", "c"]),
+            "assemble": (["assemble", self.made, self.part], [self.part]),
             "convert": (["convert", self.record, self.made], [self.record]),
         }
 

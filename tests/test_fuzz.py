@@ -4,7 +4,7 @@ from fuzzing import Fuzz, summary
 from shim import has_c_library_inside
 from support import BTCHECK, folder
 
-CASES = {"torrent": 900, "record": 400, "conversion": 200, "folder": 300, "join": 200}
+CASES = {"torrent": 900, "record": 400, "conversion": 200, "folder": 300, "join": 200, "assembly": 150}
 
 # What the cases have to meet. A torrent's refusals: all but that of one that is too large, which test_refused makes. Its
 # faults: all but out of memory.
@@ -54,6 +54,8 @@ def test_hostile_input():
         assert met["folder"][text], text
     for text in ["yes", "no", "fault: part", "fault: no whole report of a part", "fault: a part of another torrent"]:
         assert met["join"][text], text
+    for text in ["made", "fault: part"]:
+        assert met["assembly"][text], (text, met["assembly"])
     assert met["torrent"]["name:"] > 100 and met["record"]["verified"] > 100 and met["folder"]["yes"] > 20
     for text in ("stored", "sent", "refused H8 Unasked", "refused H6 Mismatch", "fault BadDirection", "fault Truncated"):
         assert met["record"][text] > 5, text

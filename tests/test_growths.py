@@ -337,6 +337,30 @@ def test_create():
                 assert made in ({whole} if done.returncode == 0 else {b"", b"before"}), (called, made)
 
 
+def test_create_in_parts():
+    """The text of a part, and the torrent of all parts, is written whole or not at all."""
+    contents = {"a": TWO, "b/c": b"abc", "b/d/e": FIVE, "f": b""}
+    with shimmed() as (place, shim):
+        for path, content in contents.items():
+            os.makedirs(os.path.dirname(f"{place}/folder/{path}"), exist_ok=True)
+            write(f"{place}/folder/{path}", content)
+        out, cannot = f"{place}/out", {(2, b"", f"fault: cannot read {path}\n".encode()) for path in contents}
+        for flags in ([], ["--hybrid"]):
+            whole, parts = torrent_of_folder(contents, "x", 32768, "--hybrid" in flags), []
+            options = ["--name", "x", "--piece-length", "32768", *flags]
+            for number in (1, 2):
+                arguments, text = ["create", f"{place}/folder", out, *options, "--part", f"{number}/2"], None
+                for called, done in refused_in_turn(shim, f"create, part {number}", *arguments, out=out):
+                    text = text or written(out)
+                    assert outcome(done) in {(0, b"", b""), NO_MEMORY} | cannot, (called, outcome(done))
+                    assert written(out) in ({text} if done.returncode == 0 else {b"", b"before"}), called
+                parts.append(write(f"{place}/part {number}", text))
+            for called, done in refused_in_turn(shim, " ".join(["assemble", *flags]), "assemble", out, *parts, out=out):
+                assert called != "ample" or outcome(done) == (0, b"", b""), outcome(done)
+                assert outcome(done) in {(0, b"", b""), NO_MEMORY}, (called, outcome(done))
+                assert written(out) in ({whole} if done.returncode == 0 else {b"", b"before"}), called
+
+
 def test_convert():
     """Memory is taken for the arguments alone."""
     record = messages.KEEP_ALIVE + messages.piece(0, 0, bytes(16384))
