@@ -40,6 +40,7 @@ def test_the_page_on_tests_counts_hostile_input():
     text = " ".join(contracts.text_of(TOP, "docs", "TESTING.md").split())
     inputs = sum(CASES[kind] for kind in ("torrent", "folder", "record"))
     assert f"{inputs:,} torrents, folders and records, {CASES['conversion']} conversions and {CASES['join']} joins" in text
+    assert f"{CASES['assembly']} torrents of parts" in text
 
 
 def test_the_readme_has_figures_of_the_page_on_speed():

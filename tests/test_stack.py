@@ -67,7 +67,7 @@ def test_torrents_and_folders():
 
 
 def test_checks_of_small_files():
-    """So many that they are judged together, in more than one batch; some are damaged."""
+    """They are judged together, in more than one batch; some are damaged."""
     with folder() as place:
         os.mkdir(f"{place}/all")
         for number in range(150):

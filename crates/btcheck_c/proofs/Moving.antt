@@ -45,7 +45,19 @@ held : IsSend Held.the_row
 held = search (holdings.the_send, declared_send, as_row_send, sendable) depth 30 fits 100000
 
 kind : IsSend Kind.the_row
-kind = search (session_of.the_send, own, paged.the_send, root.the_field_send, check, held, draft.the_send, coming.the_field_send, variants_send, as_row_send, sendable) depth 40 fits 100000
+kind = search (
+  session_of.the_send,
+  own,
+  paged.the_send,
+  root.the_field_send,
+  check,
+  held,
+  draft.the_send,
+  coming.the_field_send,
+  variants_send,
+  as_row_send,
+  sendable,
+) depth 40 fits 100000
 
 pub thing : IsSend Thing.the_row
 thing = search (kind, declared_send, sendable) depth 30 fits 100000
