@@ -39,13 +39,6 @@ unfilled P (Some t) status free p = absurd (none-some t (sym free))
 pub both_none : (P : Kind → Kind → ℕ → Kind → Kind → Type 0) (o o' q : Option Thing) → None ≡ o → o' ≡ None → ThroughBoth P o q 1 o' q
 both_none P o o' q none left = subst (λ w. ThroughBoth P w q 1 o' q) none (refl, (left, refl))
 
--- the first handle holds a thing of another kind, and the other one was not touched
-pub both_other : (P : SessionSeen → Held → ℕ → SessionSeen → Held → Type 0) (o o' q : Option Thing) (t : Thing) → Some t ≡ o → o' ≡ Some t
-    → ((l : Kind) → OnBoth P t.kind l 1 t.kind l) → ThroughBoth (OnBoth P) o q 1 o' q
-both_other P o o' None t is is' other = subst (λ w. ThroughBoth (OnBoth P) w None 1 o' None) is (refl, (is', refl))
-both_other P o o' (Some u) t is is' other =
-    subst (λ w. ThroughBoth (OnBoth P) w (Some u) 1 o' (Some u)) is (t, (u, (is', (refl, other u.kind))))
-
 -- a call on a session, and on holdings of another handle
 pub with_holdings : (P : SessionSeen → Held → ℕ → SessionSeen → Held → Type 0) (S S' : SessionSeen) (q q' : Option Thing) (u lent : Thing) (h h' : Held)
     (status : ℕ) → Some u ≡ q → lent ≡ u → lent.kind ≡ kind.Holdings h → q' ≡ Some (record { kind = kind.Holdings h' }) → P S h status S' h'
