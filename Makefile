@@ -8,7 +8,7 @@
 # make test            runs the built program on real files
 # make test-all        installs the Debian packages that tests use, and runs all tests
 # make bench           measures the commands and what they stand on, compared with the digests alone
-# make lib             proves the C library and builds build/lib/libbtcheck.a and libbtcheck.so.0 (docs/LIBRARY.md)
+# make lib             proves the C library and builds build/lib/libbtcheck.a and libbtcheck.so.1 (docs/LIBRARY.md)
 # make install         puts the program and `btcheck-many`, their manual pages and completions, the documents, the
 #                      examples, the sources of the bindings and the relay `tools/record` below PREFIX (and DESTDIR); and
 #                      the library, if `make lib` made it
@@ -20,7 +20,7 @@
 # make dist            packs that program and the library with all that `make install` puts beside them, and a list of
 #                      SHA-256 digests
 # make deb             packs the same as Debian packages, by dpkg-deb: build/deb/btcheck_VERSION_amd64.deb, and the library
-#                      as libbtcheck0, libbtcheck-dev and python3-btcheck
+#                      as libbtcheck1, libbtcheck-dev and python3-btcheck
 # make clean           removes all that was built, kept proofs too
 
 RT ?= rt

@@ -17,7 +17,7 @@ SPAN, LEAVES, TIMES = 512, 1 << 20, 8
 # Processor time: answers at most so often as long as copying them, seeding as the bare digests.
 ANSWERS_MARK, SEED_MARKS = 3, [("bare digests", 1.05)]
 SEED_MEMORY_MARK = 1024  # KiB beside the session
-PAGE_PLACES, PAGE_KIB = 512, 16.5
+CELL_BYTES = 33
 
 
 def write(path, parts):
@@ -71,9 +71,10 @@ def seeding(folder, words):
     }, words.rounds)
     print("seeding", end=": ")
     report(found, words.size, "seeding")
-    pages = sum(max(1, (1 << tree.height - layer) // PAGE_PLACES) for layer in range(tree.height + 1))
-    beside = found["seeding"].peak - found["root"].peak - pages * PAGE_KIB
-    print(f"beside the session, of {pages} pages, seeding takes {beside} KiB more than root")
+    # of a page with fewer places only the cells of these are written, and take memory
+    cells = sum(1 << tree.height - layer for layer in range(tree.height + 1))
+    beside = found["seeding"].peak - found["root"].peak - cells * CELL_BYTES // 1024
+    print(f"beside the session, of {cells} cells, seeding takes {beside} KiB more than root")
     missed = [f"seeding takes more than {SEED_MEMORY_MARK} KiB beside the session"] if beside > SEED_MEMORY_MARK else []
     return missed + missed_marks(found, "seeding", SEED_MARKS)
 

@@ -1,100 +1,112 @@
-"""With --before PROGRAM: this program beside another build of it, on what is hashed several blocks or pairs at once, and
-on what is not. `root` and `check` of one file; `replay` of 2,048 answers of 512 leaves over 2^20 leaves, and of
-messages of one block each; `show` of a piece layer of 250,000 hashes; and `check` of many files of one block, and of
-1 to 40 KiB. A row has the median of the rounds' ratios of processor time, and the most that it may be for the kind of
-processor."""
+"""With --before PROGRAM: this program beside another build of it. The marks are for one that hashes neither the version 1
+pieces of a hybrid nor small files side by side, and writes each line by itself: beside it, what is hashed side by side
+takes less, and nothing takes more. `root`, `check` and parts of one file; `check` and `create` of a hybrid with
+pieces of 64 KiB, 1 MiB and 16 MiB; 20,000 files of 1 to 40 KiB, version 2 and hybrid; messages and answers; and plain
+reports of a million keep-alives, and of 20,000 files that are shown or missing. A row has the median of the rounds'
+ratios of processor time, and the most that it may be for the kind of processor."""
 import os
 import random
 import shutil
+import sys
 
-from measuring import BLOCK, BTCHECK, CPU, measured, need_program, write_random
-from part_check import many_files, support
+from measuring import BLOCK, BTCHECK, CPU, TOP, measure, measured, need_program, write_random
 from part_replay import SPAN, Tree, answer, messages, torrent_over, write
-from part_show import write_layer
 
+sys.path.insert(0, os.path.join(TOP, "tests"))
+import torrents  # noqa: E402
+
+KEEP_ALIVES = 1_000_000
+SMALL = 20_000
 # The most that each may take of the other's processor time, for x86-64-v2 and for x86-64-v3.
-MARKS = {
-    "`root`": (0.62, 0.27),
-    "`check`, version 2": (0.62, 0.27),
-    "2,048 answers of 512 leaves": (0.65, 0.4),
-    "a layer of 250,000 hashes": (0.5, 0.5),
-    "messages of one block": (1.02, 1.02),
-    # These two marks are guesses until they are measured.
-    "files of one block": (0.8, 0.45),
-    "files of 1 to 40 KiB": (0.8, 0.45),
-}
+SAME, REPORT, HYBRID, FILES, HYBRID_FILES = (1.02, 1.02), (1.05, 1.05), (0.75, 0.5), (0.75, 0.4), (0.6, 0.35)
 
 
-def mark(name):
-    return MARKS[name][CPU != "x86-64-v2"]
+class Beside:
+    """Two programs, and the marks that were missed so far, in words."""
+
+    def __init__(self, words):
+        self.before, self.rounds, self.missed = os.path.abspath(words.before), words.rounds, []
+
+    def row(self, name, mark, *arguments, status=0):
+        """Measures one command of both programs, which ends with this status, and prints its row."""
+        commands = {"now": [BTCHECK, *arguments], "before": [self.before, *arguments]}
+        if status:
+            commands = {kind: ["sh", "-c", f"{' '.join(command)}; test $? -eq {status}"] for kind, command in commands.items()}
+        found = measured(commands, self.rounds)
+        ratio, most = found["now"].takes(found["before"]), mark[CPU != "x86-64-v2"]
+        print(f"| {name} | {found['now'].processor:.2f} | {found['before'].processor:.2f} | {ratio:.3f} | {most} |", flush=True)
+        if ratio > most:
+            self.missed.append(f"{name}: {ratio:.3f}, not {most}")
 
 
-def compare(words, name, *arguments):
-    """Measures one command of both programs. Gives the mark that it misses, in words."""
-    before = os.path.abspath(words.before)
-    found = measured({"now": [BTCHECK, *arguments], "before": [before, *arguments]}, words.rounds)
-    ratio = found["now"].takes(found["before"])
-    print(f"| {name} | {found['now'].processor:.2f} | {found['before'].processor:.2f} | {ratio:.3f} | {mark(name)} |",
-          flush=True)
-    return [f"{name}: {ratio:.3f}, not {mark(name)}"] if ratio > mark(name) else []
+def create(files, out, piece_length, hybrid=False):
+    return ["create", files, out, "--name", "x", "--piece-length", str(piece_length), *["--hybrid"] * hybrid]
 
 
-def one_file(folder, words):
-    files, torrent = os.path.join(folder, "files"), os.path.join(folder, "torrent")
+def one_file(folder, words, beside):
+    files, torrent, out = (os.path.join(folder, name) for name in ("files", "torrent", "out"))
     path = os.path.join(files, "content")
     os.makedirs(files)
     write_random(path, words.size)
-    support.made_by_libtorrent([{"content": path, "torrent": torrent, "piece_length": 1 << 20, "hybrid": False}])
-    missed = compare(words, "`root`", "root", path) + compare(words, "`check`, version 2", "check", torrent, files)
+    measure([BTCHECK, *create(files, torrent, 1 << 20)])
+    beside.row("`root`", SAME, "root", path)
+    beside.row("`check`, version 2", SAME, "check", torrent, files)
+    beside.row("`check --part 2/4`, version 2", SAME, "check", torrent, files, "--part", "2/4")
+    beside.row("`create`, version 2", SAME, *create(files, out, 1 << 20))
+    for piece_length, name in ((1 << 16, "64 KiB"), (1 << 20, "1 MiB"), (1 << 24, "16 MiB")):
+        measure([BTCHECK, *create(files, torrent, piece_length, True)])
+        beside.row(f"`check`, hybrid, pieces of {name}", HYBRID, "check", torrent, files)
+        beside.row(f"`create`, hybrid, pieces of {name}", HYBRID, *create(files, out, piece_length, True))
+        if piece_length == 1 << 20:
+            beside.row("`check --part 2/4`, hybrid", HYBRID, "check", torrent, files, "--part", "2/4")
     shutil.rmtree(files)
-    return missed
 
 
-def answers(folder, words):
-    leaves = 1 << 20
-    tree = Tree([os.urandom(32) for _ in range(leaves)])
-    torrent = write(os.path.join(folder, "torrent"), [torrent_over(tree, leaves * BLOCK)])
-    record = write(os.path.join(folder, "record"), (answer(tree, index, SPAN) for index in range(0, leaves, SPAN)))
-    return compare(words, "2,048 answers of 512 leaves", "replay", torrent, record, "--info-only")
-
-
-def layer(folder, words):
-    torrent = os.path.join(folder, "torrent")
-    write_layer(torrent, os.path.join(folder, "pairs"), 250_000)
-    return compare(words, "a layer of 250,000 hashes", "show", torrent)
-
-
-def single_blocks(folder, words):
-    count = 16384
-    blocks = [os.urandom(BLOCK) for _ in range(count)]
-    tree = Tree.of_blocks(blocks)
-    torrent = write(os.path.join(folder, "torrent"), [torrent_over(tree, count * BLOCK)])
-    pieces = (messages.piece(0, at * BLOCK, block) for at, block in enumerate(blocks))
-    record = write(os.path.join(folder, "record"), [*(answer(tree, at, SPAN) for at in range(0, count, SPAN)), *pieces])
-    return compare(words, "messages of one block", "replay", torrent, record, "--info-only")
-
-
-def small_files(folder, words):
-    files, torrent = os.path.join(folder, "files"), os.path.join(folder, "torrent")
-    os.makedirs(files)
-    content, piece_length, _ = many_files(files, words)
-    support.made_by_libtorrent([{"content": content, "torrent": torrent, "piece_length": piece_length, "hybrid": False}])
-    missed = compare(words, "files of one block", "check", torrent, files)
-    shutil.rmtree(files)
-    return missed + mixed_files(folder, words)
-
-
-def mixed_files(folder, words):
-    """20,000 files of 1 to 40 KiB."""
-    files, torrent = os.path.join(folder, "files"), os.path.join(folder, "torrent")
+def small_files(folder, beside):
+    """Files of 1 to 40 KiB."""
+    files, torrent, out = (os.path.join(folder, name) for name in ("files", "torrent", "out"))
     os.makedirs(files)
     draw = random.Random(1)
-    for number in range(20_000):
+    for number in range(SMALL):
         write(os.path.join(files, f"{number:05}"), [draw.randbytes(draw.randrange(1 << 10, 40 << 10))])
-    support.made_by_libtorrent([{"content": files, "torrent": torrent, "piece_length": 1 << 16, "hybrid": False}])
-    missed = compare(words, "files of 1 to 40 KiB", "check", torrent, files)
+    for hybrid, mark, name in ((False, FILES, "version 2"), (True, HYBRID_FILES, "hybrid")):
+        measure([BTCHECK, *create(files, torrent, 1 << 16, hybrid)])
+        beside.row(f"`check`, {SMALL} small files, {name}", mark, "check", torrent, files)
+        beside.row(f"`create`, {SMALL} small files, {name}", mark, *create(files, out, 1 << 16, hybrid))
+        beside.row(f"`check --part 1/1`, {SMALL} small files, {name}", SAME, "check", torrent, files, "--part", "1/1")
+    measure([BTCHECK, *create(files, torrent, 1 << 16)])
+    record = write(os.path.join(folder, "record"), [b""])
+    beside.row(f"`replay --seed`, {SMALL} small files", FILES, "replay", torrent, record, "--seed", files)
     shutil.rmtree(files)
-    return missed
+
+
+def messages_of_peers(folder, beside):
+    """2,048 answers of 512 leaves over 2^20 leaves, and messages of one block each."""
+    torrent, record = os.path.join(folder, "torrent"), os.path.join(folder, "record")
+    leaves, count = 1 << 20, 16384
+    tree = Tree([os.urandom(32) for _ in range(leaves)])
+    write(torrent, [torrent_over(tree, leaves * BLOCK)])
+    write(record, (answer(tree, index, SPAN) for index in range(0, leaves, SPAN)))
+    beside.row("2,048 answers of 512 leaves", SAME, "replay", torrent, record, "--info-only")
+    blocks = [os.urandom(BLOCK) for _ in range(count)]
+    tree = Tree.of_blocks(blocks)
+    write(torrent, [torrent_over(tree, count * BLOCK)])
+    pieces = (messages.piece(0, at * BLOCK, block) for at, block in enumerate(blocks))
+    write(record, [*(answer(tree, at, SPAN) for at in range(0, count, SPAN)), *pieces])
+    beside.row("messages of one block", SAME, "replay", torrent, record, "--info-only")
+
+
+def reports(folder, beside):
+    """Lines that take most of the time: none needs a digest."""
+    torrent, record, empty = (os.path.join(folder, name) for name in ("torrent", "record", "empty"))
+    os.makedirs(empty)
+    contents = [(f"file {number:06}", b"%d" % number) for number in range(SMALL)]
+    write(torrent, [torrents.torrent_of(contents[:1], 1 << 14)])
+    write(record, [bytes(4 * KEEP_ALIVES)])
+    beside.row(f"`replay`, {KEEP_ALIVES} keep-alives", REPORT, "replay", torrent, record)
+    write(torrent, [torrents.torrent_of(contents, 1 << 14)])
+    beside.row(f"`show`, {SMALL} files", REPORT, "show", torrent)
+    beside.row(f"`check`, {SMALL} missing files", REPORT, "check", torrent, empty, status=1)
 
 
 def run(folder, words):
@@ -103,6 +115,11 @@ def run(folder, words):
         print("before: left out, since --before names no program")
         return []
     need_program()
+    beside = Beside(words)
     print(f"{words.size} MiB, {words.rounds} interleaved rounds, {CPU}")
     print("| What | now, processor s | before | median of the ratios | most |\n|---|---|---|---|---|")
-    return [line for part in (one_file, answers, layer, single_blocks, small_files) for line in part(folder, words)]
+    one_file(folder, words, beside)
+    small_files(folder, beside)
+    messages_of_peers(folder, beside)
+    reports(folder, beside)
+    return beside.missed

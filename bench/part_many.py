@@ -1,7 +1,9 @@
 """Many torrents at once, as docs/MANY.md has it: `xargs` with four checks at a time beside one at a time, on folders of
 one file each; the time of the clock counts. Then `btcheck-many archive` once over small torrents, five times as many as
---files says: what each costs beside its digests."""
+--files says: what each costs beside its digests, on one machine by `xargs`, and a twentieth of them by GNU parallel, as
+with more machines."""
 import os
+import shutil
 import statistics
 import sys
 
@@ -35,8 +37,8 @@ def by_xargs(folder, jobs):
     return ["sh", "-c", f"echo {numbers} | tr ' ' '\\n' | xargs -P {jobs} -I {{}} {one}"]
 
 
-def archive(folder, count):
-    """Checks as many small torrents, each with a file of its own, and prints what one costs."""
+def make_small(folder, count):
+    """As many small torrents, each with a file of its own."""
     for kind in ("torrents", "content"):
         os.makedirs(f"{folder}/{kind}")
     for number in range(count):
@@ -46,13 +48,34 @@ def archive(folder, count):
             out.write(content)
         with open(f"{folder}/torrents/{number}.torrent", "wb") as out:
             out.write(torrents.torrent_of([("file", content)], PIECE_LENGTH))
+
+
+def archive(folder, count, *options):
+    """Checks these torrents, and prints what one costs."""
     path = f"PATH={os.path.dirname(BTCHECK)}:{os.environ['PATH']}"
-    wall, processor, _ = measure(["env", path, f"{TOP}/tools/btcheck-many", "archive", f"{folder}/torrents", f"{folder}/content",
-                                  f"{folder}/reports"])
-    reports = sum(name.endswith(".report") for name in os.listdir(f"{folder}/reports"))
-    print(f"btcheck-many archive of {count} small torrents: {wall:.0f} s on {os.cpu_count()} processors, {1000 * processor / count:.1f} ms "
-          f"of processor time a torrent")
-    return [] if reports == count else [f"{count - reports} of {count} small torrents have no report"]
+    wall, processor, _ = measure(["env", path, f"{TOP}/tools/btcheck-many", "archive", *options, f"{folder}/torrents",
+                                  f"{folder}/content", f"{folder}/reports"])
+    with os.scandir(f"{folder}/reports") as found:
+        sizes = [entry.stat().st_size for entry in found if entry.name.endswith(".report")]
+    by = "GNU parallel" if options else "xargs"
+    print(f"btcheck-many archive of {count} small torrents by {by}: {wall:.0f} s on {os.cpu_count()} processors, "
+          f"{1000 * processor / count:.1f} ms of processor time a torrent; reports of {sum(sizes)} bytes")
+    return [] if len(sizes) == count else [f"{count - len(sizes)} of {count} small torrents have no report"]
+
+
+def archives(folder, count):
+    """Checks small torrents by each of the two."""
+    missed = []
+    for some, options in [(max(1, count // 20), ["--hosts", f"{folder}/hosts"]), (count, [])]:
+        if options and not shutil.which("parallel"):
+            continue
+        place = f"{folder}/{some}"
+        make_small(place, some)
+        with open(f"{folder}/hosts", "w", encoding="ascii") as out:
+            out.write(f"{os.cpu_count()}/:\n")
+        missed += archive(place, some, *options)
+        shutil.rmtree(place)
+    return missed
 
 
 def run(folder, words):
@@ -65,7 +88,7 @@ def run(folder, words):
     pairs = zip(found["one at a time"].walls, found["four at once"].walls)
     ratio = statistics.median(one / four for one, four in pairs)
     print(f"four at once are {ratio:.2f} x as fast on {os.cpu_count()} cores")
-    missed = archive(folder, TORRENTS * words.files)
+    missed = archives(folder, TORRENTS * words.files)
     if (os.cpu_count() or 1) >= 4 and ratio < MARK:
         missed.append(f"four checks at once are not {MARK} x as fast as one at a time")
     return missed

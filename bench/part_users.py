@@ -1,8 +1,11 @@
-"""What users know, and `btcheck` beside it, on one file of random bytes: `root`, `check` of version 2 and of a hybrid, and
-`create` of a hybrid, beside `sha256sum`, `openssl dgst -sha256`, and libtorrent with one thread and with four (it needs
-Debian's python3-libtorrent; libtorrent makes torrents with one thread). With --before another build of the program goes
-through the same rounds. Prints the rows of docs/SPEED.md: the medians of all rounds."""
+"""What users know, and `btcheck` beside it: `root`, `check` and `create` of one file of random bytes, and `check` and
+`create` of 20,000 files of 1 to 40 KiB, as torrents of version 2 and as hybrids, beside `sha256sum`, `openssl dgst
+-sha256`, and libtorrent with one thread and with four (it needs Debian's python3-libtorrent; libtorrent makes torrents
+with one thread). With --before another build of the program goes through the same rounds. Prints the rows of
+docs/SPEED.md: the medians of all rounds. OpenSSL, and with it libtorrent, uses instructions for SHA where the processor has
+them; with OPENSSL_ia32cap=:~0x20000000 in the environment it does without."""
 import os
+import random
 import shutil
 import statistics
 import sys
@@ -12,7 +15,7 @@ from measuring import BTCHECK, TOP, measured, need_program, write_random
 sys.path.insert(0, os.path.join(TOP, "tests"))
 import support  # noqa: E402
 
-PIECE_LENGTH = 1 << 20
+PIECE_LENGTH, SMALL_PIECE_LENGTH = 1 << 20, 1 << 16
 NAMES = ["before", "sha256sum", "openssl", "libtorrent, 1 thread", "libtorrent, 4 threads"]
 
 
@@ -34,21 +37,21 @@ def on_file(words, path):
     return commands
 
 
-def checks(words, torrent, files):
-    """The commands that check the folder. The torrent is that of its one file, so libtorrent looks for that right below
-    the folder too."""
+def checks(words, torrent, files, saved):
+    """The commands that check the folder of files; `saved` is the folder below which libtorrent looks for the torrent's name."""
     python, script = support.python_with_libtorrent(), os.path.join(TOP, "bench", "recheck.py")
     commands = by_programs(words, "check", torrent, files)
     for name, threads in [("libtorrent, 1 thread", 1), ("libtorrent, 4 threads", 4)]:
-        commands[name] = [python, script, torrent, files, str(threads)]
+        commands[name] = [python, script, torrent, saved, str(threads)]
     return commands
 
 
-def creates(words, folder, files):
+def creates(words, folder, files, piece_length, hybrid):
     python, script = support.python_with_libtorrent(), os.path.join(TOP, "bench", "remake.py")
     out, theirs = os.path.join(folder, "out"), os.path.join(folder, "theirs")
-    commands = by_programs(words, "create", files, out, "--name", "files", "--piece-length", str(PIECE_LENGTH), "--hybrid")
-    commands["libtorrent, 1 thread"] = [python, script, files, theirs, str(PIECE_LENGTH), "hybrid"]
+    commands = by_programs(words, "create", files, out, "--name", "files", "--piece-length", str(piece_length),
+                           *["--hybrid"] * hybrid)
+    commands["libtorrent, 1 thread"] = [python, script, files, theirs, str(piece_length), "hybrid" if hybrid else "v2"]
     return commands
 
 
@@ -65,16 +68,35 @@ def row(name, found):
     print(f"| {name} | " + " | ".join(figures(found, other) for other in ["btcheck", *NAMES]) + " |")
 
 
-def has_sha_instructions():
-    """Whether the processor has instructions for SHA, which OpenSSL uses, and with it libtorrent; btcheck does not."""
+def uses_sha_instructions():
+    """Whether OpenSSL, and with it libtorrent, uses the processor's instructions for SHA; btcheck does not. It uses none
+    where the variable OPENSSL_ia32cap takes them away."""
     with open("/proc/cpuinfo", encoding="ascii", errors="replace") as file:
-        return any("sha_ni" in line.split() for line in file if line.startswith("flags"))
+        has = any("sha_ni" in line.split() for line in file if line.startswith("flags"))
+    return has and "OPENSSL_ia32cap" not in os.environ
+
+
+def rows(words, folder, content, files, saved, piece_length, of=""):
+    """The rows of checking and making a torrent of this content."""
+    torrent = os.path.join(folder, "torrent")
+    for hybrid, kind in [(False, "version 2"), (True, "hybrid")]:
+        support.made_by_libtorrent([{"content": content, "torrent": torrent, "piece_length": piece_length, "hybrid": hybrid}])
+        row(f"`check`{of}, {kind}", measured(checks(words, torrent, files, saved), words.rounds))
+        row(f"`create`{of}, {kind}", measured(creates(words, folder, files, piece_length, hybrid), words.rounds))
+
+
+def write_small(files, count):
+    """Files of 1 to 40 KiB."""
+    draw = random.Random(1)
+    for number in range(count):
+        with open(os.path.join(files, f"{number:05}"), "wb") as out:
+            out.write(draw.randbytes(draw.randrange(1 << 10, 40 << 10)))
 
 
 def run(folder, words):
     """Measures all rows. No mark is missed here: the other parts have them."""
     need_program()
-    print(f"this processor has {'instructions' if has_sha_instructions() else 'no instructions'} for SHA")
+    print(f"OpenSSL, and with it libtorrent, uses {'the' if uses_sha_instructions() else 'no'} instructions for SHA")
     files = os.path.join(folder, "files")
     os.makedirs(files)
     path = os.path.join(files, "content")
@@ -84,9 +106,8 @@ def run(folder, words):
     print("| What | btcheck | " + " | ".join(NAMES) + " |")
     print("|---" * (2 + len(NAMES)) + "|")
     row("`root`", measured(on_file(words, path), words.rounds))
-    for hybrid, name in [(False, "`check`, version 2"), (True, "`check`, hybrid")]:
-        torrent = os.path.join(folder, "torrent")
-        support.made_by_libtorrent([{"content": path, "torrent": torrent, "piece_length": PIECE_LENGTH, "hybrid": hybrid}])
-        row(name, measured(checks(words, torrent, files), words.rounds))
-    row("`create`, hybrid", measured(creates(words, folder, files), words.rounds))
+    rows(words, folder, path, files, files, PIECE_LENGTH)
+    os.remove(path)
+    write_small(files, words.files)
+    rows(words, folder, files, files, folder, SMALL_PIECE_LENGTH, f" of {words.files} small files")
     return []

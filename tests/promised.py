@@ -87,7 +87,7 @@ def listed():
 
 
 def is_released():
-    return not re.search(r'^version = "0\.', text_of("bindings/rust/Cargo.toml"), re.M)
+    return not re.search(r'^version = "(?:0\.[0-9.]+|1\.0\.0-dev)"', text_of("bindings/rust/Cargo.toml"), re.M)
 
 
 def main(arguments):

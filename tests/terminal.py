@@ -4,6 +4,7 @@ import pty
 import signal
 import subprocess
 import threading
+import time
 import tty
 import unicodedata
 
@@ -65,6 +66,32 @@ def cut_off(count, *arguments):
     status = program.wait(timeout=60)
     os.close(ours)
     return status, text.decode()
+
+
+def arrivals(*arguments, begin):
+    """Runs the program with a terminal for standard output, and calls `begin` as it starts. Gives the status, and each line
+    that it printed, with the seconds from the start until it came."""
+    ours, theirs = pty.openpty()
+    tty.setraw(theirs)
+    program = subprocess.Popen([BTCHECK, *arguments], stdin=subprocess.DEVNULL, stdout=theirs, stderr=subprocess.DEVNULL)
+    start = time.monotonic()
+    begin()
+    os.close(theirs)
+    text, lines = b"", []
+    while part := read_or_end(ours):
+        text += part
+        whole = text.count(b"\n")
+        lines += [(line.decode(), time.monotonic() - start) for line in text.split(b"\n")[len(lines):whole]]
+    os.close(ours)
+    return program.wait(timeout=60), lines
+
+
+def read_or_end(terminal):
+    """What a terminal was sent, or nothing once no program has it any more."""
+    try:
+        return os.read(terminal, 65536)
+    except OSError:
+        return b""
 
 
 def on_terminal(*arguments, columns=None, term="xterm", both=False, output_alone=False, feed=None, **environment):

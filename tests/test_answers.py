@@ -2,6 +2,7 @@
 import os
 import random
 
+import torrents
 from messages import KEEP_ALIVE, hashes, piece, reject, request
 from poison import Peers
 from support import expect, folder, run, write, written
@@ -68,6 +69,32 @@ def test_poison_between_requests():
                 assert out == b"".join(peers.answers)
                 compared += len(peers.answers)
     print(f"{compared} answers compared")
+
+
+def test_leaves_in_any_order():
+    """Pairs of leaves of two pages of a layer: after each one what is known is answered, and nothing else."""
+    chance = random.Random(512)
+    tree = Tree([chance.randbytes(32) for _ in range(1024)])
+    entry = {"file": {"": {"length": 1024 * BLOCK, "pieces root": tree.root}}}
+    content = torrents.torrent(torrents.info(entry, 1024 * BLOCK), {})
+    forwards = list(range(0, 1024, 2))
+    with folder() as place:
+        for order in (forwards, forwards[::-1], chance.sample(forwards, len(forwards))):
+            record, report, wanted, known = [], [], [], set()
+            for index in order:
+                record.append(hashes(tree.root, 0, index, 2, 9, given=tree.hashes(0, index, 2, 9)))
+                report.append("stored")
+                known.update((index, index + 1))
+                for start, length in ((index, 2), (index ^ 2, 2), (index // 64 * 64, 64), (index // 512 * 512, 512)):
+                    ask = (tree.root, 0, start, length, 0)
+                    there = known.issuperset(range(start, start + length))
+                    record.append(request(*ask))
+                    report.append("answered" if there else "rejected")
+                    wanted.append(hashes(*ask, given=tree.hashes(0, start, length, 0)) if there else reject(*ask))
+            done, out = answered(place, content, b"".join(record), "--info-only")
+            said = [line.split()[1] for line in done.stdout.decode().splitlines()[:-1]]
+            assert (done.returncode, said) == (0, report), done
+            assert out == b"".join(wanted)
 
 
 def test_the_file_of_the_answers():

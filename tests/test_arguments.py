@@ -184,7 +184,8 @@ def test_the_version_is_that_of_the_documents():
     with open(f"{TOP}/README.md", encoding="utf-8") as file:
         logic = re.search(r"\blogic ([0-9a-f]{16})\b", file.read())[1]
     with open(f"{TOP}/CHANGELOG.md", encoding="utf-8") as file:
-        version = re.search(r"^## ([0-9.]+)", file.read(), re.M)[1]
+        number, coming = re.search(r"^## ([0-9.]+)(, not yet released)?", file.read(), re.M).groups()
+    version = f"{number}~dev" if coming else number
     for flag in ["--version", "-V"]:
         expect(run(flag), 0, f"btcheck {version} (proved with logic {logic})\n", b"")
     if shutil.which("rt"):

@@ -377,6 +377,30 @@ def test_wrong_version_1_pieces():
             expect(run("check", path, content), 1, f"good a\ngood c\nv1 bad {piece}\nno\n")
 
 
+def test_wrong_version_1_pieces_that_are_long():
+    """Pieces of 8 MiB wait for each other to be hashed side by side: five of them and a last one that is short."""
+    piece, count = 1 << 23, 5
+    content = random.Random(6).randbytes(count * piece + 77)
+    cuts = b"".join(sha1(content[at:at + piece]) for at in range(0, len(content), piece))
+    files = [torrents.entry(len(content), "a")]
+    good = torrents.torrent(torrents.info({"a": torrents.file(content)}, piece, files=files, pieces=cuts),
+                            {torrents.root_of(content): torrents.layer(content, piece // torrents.BLOCK)})
+    with folder() as place:
+        make_folder(f"{place}/content", {"a": content})
+        for wrong in [None, *range(count + 1)]:
+            found = bytearray(good)
+            if wrong is not None:
+                found[good.index(cuts) + 20 * wrong] ^= 1
+            path = write(f"{place}/t", found)
+            verdicts = ("v1 good", "yes") if wrong is None else (f"v1 bad {wrong}", "no")
+            expect(run("check", path, f"{place}/content"), int(wrong is not None), "good a\n%s\n%s\n" % verdicts)
+        with open(f"{place}/content/a", "r+b") as file:
+            file.seek(3 * piece + 5)
+            file.write(bytes([content[3 * piece + 5] ^ 1]))
+        write(f"{place}/t", good)
+        expect(run("check", f"{place}/t", f"{place}/content"), 1, "bad 3 a\nv1 bad 3\nno\n")
+
+
 def test_names():
     with folder() as place:
         for path in [["\n\x01\x7f\\ \x1f"], ["-"], ["--help"], [" "], ["%s"], ["é", "\\", "..."], ["x" * 255], ["é" * 127],

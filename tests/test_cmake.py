@@ -26,7 +26,7 @@ def test_find_package_where_lib_is_a_link():
         shutil.copy(f"{TOP}/bindings/c/btcheck.h", f"{place}/usr/include")
         shutil.copy(f"{TOP}/bindings/c/btcheck-config.cmake", files)
         of_version = written(f"{TOP}/bindings/c/btcheck-config-version.cmake.in")
-        write(f"{files}/btcheck-config-version.cmake", of_version.replace(b"@VERSION@", b"0.2.0"))
+        write(f"{files}/btcheck-config-version.cmake", of_version.replace(b"@VERSION@", b"1.0.0"))
         os.mkdir(f"{place}/first")
         write(f"{place}/first/CMakeLists.txt", PROJECT)
         write(f"{place}/first/first.c", b"#include <btcheck.h>\nint main(void) { return 0; }\n")
@@ -34,4 +34,4 @@ def test_find_package_where_lib_is_a_link():
             built = f"{place}/built{below.count('/')}"
             subprocess.run(["cmake", "-S", f"{place}/first", "-B", built, f"-Dbtcheck_DIR={below}/cmake/btcheck"],
                            check=True, stdout=subprocess.DEVNULL)
-            assert written(f"{built}/told").decode() == f"0.2.0 {os.path.realpath(place)}/usr/include", written(f"{built}/told")
+            assert written(f"{built}/told").decode() == f"1.0.0 {os.path.realpath(place)}/usr/include", written(f"{built}/told")

@@ -198,6 +198,47 @@ def test_random_folders():
             assert contents_of(content) == contents
 
 
+def test_small_files_of_hybrids():
+    """Files that are hashed together: of each length around a block of SHA-1 and a piece, more than a window has, empty
+    ones between, and a large one among them."""
+    draw = random.Random(16)
+    for piece_length in (16384, 65536):
+        around = [length + more for length in (piece_length, 2 * piece_length) for more in (-64, -63, -1, 0, 1, 55, 56, 64)]
+        lengths = [*range(0, 130), 0, *around, 131071, 131072, 131073, 0, 700000, 1, *draw.choices(range(40000), k=100)]
+        contents = {f"{number:03}": draw.randbytes(length) for number, length in enumerate(lengths)}
+        with folder() as place:
+            content = make_folder(f"{place}/content", contents)
+            expect_created(content, f"{place}/out", contents, "x", piece_length, True)
+            checked = run("check", f"{place}/out", content)
+            assert checked.returncode == 0 and checked.stdout.endswith(b"\nyes\n"), checked
+
+
+def test_large_pieces_of_hybrids():
+    """Pieces of which eight are not read at once: files of fewer than four whole pieces, which are hashed alone, and one of
+    twelve, so that digests are known before its end."""
+    draw, piece = random.Random(17), 1 << 23
+    contents = {f"{length}": draw.randbytes(length) for length in (2 * piece - 1, 3 * piece, 12 * piece + 77)}
+    with folder() as place:
+        content = make_folder(f"{place}/content", contents)
+        expect_created(content, f"{place}/out", contents, "x", piece, True)
+        checked = run("check", f"{place}/out", content)
+        assert checked.returncode == 0 and checked.stdout.endswith(b"\nyes\n"), checked
+
+
+def test_large_pieces_of_files_that_change():
+    """How long a file is, is asked before it is read, where its pieces are large: one that is shorter or longer then is
+    hashed as it is, from fewer than four pieces to more or the other way."""
+    draw, piece = random.Random(18), 1 << 23
+    with shimmed() as (place, shim):
+        for before, after in [(5 * piece, 1), (5 * piece, piece + 5), (6 * piece + 9, 3 * piece), (5, 5 * piece), (piece, 6 * piece + 1)]:
+            content = draw.randbytes(min(before, after))
+            folder_of = make_folder(f"{place}/content", {"a": content + bytes(before - len(content))})
+            arguments = ["create", folder_of, f"{place}/out", "--name", "x", "--piece-length", str(piece), "--hybrid"]
+            expect(shim.run("read", 1, *arguments, change=(f"{folder_of}/a", after))[1], 0)
+            contents = {"a": content + bytes(after - len(content))}
+            assert written(f"{place}/out") == torrent_of(contents, "x", piece, True), (before, after)
+
+
 def test_folders_a_hundred_deep():
     with folder() as place:
         deep = {"/".join(["d"] * depth + [f"f{depth}"]): b"%d" % depth for depth in range(101)}

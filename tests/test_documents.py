@@ -101,12 +101,13 @@ def promised(text, count):
 
 def test_the_promises_are_those_of_the_contracts():
     """Each label that PROVED.md or README.md names is one of those calls, and PROVED.md names each public function with
-    a contract."""
+    a contract: as a call, or outside of its tables."""
     labels = {}
     for _, _, name, found in contracts.promises():
         labels.setdefault(name, set()).update(found)
     proved, readme = contracts.text_of(TOP, "docs", "PROVED.md"), contracts.text_of(TOP, "README.md").split("What is proved")[1]
-    named = set(contracts.WORD.findall(" ".join(re.findall(r"`([^`]*)`", proved))))
+    places = [line.split("|")[1] if line.startswith("|") else line for line in proved.split("\n")]
+    named = set(contracts.WORD.findall(" ".join(name for place in places for name in re.findall(r"`([^`]*)`", place))))
     wrong = [(calls, label) for calls, found in [*promised(proved, 3), *promised(readme, 4)] for label in found
              if not any(label in labels.get(call, ()) for call in calls)]
     assert not wrong, wrong
@@ -242,3 +243,28 @@ def test_each_crate_stands_above_those_it_depends_on():
     assert sorted(rows) == sorted(depends), (set(rows) ^ set(depends), [name for name in rows if rows.count(name) > 1])
     wrong = [(name, below) for number, name in enumerate(rows) for below in depends[name] if below in rows[:number]]
     assert not wrong, wrong
+
+
+def test_there_is_one_number():
+    """The release that is built, or that is to come, has one number wherever it stands, each in its own spelling."""
+    number, coming = re.search(r"^## ([0-9.]+)(, not yet released)?", contracts.text_of(TOP, "CHANGELOG.md"), re.M).groups()
+    major, *_ = parts = number.split(".")
+    spelled = {"~dev": f"{number}~dev", "-dev": f"{number}-dev", ".dev0": f"{number}.dev0"} if coming else {}
+    tilde, dash, dot = (spelled.get(mark, number) for mark in ("~dev", "-dev", ".dev0"))
+    places = {
+        "crates/command_line/src/help.rt": f'"{tilde} (proved with logic ',
+        "crates/btcheck_c/src/version.rt": f"version_number {' '.join(parts)} ",
+        "packaging/changelog": f"btcheck ({tilde}-1) ",
+        "packaging/control-library": f"Package: libbtcheck{major}\n",
+        "library.mk": f"-soname,libbtcheck.so.{major} ",
+        "bindings/c/btcheck.h": f"#define BTCHECK_VERSION 0x{''.join(f'{int(part):02x}' for part in parts)}\n",
+        "bindings/rust/Cargo.toml": f'version = "{dash}"\n',
+        "bindings/rust/btcheck/Cargo.toml": f'version = "{dash}" }}\n',
+        "bindings/rust/btcheck/tests/examples.rs": f"btcheck::version(), [{', '.join(parts)}]",
+        "bindings/go/README.md": f"require btcheck v{dash}\n",
+        "bindings/go/btcheck_test.go": f"Version(), [3]byte{{{', '.join(parts)}}}",
+        "bindings/python/pyproject.toml": f'version = "{dot}"\n',
+        "bindings/python/btcheck/__init__.py": f'__version__ = "{dot}"\n',
+    }
+    for place, text in places.items():
+        assert text in contracts.text_of(TOP, *place.split("/")), (place, text)

@@ -361,6 +361,31 @@ def test_create_in_parts():
                 assert written(out) in ({whole} if done.returncode == 0 else {b"", b"before"}), called
 
 
+def test_long_pieces():
+    """The store in which long pieces of a hybrid wait may be refused, and the buffer too: then torrent and report are as with
+    them."""
+    content = b"a" * 5 + bytes(5 << 23)
+    with shimmed() as (place, shim):
+        os.mkdir(f"{place}/folder")
+        write(f"{place}/folder/a", content)
+        out, whole = f"{place}/out", torrent_of_folder({"a": content}, "x", 1 << 23, True)
+        arguments = ["create", f"{place}/folder", out, "--name", "x", "--piece-length", "8M", "--hybrid"]
+        without = 0
+        for called, done in refused_in_turn(shim, "create of long pieces", *arguments, out=out):
+            assert outcome(done) in {(0, b"", b""), NO_MEMORY, (2, b"", b"fault: cannot read a\n")}, (called, outcome(done))
+            assert written(out) in ({whole} if done.returncode == 0 else {b"", b"before"}), called
+            without += done.returncode == 0
+        assert without > 2, without
+        ample, without = None, 0
+        path = write(f"{place}/torrent", whole)
+        for called, done in refused_in_turn(shim, "check of long pieces", "check", path, f"{place}/folder"):
+            ample = ample or done.stdout
+            if outcome(done) != NO_MEMORY:
+                assert is_report_with_unreadable(done.stdout, ample, 1), (called, outcome(done))
+            without += done.stdout == ample
+        assert without > 2, without
+
+
 def test_convert():
     """Memory is taken for the arguments alone."""
     record = messages.KEEP_ALIVE + messages.piece(0, 0, bytes(16384))

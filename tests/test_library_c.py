@@ -39,7 +39,7 @@ def made():
     if shutil.which("rt"):
         there = ["-o", archive] if os.path.exists(f"{TOP}/{archive}") else []
         subprocess.run(["make", "-s", *there, "lib"], cwd=TOP, check=True, stdout=subprocess.DEVNULL)
-    elif not os.path.exists(f"{LIB}/libbtcheck.so.0"):
+    elif not os.path.exists(f"{LIB}/libbtcheck.so.1"):
         raise LeftOut("there is no kit here, and make lib was not run")
 
 
@@ -80,12 +80,12 @@ def test_the_header_compiles_everywhere():
 def test_symbols():
     """All objects define exactly the calls of the header, and need the C library alone."""
     made()
-    for path, flags in ((f"{place}/{name}", flags) for place in (LIB, V3) for name, flags in (("libbtcheck.so.0", ["-D"]), ("libbtcheck.a", ["-g"]))):
+    for path, flags in ((f"{place}/{name}", flags) for place in (LIB, V3) for name, flags in (("libbtcheck.so.1", ["-D"]), ("libbtcheck.a", ["-g"]))):
         printed = subprocess.run(["nm", *flags, "--defined-only", path], check=True, stdout=subprocess.PIPE, text=True).stdout
         names = set(re.findall(r"^[0-9a-f]+ \w (\w+)$", printed, re.M))
         assert names == declared(), (path, names ^ declared())
     for place in (LIB, V3):
-        printed = subprocess.run(["readelf", "-d", f"{place}/libbtcheck.so.0"], check=True, stdout=subprocess.PIPE, text=True).stdout
+        printed = subprocess.run(["readelf", "-d", f"{place}/libbtcheck.so.1"], check=True, stdout=subprocess.PIPE, text=True).stdout
         assert re.findall(r"NEEDED.*\[(.*)\]", printed) == ["libc.so.6"] and "SONAME" in printed, printed
 
 
@@ -109,14 +109,14 @@ def test_an_object_for_each_processor():
     if run(program=f"{TOP}/tools/processor", text=True).stdout.strip() != "x86-64-v3":
         raise LeftOut("this processor has not all of x86-64-v3")
     with folder() as place:
-        program = compiled(place, "handles", library=f"{LIB}/libbtcheck.so.0")
+        program = compiled(place, "handles", library=f"{LIB}/libbtcheck.so.1")
         for mask, wanted in (("x86-64-v3", V3), ("x86-64-v2", LIB)):
             done = run("--library-path", LIB, "--glibc-hwcaps-mask", mask, program, *arguments(place)["handles"],
                        program="/lib64/ld-linux-x86-64.so.2", env={**os.environ, "LD_DEBUG": "libs"}, text=True)
             assert (done.returncode, done.stdout) == (0, ""), done
-            assert f"calling init: {wanted}/libbtcheck.so.0" in done.stderr, done.stderr
+            assert f"calling init: {wanted}/libbtcheck.so.1" in done.stderr, done.stderr
     told = [run("-c", ROOTS, program=sys.executable, check=True,
-                env={**os.environ, "PYTHONPATH": f"{TOP}/bindings/python", "LIBBTCHECK": f"{it}/libbtcheck.so.0"}).stdout for it in (LIB, V3)]
+                env={**os.environ, "PYTHONPATH": f"{TOP}/bindings/python", "LIBBTCHECK": f"{it}/libbtcheck.so.1"}).stdout for it in (LIB, V3)]
     source, wanted = random.Random(9), []
     for size in (1, 16383, 16384, 16385, 131072, 300000, 1048577):
         wanted += 4 * [f"{size} {root_of(source.randbytes(size)).hex()}"]
@@ -183,7 +183,7 @@ def test_handles_under_valgrind():
 def module():
     """The Python module over the library."""
     made()
-    os.environ["LIBBTCHECK"] = f"{LIB}/libbtcheck.so.0"
+    os.environ["LIBBTCHECK"] = f"{LIB}/libbtcheck.so.1"
     sys.path.insert(0, f"{TOP}/bindings/python")
     import btcheck
     return btcheck
@@ -476,7 +476,7 @@ def test_frames():
 
 def test_version():
     """The header, the module and the program have one version."""
-    version = run("--version").stdout.decode().split()[1]
+    version = run("--version").stdout.decode().split()[1].removesuffix("~dev")
     with open(HEADER, encoding="utf-8") as file:
         number = int(re.search(r"#define BTCHECK_VERSION (\w+)", file.read())[1], 16)
     assert module().version() == version == f"{number >> 16}.{number >> 8 & 255}.{number & 255}", version

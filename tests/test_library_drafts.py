@@ -48,6 +48,13 @@ def test_random_drafts():
                 assert written(f"{place}/out") == wanted
 
 
+def test_long_pieces():
+    """Pieces of a hybrid of which eight are not hashed at once: of files whose length is not known before their end."""
+    draw, piece = random.Random(59), 1 << 23
+    contents = {str(length): draw.randbytes(length) for length in (2 * piece, 3 * piece - 1, 12 * piece + 77)}
+    assert drafted(contents, "x", piece, True, draw) == torrent_of(contents, "x", piece, True)
+
+
 def test_one_file_under_the_name():
     """A single file with the torrent's name is `length` in a hybrid, and no list."""
     made = drafted({"x": CONTENT}, "x", BLOCK, True, random.Random(1))

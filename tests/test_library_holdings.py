@@ -28,7 +28,7 @@ class Opened:
 
     def __init__(self, content):
         made()
-        self.library, self.content, self.handle = ctypes.CDLL(f"{LIB}/libbtcheck.so.0"), content, Handle()
+        self.library, self.content, self.handle = ctypes.CDLL(f"{LIB}/libbtcheck.so.1"), content, Handle()
         assert self.call("session_open", content, ctypes.c_size_t(len(content)), True) == 0
 
     def __enter__(self):

@@ -142,6 +142,26 @@ def names_of_refusals():
     return [(family, name, numbers.get((family, case))) for (family, case), name in names.items()]
 
 
+def words_of_the_table():
+    """The words that the table of lines prints as they are: of most lines the kind, of some a title, and words between."""
+    text = text_of(f"{TOP}/crates/lines/specs/Table.antt")
+    heads = r'\b(?:word|plain_row|path_row|frame_row|titled_row \(codes "[^"]+"\)|hash_row \(codes "[^"]+"\))'
+    return set(re.findall(heads + r'\s+\(codes "([^"]+)"\)', text))
+
+
+def test_the_table_of_lines_is_explained():
+    """Each of its words is in a line of the manual, and each word of these lines in it, apart from faults."""
+    words = words_of_the_table()
+    assert len(words) >= 40, words
+    said = [fixed(line) for section, lines in PRINTED.items() if section.startswith("Output") for line in lines]
+    for word in words - {"-"}:
+        assert any(re.search(rf"(^| ){re.escape(word)}( |$)", line) for line in said), word
+    names = {name for _, name, _ in names_of_refusals()} | {"AlreadyForm2", "Truncated", "Read", "BadDirection"}
+    printed = {part for word in words for part in word.split()} | names
+    for part in {part for line in said for part in line.split() if re.search("[a-z]", part)}:
+        assert part in printed, part
+
+
 def texts_of_the_definitions():
     """The texts of which the definitions put printed lines together."""
     for crate in ["printing", "torrent_lines", "folders", "seeding", "replays", "commands"]:

@@ -400,7 +400,7 @@ def test_parts_do_no_more_than_a_check():
     fourth of them, however long the pieces are; so on four cores that share nothing they take little more than a fourth of
     the time. `bench/run parts` measures what this machine makes of it. Each part of a hybrid has eight pieces at least: the
     SHA-1 of fewer takes as long as that of eight; and each fills a buffer for eight pieces with zeros, an instruction a byte
-    at most."""
+    at most, which is much of so small a file."""
     need("valgrind")
     with folder() as place:
         os.mkdir(f"{place}/files")
@@ -420,4 +420,5 @@ def test_parts_do_no_more_than_a_check():
                 f"pieces of {length} bytes {kind}: instructions of four parts {sum(parts) / whole:.3f} of one check's,"
                 f" of the largest {max(parts) / whole:.3f}, of an opening {opening / whole:.3f}"
             )
-            assert sum(parts) <= min(1.05 * whole, 1.02 * whole + 3 * once) and max(parts) <= 0.3 * whole, (whole, once, parts)
+            most = 1.02 * whole + 3 * once
+            assert sum(parts) <= (most if kind else min(1.05 * whole, most)) and max(parts) <= 0.3 * whole, (whole, once, parts)

@@ -48,3 +48,16 @@ def test_bytes_are_read_in_order():
             expect_in_order(place, sizes, "check", torrent, f"{place}/content")
             kind = ["--piece-length", "65536", *(["--hybrid"] if hybrid else [])]
             expect_in_order(place, sizes, "create", f"{place}/content", f"{place}/made", "--name", "made", *kind)
+
+
+def test_long_pieces_are_read_in_order():
+    """Pieces of 8 MiB, which wait for each other to be hashed side by side."""
+    need("strace")
+    sizes = {"a": 5 * (1 << 23) + 77}
+    with folder() as place:
+        place = os.path.realpath(place)
+        os.makedirs(f"{place}/content")
+        write(f"{place}/content/a", random.Random(9).randbytes(sizes["a"]))
+        kind = ["--name", "content", "--piece-length", "8M", "--hybrid"]
+        expect_in_order(place, sizes, "create", f"{place}/content", f"{place}/torrent", *kind)
+        expect_in_order(place, sizes, "check", f"{place}/torrent", f"{place}/content")

@@ -133,6 +133,6 @@ int main() {
 
 def test_the_code_in_python():
     made()
-    env = {**os.environ, "PYTHONPATH": f"{TOP}/bindings/python", "LIBBTCHECK": f"{LIB}/libbtcheck.so.0"}
+    env = {**os.environ, "PYTHONPATH": f"{TOP}/bindings/python", "LIBBTCHECK": f"{LIB}/libbtcheck.so.1"}
     done = subprocess.run([sys.executable, "-c", code("python")], cwd=f"{TOP}/examples", env=env, stdout=subprocess.PIPE, text=True)
     assert (done.returncode, done.stdout) == (0, "True\n"), done

@@ -211,3 +211,49 @@ def test_a_whole_exchange():
         rounds, promised = exchange(sorted(files), piece_length, number)
         assert rounds <= promised, (rounds, promised)
         print(f"{rounds} rounds of at most {promised}")
+
+
+def damaged(files, chance):
+    """Contents for a folder, where some files are missing or have other bytes, fewer or more."""
+    held = {}
+    for name, content in files:
+        kind = chance.choice(["good", "good", "good", "missing", "other", "short", "long"])
+        if kind == "missing":
+            continue
+        if kind == "other" and content:
+            at = chance.randrange(len(content))
+            content = content[:at] + bytes([content[at] ^ 1]) + content[at + 1:]
+        held[name] = content[:-1] if kind == "short" else content + b"x" if kind == "long" else content
+    return held
+
+
+def all_leaves(model):
+    """For each tree an ask for its leaves, and whether a session answers it."""
+    for root, tree in model.trees.items():
+        if tree["whole"].height > 0:
+            ask = (root, 0, 0, min(512, 2 ** tree["whole"].height), 0)
+            yield request(*ask), "rejected" if model.hashes(*ask) is None else "answered"
+
+
+def test_files_that_are_read_together():
+    """Small files are read together, up to 64 of them and 64 blocks: a session knows the leaves of each that is right,
+    whatever stands beside it, and the lines come in order."""
+    chance = random.Random(77)
+    sizes = [0, 1, BLOCK - 1, BLOCK, BLOCK + 1, 3 * BLOCK, 8 * BLOCK - 1, 8 * BLOCK, 8 * BLOCK + 1, 20 * BLOCK]
+    equal = [chance.randbytes(size) for size in (5, 2 * BLOCK, 8 * BLOCK)]
+    for count, of in [(2, sizes), (65, sizes[:3]), (130, [1, 2, 3]), (200, sizes), (40, [8 * BLOCK]), (90, [0])]:
+        files = [(f"f{at:03}", chance.choice(equal) if chance.random() < 0.2 else chance.randbytes(chance.choice(of)))
+                 for at in range(count)]
+        held = damaged(files, chance)
+        with folder() as place:
+            world = World(place, files, 32768)
+            for name, content in files:
+                os.remove(f"{world.folder}/{name}")
+                if name in held:
+                    write(f"{world.folder}/{name}", held[name])
+            model = Session(files, 32768, False)
+            seeded = model.seed(held)
+            asks = list(all_leaves(model))
+            verdicts = [f"{number} {verdict}" for number, (_, verdict) in enumerate(asks, 1)]
+            done = world.replay(b"".join(ask for ask, _ in asks), "--info-only", "--seed", world.folder)
+            expect(done, 0, lines(*seeded, *verdicts, "end"))

@@ -93,7 +93,7 @@ def each_seed(*given, **options):
 
 
 def paths():
-    return {**os.environ, "LD_LIBRARY_PATH": LIB, "PYTHONPATH": f"{TOP}/bindings/python", "LIBBTCHECK": f"{LIB}/libbtcheck.so.0"}
+    return {**os.environ, "LD_LIBRARY_PATH": LIB, "PYTHONPATH": f"{TOP}/bindings/python", "LIBBTCHECK": f"{LIB}/libbtcheck.so.1"}
 
 
 def test_client_in_c():
@@ -141,7 +141,7 @@ def test_go_client():
         quietly(["make", "-s", "install-lib", f"DESTDIR={place}", "PREFIX=/usr"], cwd=TOP)
         os.makedirs(f"{place}/client")
         shutil.copy(f"{SOURCES}/client.go", f"{place}/client/main.go")
-        write(f"{place}/client/go.mod", f"module client\n\ngo 1.19\n\nrequire btcheck v0.2.0\nreplace btcheck => {TOP}/bindings/go\n".encode())
+        write(f"{place}/client/go.mod", f"module client\n\ngo 1.19\n\nrequire btcheck v0.0.0\nreplace btcheck => {TOP}/bindings/go\n".encode())
         env = {**os.environ, "PKG_CONFIG_PATH": f"{place}/usr/lib/pkgconfig", "LD_LIBRARY_PATH": f"{place}/usr/lib",
                "GOCACHE": f"{place}/go", "GOPROXY": "off", "CGO_ENABLED": "1"}
         quietly(["go", "build", "-o", f"{place}/run"], cwd=f"{place}/client", env=env)

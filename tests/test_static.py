@@ -161,7 +161,7 @@ def test_both():
 def test_no_path_in_programs():
     """What is built does not say where: two builds in two folders give the same bytes."""
     seen = 0
-    for path in [BTCHECK, STATIC, BOTH, *(f"{TOP}/{it}" for it in OBJECTS), f"{TOP}/build/lib/libbtcheck.so.0"]:
+    for path in [BTCHECK, STATIC, BOTH, *(f"{TOP}/{it}" for it in OBJECTS), f"{TOP}/build/lib/libbtcheck.so.1"]:
         if os.path.exists(path):
             content, seen = written(path), seen + 1
             for place in (TOP, os.path.expanduser("~") + "/", os.path.dirname(os.path.realpath(shutil.which("rt") or "/rt/rt"))):
@@ -196,7 +196,7 @@ def test_dist():
     make("dist")
     [archive] = glob.glob(f"{TOP}/build/dist/*.tar.gz")
     name = os.path.basename(archive).removesuffix(".tar.gz")
-    assert re.fullmatch(r"btcheck-[0-9.]+-linux-x86_64", name), name
+    assert re.fullmatch(r"btcheck-[0-9.]+(~dev)?-linux-x86_64", name), name
     first = written(archive)
     with folder() as place:
         subprocess.run(["tar", "-xzf", archive], cwd=place, check=True)
@@ -207,7 +207,7 @@ def test_dist():
         assert there - listed == {"./SHA256SUMS"} and listed < there, there ^ listed
         documents = {f"./share/doc/btcheck/{file}" for file in DOCUMENTS}
         assert documents | {"./bin/btcheck", "./bin/btcheck-many", "./share/man/man1/btcheck.1"} < listed, listed
-        objects = {f"./lib/{it}libbtcheck.{kind}" for it in ("", "glibc-hwcaps/x86-64-v3/") for kind in ("a", "so.0")}
+        objects = {f"./lib/{it}libbtcheck.{kind}" for it in ("", "glibc-hwcaps/x86-64-v3/") for kind in ("a", "so.1")}
         assert objects | {"./include/btcheck.h", "./lib/pkgconfig/btcheck.pc"} < listed, listed
         for env in ({}, LESSER):
             expect(run("root", "/dev/null", program=f"{below}/bin/btcheck", env=env), 0, "0 -\n")
@@ -268,7 +268,7 @@ def see_program(place):
 
 def see_library(place):
     """A client is built with the one package and run with the other."""
-    for package in ("libbtcheck0", "libbtcheck-dev"):
+    for package in ("libbtcheck1", "libbtcheck-dev"):
         subprocess.run(["dpkg-deb", "-x", path_of(package), f"{place}/library"], check=True)
     below = f"{place}/library/usr"
     packed = f"{below}/share/doc/libbtcheck-dev"
@@ -290,7 +290,7 @@ def see_module(place):
     subprocess.run(["dpkg-deb", "-x", path_of("python3-btcheck"), f"{place}/library"], check=True)
     below = f"{place}/library/usr/lib"
     paths = {**os.environ, "PYTHONPATH": f"{below}/python3/dist-packages", "LD_LIBRARY_PATH": below}
-    done = run("-c", "import btcheck; print(btcheck.__file__, btcheck.version() == btcheck.__version__)", program=sys.executable, env=paths)
+    done = run("-c", "import btcheck; print(btcheck.__file__, btcheck.__version__.removesuffix('.dev0') == btcheck.version())", program=sys.executable, env=paths)
     expect(done, 0, f"{below}/python3/dist-packages/btcheck/__init__.py True\n")
 
 

@@ -5,8 +5,8 @@ get_filename_component(_btcheck_prefix "${_btcheck_folder}/../../.." ABSOLUTE)
 if(NOT TARGET btcheck::btcheck)
   add_library(btcheck::btcheck SHARED IMPORTED)
   set_target_properties(btcheck::btcheck PROPERTIES
-    IMPORTED_LOCATION "${_btcheck_prefix}/lib/libbtcheck.so.0"
-    IMPORTED_SONAME "libbtcheck.so.0"
+    IMPORTED_LOCATION "${_btcheck_prefix}/lib/libbtcheck.so.1"
+    IMPORTED_SONAME "libbtcheck.so.1"
     INTERFACE_INCLUDE_DIRECTORIES "${_btcheck_prefix}/include")
 endif()
 unset(_btcheck_folder)

@@ -157,8 +157,8 @@ static inline const char *btcheck_status_text(btcheck_status status) {
   }
 }
 
-/* The version of this header: a byte for each of its three numbers, here 0.2.0. */
-#define BTCHECK_VERSION 0x000200
+/* The version of this header: a byte for each of its three numbers, here 1.0.0. */
+#define BTCHECK_VERSION 0x010000
 
 /* The version of the library that is linked, in the same form. */
 uint32_t btcheck_version(void);
@@ -578,9 +578,11 @@ btcheck_status btcheck_draft_new(btcheck_draft *draft, const uint8_t *name, size
 btcheck_status btcheck_draft_file_new(btcheck_draft_file *file, btcheck_draft *draft);
 
 /* The file's next bytes, in parts of any size; an empty file needs no push. Parts of 128 KiB are hashed
-   faster than shorter ones, and for a hybrid those of eight pieces. BTCHECK_TOO_LONG: past 2^46, or a
-   draft refused the file, so that it has all its bytes; nothing was taken. BTCHECK_NO_MEMORY: the
-   file's digests have no room; each later call on it returns this too, so free it. */
+   faster than shorter ones, and for a hybrid those of eight pieces of at most 4 MiB. For pieces of 8 and
+   16 MiB a file takes 29 and 58 MiB when its third piece begins; if these are refused it does without.
+   BTCHECK_TOO_LONG: past 2^46, or a draft refused the file, so that it has all its bytes; nothing was
+   taken. BTCHECK_NO_MEMORY: the file's digests have no room; each later call on it returns this too,
+   so free it. */
 btcheck_status btcheck_draft_file_push(btcheck_draft_file *file, const uint8_t *bytes, size_t len);
 
 /* Adds the file to the draft under a path, as btcheck_session_path writes one: its components, joined

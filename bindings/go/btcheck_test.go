@@ -186,7 +186,7 @@ func TestFiles(t *testing.T) {
 	see(t, []any{files[1].Path, files[1].FirstPiece}, []any{"c", 1})
 	v2, v1, err := session.InfoHashes()
 	see(t, fmt.Sprintf("%x %x %v", v2[:2], v1[:2], err), "4d9a f1a7 <nil>")
-	see(t, Version(), [3]byte{0, 2, 0})
+	see(t, Version(), [3]byte{1, 0, 0})
 	trees, err := session.TreeCount()
 	see(t, []any{trees, err}, []any{2, nil})
 	_, err = session.File(2)

@@ -4,7 +4,7 @@
         file, block = session.take_block(index, begin, data)   # raises if the bytes are not that block
 
 A call that is refused raises an exception that is named after the status in btcheck.h, and has changed nothing. What
-has not the type that a call takes is refused with a TypeError. The library is found as `libbtcheck.so.0` by the
+has not the type that a call takes is refused with a TypeError. The library is found as `libbtcheck.so.1` by the
 system, or where the variable LIBBTCHECK says. One object may be used by one thread at a time.
 """
 from . import _library
@@ -24,7 +24,7 @@ from ._values import (
     Answered, Ask, Blocks, File, HeldBlocks, KeepAlive, Rejected, RejectNoted, Run, Settled, Skipped, Stored, Verdict,
 )
 
-__version__ = "0.2.0"
+__version__ = "1.0.0.dev0"
 
 __all__ = [
     "BLOCK", "HASH", "version", "create", "Root", "Session", "Holdings", "Check", "Pieces", "Draft", "DraftFile", "Ask",

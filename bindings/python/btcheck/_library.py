@@ -75,7 +75,7 @@ class VerdictInfo(c.Structure):
         return without_more.get(self.kind, Skipped(self.id))
 
 
-library = c.CDLL(os.environ.get("LIBBTCHECK", "libbtcheck.so.0"))
+library = c.CDLL(os.environ.get("LIBBTCHECK", "libbtcheck.so.1"))
 u32, u64, size = c.c_uint32, c.c_uint64, c.c_size_t
 _handle, _to_u64, _to_ask = c.POINTER(Handle), c.POINTER(c.c_uint64), c.POINTER(Asked)
 library.btcheck_version.argtypes, library.btcheck_version.restype = [], u32

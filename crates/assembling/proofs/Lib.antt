@@ -10,6 +10,10 @@ pub mod Passing
 pub mod Reading
 pub mod Refusing
 pub mod Results
+pub mod RowTexts
 pub mod Saying
 pub mod Shares
+pub mod TrueFronts
+pub mod Unsaid
+pub mod WholeTexts
 pub mod Widths

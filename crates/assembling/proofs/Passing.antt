@@ -3,7 +3,6 @@ use Rattle.std.proofs.Common.{◌≡◌, ◌≢◌, ◌⊎◌, inl, inr, ℕ, ze
 use Rattle.std.proofs.Common.{drop, set, slice_get, Some, get_or}
 use Rattle.std.proofs.Common.{refl, sym, ap, ◌∙◌, subst, arith}
 use Rattle.std.proofs.lemmas.Bool.{cases_lt}
-use Rattle.std.proofs.lemmas.List.{nil_from_length}
 use Rattle.std.proofs.lemmas.Option.{none-some, same_Some, slice_get-get_or, slice_get_within}
 use Rattle.part_drafts.specs.Parts.{IsRow, KnownPaths}
 use Rattle.part_drafts.specs.Rows.{row_nodes, row_text}
@@ -17,9 +16,10 @@ use Rattle.assembling.specs.Said.{EachSays, FitsCount, RowSaid, Says, said_text}
 use Rattle.assembling.specs.Taking.{IsHeld, IsTaken}
 use Rattle.assembling.specs.declared.rows.FileRows.{FileRows}
 use Rattle.assembling.proofs.Joining.{Upto, legal_some, upto_all, upto_more, upto_none}
+use Rattle.assembling.proofs.RowTexts.{fits, no_row, some_row}
 use Rattle.assembling.proofs.Saying.{SaysFirst, content_size, hashed_is, says_first}
-use Rattle.assembling.proofs.Shares.{at_end, at_most, at_start, at_up, pieces_between}
-use Rattle.assembling.proofs.Widths.{row_fits, row_said, row_written}
+use Rattle.assembling.proofs.Shares.{at_end, at_most, at_start, at_up, piece_begins}
+use Rattle.assembling.proofs.Widths.{row_said, row_written}
 
 -- ---- a list in which one item is another
 
@@ -80,32 +80,9 @@ module _ (under : KnownPaths) (p : ℕ) (hybrid : Bool) (total parts before : �
     row_size : length row ≡ min (to * p) (length c) - from * p
     row_size = is.size ∙ ap (λ n. min (to * p) n - from * p) (own ∙ sym size)
 
-    pub no_row : to - from ≡ 0 → row ≡ []
-    no_row none =
-        let le : to ≤ from = omega (arith, none) in
-        let under_it : to * p ≤ from * p = grind (arith, le) in
-        nil_from_length row (omega (arith, row_size, under_it))
-
     module _ (more : from < to) where
-      between : (from * p < min (to * p) (length c)) × (pieces_of p (min (to * p) (length c) - from * p) ≡ to - from)
-      between =
-          let gap : to ≡ from + 1 + (to - from - 1) = omega (arith, more) in
-          let b = pieces_between p (length c) from (to - from - 1) some (omega (arith, gap, most)) in (
-            subst (λ l. from * p < min (l * p) (length c)) (sym gap) b.0,
-            ap (λ l. pieces_of p (min (l * p) (length c) - from * p)) gap ∙ b.1 ∙ omega (arith, more),
-          )
-
       begins : from * p < length c
-      begins = omega (arith, between.0)
-
-      pub some_row : 0 < length row
-      some_row = omega (arith, between.0, row_size)
-
-      few : f.bytes ≤ p → length row ≤ p
-      few le = omega (arith, row_size, le, size)
-
-      pub fits : FitsCount (to - from) (row_said p f.bytes row)
-      fits = row_fits p f.bytes (to - from) row legal some_row few (ap (pieces_of p) row_size ∙ between.1)
+      begins = piece_begins p (length c) from some (omega (arith, more, most))
 
       place : row ≡ take (length row) (drop (from * p) c)
       place = is.agrees c known ∙ ap (λ k. take (length row) (drop k c)) (omega (arith, begins, size, short))
@@ -165,8 +142,8 @@ module _ (under : KnownPaths) (p : ℕ) (hybrid : Bool) (total parts before : �
       → IsUnderWay under p hybrid total parts before f fs c (part + 1) rows' texts'
   part_read nothing said = elim (cases_lt start end) [
     | inl more ↦
-        let fitting = fits under p hybrid total parts before f fs c part legal low known short size first.row first.is more in
-        let any = some_row under p hybrid total parts before f fs c part legal low known short size first.row first.is more in
+        let fitting = fits under p total parts before f part legal first.row first.is more in
+        let any = some_row under p total parts before f part legal first.row first.is more in
         let own = said (row_said p f.bytes first.row) first.rest (omega (arith, more)) fitting
         (first.text_is ∙ ap (λ l. l ++ first.rest) (row_written p f.bytes hybrid first.row any)) in
         let upto = more_said under p hybrid total parts before f fs c part legal low known short size first.row first.is more rows.nodes.items
@@ -179,7 +156,7 @@ module _ (under : KnownPaths) (p : ℕ) (hybrid : Bool) (total parts before : �
         let none : end - start ≡ 0 = omega (arith, less) in
         let same : end ≡ start = omega (arith, less, at_up p total parts before f.bytes (legal_some p legal) part low) in
         let own = nothing none in
-        let bare : first.row ≡ [] = no_row under p hybrid total parts before f fs c part legal low known short size first.row first.is none in
+        let bare : first.row ≡ [] = no_row under p total parts before f part legal first.row first.is none in
         let text_is : text ≡ first.rest = first.text_is ∙ ap (λ r. row_text p hybrid f.bytes r ++ first.rest) bare in
         passed (own.0 ∙ text_is)
         (subst (λ k. Upto p hybrid c k rows'.nodes.items rows'.v1.cuts.items rows'.v1.padded) (sym same)

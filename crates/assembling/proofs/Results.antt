@@ -3,28 +3,34 @@ use Rattle.std.proofs.Common.{◌≡◌, ℕ, ◌<◌, Bor, List, [], get_or, le
 use Rattle.std.specs.Global.{Global, Vec}
 use Rattle.std.specs.Prelude.{IfErr, IfOk, Result, Ok, Err, String}
 use Rattle.std.proofs.lemmas.List.{length-map}
-use Rattle.std.proofs.lemmas.Option.{slice_get-get_or, slice_get_within}
+use Rattle.std.proofs.lemmas.Option.{same_Some, slice_get-get_or, slice_get_within}
 use Rattle.drafts.specs.Outline.{Outline}
 use Rattle.filetree.specs.declared.refusal.Refusal.TheVariants as refusals
-use Rattle.part_drafts.specs.Parts.{AreRows, KnownPaths, rows_text}
+use Rattle.part_drafts.specs.Parts.{KnownPaths}
 use Rattle.part_texts.specs.Divisions.{total_of}
 use Rattle.part_texts.specs.Listings.{Inventory, inventory}
-use Rattle.part_texts.specs.Readings.{CanBeListed}
+use Rattle.part_texts.specs.Readings.{CanBeListed, ReadsUnlessNoMemory}
 use Rattle.part_texts.specs.Texts.{listing_text}
 use Rattle.part_texts.specs.declared.listing.Listing.{Listing}
+use Rattle.part_texts.specs.declared.reading.ListingFault.{ListingFault}
+use Rattle.part_texts.specs.declared.reading.ListingFault.TheVariants as listing
 use Rattle.pieces.specs.Pieces.{IsPieceLength}
 use Rattle.assembling.specs.Added.{IsDraftOf}
 use Rattle.assembling.specs.Adding.{AddsAll, AreNoWrite, IsFrontFault, IsLateFault, IsRowsFault}
-use Rattle.assembling.specs.Assembly.{AreTrueParts, Assembles, IsTruePart}
-use Rattle.assembling.specs.Fronts.{AreAllParts, Front, IsFront, IsOfListing}
+use Rattle.assembling.specs.Assembly.{AreTrueParts, Assembles}
+use Rattle.assembling.specs.Fronts.{Front, IsFront, IsOfListing}
 use Rattle.assembling.specs.Heads.{ArePartsOf}
-use Rattle.assembling.specs.Outcome.{IsAssembled}
-use Rattle.assembling.specs.Reasons.{HasReason}
-use Rattle.assembling.specs.Said.{EachSays}
+use Rattle.assembling.specs.Outcome.{AreWhole, BlamesNoText, IsAssembled, TakesTexts}
+use Rattle.assembling.specs.Reasons.{HasReason, IsNoPartAt}
+use Rattle.assembling.specs.Said.{EachSays, Says}
+use Rattle.assembling.specs.Sizes.{AreOfSize, rows_size}
+use Rattle.assembling.specs.Unsaid.{AreLong, NamesUnsaid, behind, unread_as}
 use Rattle.assembling.specs.declared.fault.AssembleFault.{AssembleFault}
 use Rattle.assembling.specs.declared.fault.AssembleFault.TheVariants as fault
 use Rattle.assembling.specs.declared.numbers.Parts.{Parts}
 use Rattle.assembling.proofs.OneFront.{one_front}
+use Rattle.assembling.proofs.TrueFronts.{IsRead, front_from, front_says, true_front, unlisted, unsaid_text}
+use Rattle.assembling.proofs.WholeTexts.{blames_no_text}
 
 -- ---- what is true of all texts
 
@@ -40,18 +46,6 @@ first_listing texts p l are of =
     let one = one_front of.first g of.front (are.all.are.each 0 of.first g of.there at) of.begins in
     sym own.1 ∙ one.2 ∙ of.of
 
--- what a part's text begins with
-abbrev front_from : (under : KnownPaths) (l : Inventory) (text : List ℕ) → IsTruePart under l text → Front
-front_from under l text t = record {
-  part = t.part;
-  parts = t.parts;
-  listing = listing_text l;
-  rows = rows_text l.piece_length l.hybrid l.files t.is.rows;
-}
-
-true_front : (under : KnownPaths) (l : Inventory) (text : List ℕ) (t : IsTruePart under l text) → IsFront text (front_from under l text t)
-true_front under l text t = record { there = t.there; small = t.small; short = t.short; is = t.is.text_is }
-
 pub true_listing : (under : KnownPaths) (l : Inventory) (texts : List (List ℕ)) (p : Parts) → ArePartsOf texts p → AreTrueParts under l texts
     → IsOfListing (listing_text l) texts
 true_listing under l texts p are each =
@@ -64,21 +58,70 @@ true_listing under l texts p are each =
 
 -- each part says what is true of all files
 pub each_says : (under : KnownPaths) (l : Inventory) (texts : List (List ℕ)) (p : Parts) → ArePartsOf texts p → AreTrueParts under l texts
-    → EachSays under l.piece_length l.hybrid (total_of l.files) (length (map (λ (x : Bor (List ℕ)). x.now) p.rows.items)) 0 l.files
-    (map (λ (x : Bor (List ℕ)). x.now) p.rows.items)
+    → EachSays under l.piece_length l.hybrid (total_of l.files) (length (behind p)) 0 l.files (behind p)
 each_says under l texts p are each = λ part rest at.
     let b = are.each part rest at in
-    let t = each b.place b.text b.there in
-    let one = one_front b.text _ (front_from under l b.text t) b.front (true_front under l b.text t) in
-    let count = length-map p.rows.items (λ (x : Bor (List ℕ)). x.now) in
+    let says = front_says under l b.text _ b.front (each b.place b.text b.there) in
+    subst (λ n. Says under l.piece_length l.hybrid (total_of l.files) n part 0 l.files rest)
+    (sym (length-map p.rows.items (λ (x : Bor (List ℕ)). x.now))) says.1
+
+-- each text is as long as its part is to be, if what stands behind its front is
+pub each_long : (l : Inventory) (texts : List (List ℕ)) (p : Parts) → ArePartsOf texts p → p.listing.now ≡ listing_text l
+    → AreLong l.piece_length l.hybrid (total_of l.files) (length p.rows.items) l.files (behind p) → AreOfSize l texts
+each_long l texts p are same long = λ i text at.
+    let all = are.all in
+    let low : i < length all.fronts = omega (arith, slice_get_within texts i text at, all.are.count) in
+    let g : Front = get_or all.fronts i (empty_front) in
+    let there : slice_get all.fronts i ≡ Some g = slice_get-get_or all.fronts i empty_front low in
+    let is = all.are.each i text g at there in
+    let own = all.of i g there in
+    let behind_it : g.part < length (behind p) = omega (arith, is.there, own.0, length-map p.rows.items (λ (x : Bor (List ℕ)). x.now)) in
+    let rest : List ℕ = get_or (behind p) g.part [] in
+    let rest_at = slice_get-get_or (behind p) g.part [] behind_it in
+    let b = are.each g.part rest rest_at in
+    let h : Front = get_or all.fronts b.place g in
+    let h_at : slice_get all.fronts b.place ≡ Some h =
+    slice_get-get_or all.fronts b.place g (omega (arith, slice_get_within texts b.place b.text b.there, all.are.count)) in
+    let one = one_front b.text _ h b.front (all.are.each b.place b.text h b.there h_at) in
+    let place : i ≡ b.place = all.are.apart i b.place g h there h_at one.0 in
+    let text_is : b.text ≡ text = same_Some b.text text (sym b.there ∙ ap (slice_get texts) (sym place) ∙ at) in
+    let mine = one_front text g _ is (subst (λ (t : List ℕ). IsFront t (record {
+      part = g.part;
+      parts = length p.rows.items;
+      listing = p.listing.now;
+      rows = rest;
+    })) text_is b.front) in
     record {
-      rows = t.is.rows;
-      are = subst (λ n. AreRows under l.piece_length (total_of l.files) n part 0 l.files t.is.rows) (sym (count ∙ one.1))
-          (subst (λ k. AreRows under l.piece_length (total_of l.files) t.parts k 0 l.files t.is.rows) (sym one.0) t.is.are);
-      text_is = one.3;
+      front = g;
+      begins = is;
+      of = own.1 ∙ same;
+      size = ap length mine.3 ∙ long g.part rest rest_at
+          ∙ ap (λ n. rows_size l.piece_length l.hybrid (total_of l.files) n g.part 0 l.files) (sym own.0);
     }
+  where
+    empty_front : Front
+    empty_front = record { part = 0; parts = 0; listing = []; rows = [] }
 
 -- ---- what is answered
+
+-- true texts are none that are no part's
+true_text : (texts : List (List ℕ)) (l : Inventory) (under : KnownPaths) (place : ℕ) → CanBeListed l → AreTrueParts under l texts → IsNoPartAt texts place → ⊥
+true_text texts l under place listed each none = none.2 l under listed (each place none.0 none.1)
+
+takes : (texts : List (List ℕ)) (l : Inventory) (under : KnownPaths) → CanBeListed l → AreTrueParts under l texts → (e : AssembleFault) → HasReason texts e
+    → TakesTexts e
+takes texts l under listed each (fault.NoPart place) why = true_text texts l under place listed each why.0
+takes texts l under listed each (fault.OtherFolder number) why = tt
+takes texts l under listed each (fault.OtherCount place) why = tt
+takes texts l under listed each (fault.Twice number) why = tt
+takes texts l under listed each (fault.Missing number parts) why = tt
+takes texts l under listed each (fault.Refused r path) why = tt
+takes texts l under listed each fault.NoMemory why = tt
+
+blames_none : (texts : List (List ℕ)) (l : Inventory) (under : KnownPaths) → CanBeListed l → AreTrueParts under l texts → AreWhole texts → (e : AssembleFault)
+    → HasReason texts e → BlamesNoText e
+blames_none texts l under listed each whole e why =
+    blames_no_text texts whole.0 whole.1 whole.2 e why (λ place none. true_text texts l under place listed each none)
 
 -- a fault by the fronts
 pub front_stop : (texts : List (List ℕ)) (e : AssembleFault) → HasReason texts e → IsFrontFault e → IsAssembled texts (Err e)
@@ -87,7 +130,10 @@ front_stop texts e why is = record {
   reason = why;
   no_write = no_write e is;
   draft = λ l listed of. tt;
+  long = λ l listed of. tt;
   gathers = λ l under contents listed held each. gathers l contents e is;
+  takes = λ l under listed each. takes texts l under listed each e why;
+  whole = λ l under listed each whole. blames_none texts l under listed each whole e why;
 }
   where
     no_write : (x : AssembleFault) → IsFrontFault x → AreNoWrite x
@@ -109,19 +155,36 @@ front_stop texts e why is = record {
     gathers l contents fault.NoMemory is = tt
 
 -- the reason of a fault behind the fronts
-late_reason : (texts : List (List ℕ)) (parts : ℕ) (listing : List ℕ) → AreAllParts parts listing texts → (e : AssembleFault) → IsLateFault e → HasReason texts e
-late_reason texts parts listing all (fault.Refused r path) is = tt
-late_reason texts parts listing all (fault.NoPart place) is = inr (parts, listing, all)
-late_reason texts parts listing all (fault.OtherFolder number) is = absurd is
-late_reason texts parts listing all (fault.OtherCount place) is = absurd is
-late_reason texts parts listing all (fault.Twice number) is = absurd is
-late_reason texts parts listing all (fault.Missing number parts') is = absurd is
-late_reason texts parts listing all fault.NoMemory is = tt
+late_reason : (texts : List (List ℕ)) (p : Parts) (found : Listing) → ArePartsOf texts p → IsRead p.listing.now found → (e : AssembleFault) → IsLateFault e
+    → NamesUnsaid found.piece_length found.hybrid (total_of (inventory found).files) (length p.rows.items) 0 (inventory found).files p e → HasReason texts e
+late_reason texts p found are read (fault.NoPart place) is named =
+    (unsaid_text texts p are found place read named, inr (length p.rows.items, p.listing.now, are.all))
+late_reason texts p found are read (fault.Refused r path) is named = tt
+late_reason texts p found are read (fault.OtherFolder number) is named = absurd is
+late_reason texts p found are read (fault.OtherCount place) is named = absurd is
+late_reason texts p found are read (fault.Twice number) is named = absurd is
+late_reason texts p found are read (fault.Missing number parts) is named = absurd is
+late_reason texts p found are read fault.NoMemory is named = tt
+
+-- the same of a division as of the listing that it divides
+pub divided_as : (Holds : ℕ → ℕ → ℕ → Type 0) (p q total total' parts parts' : ℕ) → p ≡ q → total ≡ total' → parts ≡ parts' → Holds p total parts
+    → Holds q total' parts'
+divided_as Holds p q total total' parts parts' pieces total_is parts_are is =
+    subst (λ x. Holds x total' parts') pieces (subst (λ x. Holds p x parts') total_is (subst (λ x. Holds p total x) parts_are is))
+
+-- a fault by the listing
+pub unread_stop : (texts : List (List ℕ)) (p : Parts) (place : ℕ) (x : ListingFault) → ArePartsOf texts p → slice_get p.places.items 0 ≡ Some place
+    → ((l : Inventory) → CanBeListed l → p.listing.now ≡ listing_text l → ReadsUnlessNoMemory {A = Listing} (Err x) (λ found. inventory found ≡ l))
+    → IsAssembled texts (Err (unread_as x place))
+unread_stop texts p place listing.None are at none =
+    front_stop texts (fault.NoPart place) (unlisted texts p are place at none, inr (length p.rows.items, p.listing.now, are.all)) tt
+unread_stop texts p place listing.NoMemory are at none = front_stop texts fault.NoMemory tt tt
 
 -- a fault by what stands behind the fronts
-pub rows_stop : (texts : List (List ℕ)) (p : Parts) → ArePartsOf texts p → (e : AssembleFault) → IsRowsFault e → IsAssembled texts (Err e)
-rows_stop texts p are e is =
-    front_stop texts e (late_reason texts (length p.rows.items) p.listing.now are.all e (late e is)) (front e is)
+pub rows_stop : (texts : List (List ℕ)) (p : Parts) (found : Listing) → ArePartsOf texts p → IsRead p.listing.now found → (e : AssembleFault) → IsRowsFault e
+    → NamesUnsaid found.piece_length found.hybrid (total_of (inventory found).files) (length p.rows.items) 0 (inventory found).files p e
+    → IsAssembled texts (Err e)
+rows_stop texts p found are read e is named = front_stop texts e (late_reason texts p found are read e (late e is) named) (front e is)
   where
     late : (x : AssembleFault) → IsRowsFault x → IsLateFault x
     late (fault.Refused r path) is = absurd is
@@ -141,10 +204,6 @@ rows_stop texts p are e is =
     front (fault.Missing number parts) is = absurd is
     front fault.NoMemory is = tt
 
--- what was read is what was listed
-abbrev pub IsRead : List ℕ → Listing → Type 0
-IsRead text found = (l : Inventory) → CanBeListed l → text ≡ listing_text l → inventory found ≡ l
-
 -- there is no draft of the piece length
 pub pieces_stop : (texts : List (List ℕ)) (p : Parts) (found : Listing) (path : Vec (String Global)) → ArePartsOf texts p → IsRead p.listing.now found
     → (IsPieceLength found.piece_length → ⊥) → path.items ≡ [] → IsAssembled texts (Err (fault.Refused refusals.PieceLength path))
@@ -153,6 +212,9 @@ pieces_stop texts p found path are read illegal none = record {
   reason = tt;
   no_write = λ same. let no : ⊥ = cc in no;
   draft = λ l listed of. tt;
+  long = λ l listed of. tt;
+  takes = λ l under listed each. tt;
+  whole = λ l under listed each all. tt;
   gathers = λ l under contents listed held each.
       let same = read l listed (first_listing texts p l are (true_listing under l texts p are each)) in
       inl (record {
@@ -170,19 +232,35 @@ if_err_each : {A E : Type 0} {P Q : E → Type 0} (r : Result A E) → ((e : E) 
 if_err_each (Ok a) each is = tt
 if_err_each (Err e) each is = each e is
 
+if_err_both : {A E : Type 0} {P Q R : E → Type 0} (r : Result A E) → ((e : E) → P e → Q e → R e) → IfErr r P → IfErr r Q → IfErr r R
+if_err_both (Ok a) each p q = tt
+if_err_both (Err e) each p q = each e p q
+
 -- what came of adding the files
 pub added_all : (texts : List (List ℕ)) (p : Parts) (found : Listing) (result : Result Outline AssembleFault) → ArePartsOf texts p → IsRead p.listing.now found
+    → AreLong found.piece_length found.hybrid (total_of (inventory found).files) (length p.rows.items) (inventory found).files (behind p)
     → IfOk result (IsDraftOf (inventory found)) → IfErr result AreNoWrite → IfErr result IsLateFault
-    → AddsAll (inventory found) (map (λ (x : Bor (List ℕ)). x.now) p.rows.items) result → IsAssembled texts result
-added_all texts p found result are read draft no_write late gathers = record {
+    → IfErr result (NamesUnsaid found.piece_length found.hybrid (total_of (inventory found).files) (length p.rows.items) 0 (inventory found).files p)
+    → AddsAll (inventory found) (behind p) result → IsAssembled texts result
+added_all texts p found result are read long draft no_write late named gathers = record {
   all = if_ok_all result (length p.rows.items, p.listing.now, are.all);
-  reason = if_err_each result (late_reason texts (length p.rows.items) p.listing.now are.all) late;
+  reason = reason;
   no_write = no_write;
   draft = λ l listed of. subst (λ k. IfOk result (IsDraftOf k)) (read l listed (first_listing texts p l are of)) draft;
+  long = λ l listed of.
+      let listing = first_listing texts p l are of in
+      if_ok_all result
+      (each_long l texts p are listing
+      (subst (λ (k : Inventory). AreLong k.piece_length k.hybrid (total_of k.files) (length p.rows.items) k.files (behind p)) (read l listed listing) long));
   gathers = λ l under contents listed held each.
-      subst (λ k. AddsAll k (map (λ (x : Bor (List ℕ)). x.now) p.rows.items) result)
+      subst (λ k. AddsAll k (behind p) result)
       (read l listed (first_listing texts p l are (true_listing under l texts p are each))) gathers under contents held (each_says under l texts p are each);
+  takes = λ l under listed each. if_err_each result (takes texts l under listed each) reason;
+  whole = λ l under listed each whole. if_err_each result (blames_none texts l under listed each whole) reason;
 }
+  where
+    reason : IfErr result (HasReason texts)
+    reason = if_err_both result (late_reason texts p found are read) late named
 
 -- the same fault, passed on
 pub passed_on : (texts : List (List ℕ)) (e x : AssembleFault) (r : Result Outline AssembleFault) → r ≡ Err x → x ≡ e → IsAssembled texts (Err e)

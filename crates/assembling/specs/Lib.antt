@@ -8,5 +8,7 @@ pub mod Outcome
 pub mod Reading
 pub mod Reasons
 pub mod Said
+pub mod Sizes
 pub mod Taking
+pub mod Unsaid
 pub mod Whole

@@ -1,8 +1,9 @@
 -- Why no torrent is assembled: what stands in the first text at which it stops.
 use Rattle.std.specs.Prelude.{◌≡◌, ◌≢◌, ◌⊎◌, ℕ, ◌+◌, ◌<◌, List, [], take, slice_get, Some, ⊤}
-use Rattle.part_drafts.specs.Parts.{IsPartText, KnownPaths}
+use Rattle.part_drafts.specs.Parts.{KnownPaths}
 use Rattle.part_texts.specs.Listings.{Inventory}
 use Rattle.part_texts.specs.Readings.{CanBeListed}
+use Rattle.assembling.specs.Assembly.{IsTruePart}
 use Rattle.assembling.specs.Fronts.{AreAllParts, AreOfOne, Front, HasPart, IsFront}
 use Rattle.assembling.specs.declared.fault.AssembleFault.{AssembleFault}
 use Rattle.assembling.specs.declared.fault.AssembleFault.TheVariants as fault
@@ -38,10 +39,13 @@ abbrev pub IsThereTwice : ℕ → List Front → List ℕ → Type 0
 IsThereTwice number fronts text =
     (f : Front) × IsFront text f × (f.part + 1 ≡ number) × HasPart fronts f.part
 
--- it is no whole text of a part
+-- it is no whole text of a part: of no folder that can be listed, whatever its files hold
 abbrev pub IsNoPart : List ℕ → Type 0
-IsNoPart text = (l : Inventory) (under : KnownPaths) (part parts : ℕ) → CanBeListed l
-    → part < parts → IsPartText under l part parts text → ⊥
+IsNoPart text = (l : Inventory) (under : KnownPaths) → CanBeListed l → IsTruePart under l text → ⊥
+
+-- the text at this place is none
+abbrev pub IsNoPartAt : List (List ℕ) → ℕ → Type 0
+IsNoPartAt texts place = (text : List ℕ) × (slice_get texts place ≡ Some text) × IsNoPart text
 
 -- all texts are of different parts of one whole of this many, and none is of the part with this
 -- number, from 1, but of each before it; of no text there is one part, which is missing
@@ -56,8 +60,8 @@ pub record IsMissing (texts : List (List ℕ)) (number parts : ℕ) : Type 0 whe
 
 -- why it stops at a fault
 abbrev pub HasReason : List (List ℕ) → AssembleFault → Type 0
-HasReason texts (fault.NoPart place) = StopsAt texts place HasNoFront
-    ⊎ ((parts : ℕ) × (listing : List ℕ) × AreAllParts parts listing texts)
+HasReason texts (fault.NoPart place) = IsNoPartAt texts place × (StopsAt texts place HasNoFront
+    ⊎ ((parts : ℕ) × (listing : List ℕ) × AreAllParts parts listing texts))
 HasReason texts (fault.OtherFolder number) =
     (place : ℕ) × StopsAt texts place (IsOfOtherFolder number)
 HasReason texts (fault.OtherCount place) = StopsAt texts place IsOfOtherCount

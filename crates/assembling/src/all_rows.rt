@@ -1,9 +1,10 @@
 //! What all parts say of one file.
-ghost use Rattle.std.specs.Prelude.{◌≡◌, ◌<◌, ℕ, List, IfErr, IfOk, length, map, true};
+ghost use Rattle.std.specs.Prelude.{◌≡◌, ◌<◌, ◌∷◌, ℕ, List, IfErr, IfOk, length, map, true};
 ghost use Rattle.assembling.specs.Adding.{AreNoWrite, IsRowsFault};
 ghost use Rattle.assembling.specs.Taking.{HasEach, IsHeld, IsTaken};
+ghost use Rattle.assembling.specs.Unsaid.{NamesUnsaid, PassesOn, behind};
 ghost use Rattle.part_drafts.specs.Parts.{KnownPaths};
-ghost use Rattle.part_texts.specs.Divisions.{hashed};
+ghost use Rattle.part_texts.specs.Divisions.{capped, hashed};
 ghost use Rattle.part_texts.specs.Listings.{Listed};
 ghost use Rattle.pieces.specs.Pieces.{IsPieceLength, pieces_of};
 
@@ -34,6 +35,13 @@ pub(crate) fn rows_of(
         (pieces_of division.now.piece_length (hashed bytes))) }
     ensures no_write { IfErr result AreNoWrite }
     ensures fault { IfErr result IsRowsFault }
+    ensures reason { (f : Listed) (fs : List Listed) → f.bytes ≡ bytes
+        → IfErr result (NamesUnsaid division.now.piece_length hybrid division.now.total
+        division.now.parts before (f ∷ fs) parts.old) }
+    ensures passes { (f : Listed) (fs : List Listed) → f.bytes ≡ bytes
+        → IfOk result (λ _. PassesOn division.now.piece_length hybrid division.now.total
+        division.now.parts before (f ∷ fs) (capped before (hashed f.bytes)) fs (behind parts.old)
+        (behind parts.new)) }
     ensures taken { (under : KnownPaths) (f : Listed) (fs : List Listed) (content : List ℕ)
         → f.bytes ≡ bytes → IsHeld under division.now.piece_length hybrid division.now.total before
         f fs content (map (λ x. x.now) parts.old.rows.items)

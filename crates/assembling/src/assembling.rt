@@ -3,6 +3,7 @@ ghost use Rattle.std.specs.Prelude.{◌≡◌, ◌<◌, ◌≤◌, IfErr, IfOk, 
 ghost use Rattle.assembling.specs.Added.{IsDraftOf};
 ghost use Rattle.assembling.specs.Adding.{AddsAll, AreNoWrite, IsLateFault};
 ghost use Rattle.assembling.specs.Outcome.{IsAssembled};
+ghost use Rattle.assembling.specs.Unsaid.{NamesUnsaid};
 ghost use Rattle.part_texts.specs.Divisions.{total_of};
 ghost use Rattle.part_texts.specs.Listings.{inventory, listed};
 ghost use Rattle.pieces.specs.Pieces.{IsPieceLength};
@@ -24,7 +25,8 @@ use std::alloc::Global;
 /// hybrid's cuts.
 ///
 /// If each text says what is true of the same contents, the draft is that which is gathered of
-/// these contents, or a file is refused as such a draft refuses it.
+/// these contents, or a file is refused as such a draft refuses it, and `NoPart` never comes. If
+/// they are the texts of all parts, each once, only a file, the piece length or memory is refused.
 ///
 /// # Errors
 ///
@@ -67,6 +69,8 @@ fn add_all(
     ensures draft { IfOk result (IsDraftOf (inventory listing)) }
     ensures no_write { IfErr result AreNoWrite }
     ensures fault { IfErr result IsLateFault }
+    ensures reason { IfErr result (NamesUnsaid division.now.piece_length listing.hybrid
+        division.now.total division.now.parts 0 (map listed listing.files.items) parts.entry) }
     ensures gathers { AddsAll (inventory listing) (map (λ x. x.now) parts.entry.rows.items) result }
 {
     let mut parts = parts;

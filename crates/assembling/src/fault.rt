@@ -1,5 +1,7 @@
 //! Why no torrent is assembled.
+ghost use Rattle.std.specs.Prelude.{◌≡◌};
 ghost use Rattle.assembling.specs.Adding.{IsRowsFault};
+ghost use Rattle.assembling.specs.Unsaid.{unread_as};
 
 use filetree::Refusal;
 use part_texts::ListingFault;
@@ -40,7 +42,8 @@ impl From<AllocError> for AssembleFault {
 
 /// The fault, for the text at this place.
 pub(crate) fn unread(fault: ListingFault, place: usize) -> AssembleFault
-    ensures { IsRowsFault result }
+    ensures fault { IsRowsFault result }
+    ensures is { result ≡ unread_as fault place }
 {
     match fault {
         ListingFault::None => AssembleFault::NoPart(place),

@@ -1,6 +1,10 @@
 //! How much each part is to say.
-ghost use Rattle.std.specs.Prelude.{◌≡◌, ◌<◌, IfErr, length};
+ghost use Rattle.std.specs.Prelude.{◌≡◌, ◌-◌, ◌^◌, ◌<◌, IfErr, IfOk, length, map, min};
 ghost use Rattle.assembling.specs.Adding.{IsRowsFault};
+ghost use Rattle.assembling.specs.Sizes.{row_size, rows_size};
+ghost use Rattle.assembling.specs.Unsaid.{AreLong, NamesUnsaid, behind};
+ghost use Rattle.part_texts.specs.Listings.{listed};
+ghost use Rattle.pieces.specs.Pieces.{IsPieceLength};
 
 use crate::fault::AssembleFault;
 use crate::numbers::Parts;
@@ -14,6 +18,12 @@ pub(crate) fn test_sizes(
 ) -> Result<(), AssembleFault>
     requires places { length parts.now.places.items ≡ length parts.now.rows.items }
     requires parts { division.now.parts ≡ length parts.now.rows.items }
+    requires legal { IsPieceLength division.now.piece_length }
+    ensures sizes { IfOk result (λ _. AreLong division.now.piece_length listing.now.hybrid
+        division.now.total division.now.parts (map listed listing.now.files.items)
+        (behind parts.now)) }
+    ensures reason { IfErr result (NamesUnsaid division.now.piece_length listing.now.hybrid
+        division.now.total division.now.parts 0 (map listed listing.now.files.items) parts.now) }
     ensures fault { IfErr result IsRowsFault }
 {
     'parts: for part in 0..parts.rows.len() {
@@ -25,9 +35,12 @@ pub(crate) fn test_sizes(
     Ok(())
 }
 
-// How many bytes a part says of all files.
+// How many bytes a part says of all files, or the largest number of 64 bits if that is less.
 fn size_of(listing: &Listing, division: &Division, part: u64) -> u64
     requires { part < division.now.parts }
+    ensures { result ≡ min (rows_size division.now.piece_length listing.now.hybrid
+        division.now.total division.now.parts part 0 (map listed listing.now.files.items))
+        (2 ^ 64 - 1) }
 {
     let mut before: u64 = 0;
     let mut size: u64 = 0;
@@ -39,8 +52,11 @@ fn size_of(listing: &Listing, division: &Division, part: u64) -> u64
     size
 }
 
-// How many bytes a part says of this many pieces of a file.
-fn size_of_row(count: u64, hybrid: bool) -> u64 {
+// How many bytes a part says of this many pieces of a file, or the largest number of 64 bits if
+// that is less.
+fn size_of_row(count: u64, hybrid: bool) -> u64
+    ensures { result ≡ min (row_size hybrid count) (2 ^ 64 - 1) }
+{
     match (count, hybrid) {
         (0, _) => 0,
         (_, false) => count.saturating_mul(32),

@@ -1,2 +1,3 @@
 mod FileBlocks
+mod FileLayers
 mod Orders

@@ -1,16 +1,19 @@
-//! The blocks of several files in a buffer, hashed together, and the roots of the files' trees.
+//! The blocks of several files in a buffer, hashed together, and the roots and layers of the files'
+//! trees.
 
-ghost use Rattle.std.specs.Prelude.{◌≡◌, ℕ, ◌+◌, ◌*◌, ◌^◌, ◌<◌, ◌≤◌, List, length};
-ghost use Rattle.hashtree.specs.Tree.{block_count, root_of};
+ghost use Rattle.std.specs.Prelude.{◌≡◌, ℕ, ◌+◌, ◌*◌, ◌^◌, ◌<◌, ◌≤◌, List, length, IfOk, OnErr};
+ghost use Rattle.hashtree.specs.Tree.{block_count, height, layer_of, root_of};
 
 use crate::window::{WINDOW, leaves_of};
-use hashtree::{BLOCK_LENGTH, Hash, Shape, laws, layer_root};
+use hashtree::{BLOCK_LENGTH, Hash, NoMemory, Shape, fill_levels, laws, layer_root};
+use std::alloc::Global;
 
 // Bytes in a block.
 const BLOCK: usize = BLOCK_LENGTH as usize;
 
 /// The blocks of files that stand in a buffer, a window of them at most: a `push` for each file,
-/// one `hash` for all blocks, and then the `root` of each file. It takes no memory.
+/// one `hash` for all blocks, and then the `root` and a `layer` of each file. The window takes no
+/// memory; a layer does.
 #[derive(Drop)]
 pub struct Window {
     starts: [usize; WINDOW],
@@ -100,5 +103,36 @@ impl Window {
         let shape = Shape::of(size as u64).unwrap();
         let blocks = size.div_ceil(BLOCK);
         layer_root(shape, 0, &self.leaves[first..first + blocks])
+    }
+
+    /// A layer of the tree of a file of this size, without its pads; none above the root (BEP 52,
+    /// "piece layers"). Conditions: as for [`Window::root`].
+    ///
+    /// # Errors
+    ///
+    /// It fails only if memory was refused, which is asked for only if the tree has the layer.
+    pub fn layer(
+        &self,
+        alloc: Global,
+        first: usize,
+        size: usize,
+        layer: u32,
+    ) -> Result<Vec<Hash>, NoMemory>
+        requires some { 0 < size }
+        requires within { first + block_count size ≤ 64 }
+        ensures layer { IfOk result (λ hashes. (buffer : List ℕ) (start : ℕ)
+            → HasFile self.now first start size → IsHashed self.now buffer
+            → start + size ≤ length buffer
+            → hashes.items ≡ layer_of (bytes_at buffer start size) layer) }
+        ensures memory { OnErr result (layer ≤ height (block_count size)) }
+    {
+        laws::leaves_are_digests();
+        let shape = Shape::of(size as u64).unwrap();
+        if shape.height() < layer {
+            return Ok(Vec::new(alloc));
+        }
+        let blocks = size.div_ceil(BLOCK);
+        let mut levels = fill_levels(alloc, shape, 0, &self.leaves[first..first + blocks])?;
+        Ok(levels.swap_remove(layer as usize))
     }
 }

@@ -12,20 +12,22 @@ ghost use Rattle.parts.specs.Words.{words_as};
 ghost use Rattle.parts.specs.declared.telling.Telling.TheVariants as telling;
 
 use crate::outcomes::status;
-use folders::{Lines, Shelf};
+use folders::{Lines, Pace, Shelf};
 use lines::LineSink;
 use opening::Torrent;
-use parts::{CheckFault, say_check, say_check_with_bad_pieces};
+use parts::{CheckFault, say_check_at_pace, say_check_with_bad_pieces};
 use printing::{Fault, OUTPUT};
 use std::alloc::Global;
 
-/// Checks that a shelf holds the torrent's files, and says the wanted lines of what it found, a
-/// file's as soon as the file is done. The status is 0 for `yes` and 1 for `no`.
-pub fn check<'a, S: Shelf, L: LineSink>(
+/// Checks that a shelf holds the torrent's files, and says the wanted lines of what it found: a
+/// file's as soon as it is done. Small files are read together, as many as the pace lets wait. The
+/// status is 0 for `yes` and 1 for `no`.
+pub fn check<'a, S: Shelf, L: LineSink, P: Pace>(
     alloc: Global,
     torrent: &Torrent<'_>,
     shelf: &mut S,
     lines: Lines,
+    pace: &mut P,
     out: &mut L,
 ) -> Result<u8, Fault<'a>>
     ensures checks { Checks (worded L.spelled) torrent.now (S.contents shelf.old).under
@@ -40,7 +42,7 @@ pub fn check<'a, S: Shelf, L: LineSink>(
         result }
     ensures no_memory { IfErr result (λ f. f ≡ Fault.NoMemory → shelf.new ≡ shelf.old) }
 {
-    match say_check(alloc, torrent, shelf, lines, out) {
+    match say_check_at_pace(alloc, torrent, shelf, lines, pace, out) {
         Ok(report) => Ok(status(report.yes())),
         Err(CheckFault::NoMemory) => Err(Fault::NoMemory),
         Err(CheckFault::Write) => Err(Fault::Write(OUTPUT)),

@@ -4,7 +4,6 @@
 pub mod checks;
 pub mod creations;
 mod joins;
-mod marked_joins;
 pub mod outcomes;
 pub mod part_checks;
 pub mod piece_replays;

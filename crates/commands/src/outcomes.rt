@@ -18,15 +18,14 @@ ghost use Rattle.session.specs.Fresh.{IsFresh};
 ghost use Rattle.part_reports.specs.Heads.{AreMarked};
 ghost use Rattle.commands.specs.Outcomes.{BlamesOne, ConvertsRecord, EndsRoot, IsReplayed, IsListingFault, IsSeedingFault, IsUnprinted, JoinsMarkedParts, JoinsParts, MakesDraft, NamesOutput, NamesSink, WritesTorrent, answer_status, form_2_text, wanted_draft};
 
-use crate::joins::join_plain;
-use crate::marked_joins::join_marked;
+use crate::joins::{join_marked, join_plain};
 use actions::Create;
 use benc::{Sink, Source};
 use conversions::ConvertFault;
 use drafts::Draft;
 use filetree::Refusal;
-use folders::{RootFault, Shelf, ShelfFault, root_line_onto};
-use gathering::GatherFault;
+use folders::{Lengths, Pace, RootFault, Shelf, ShelfFault, root_line_onto};
+use gathering::{GatherFault, gather_by_lengths};
 use lines::{Line, LineSink, Nowhere, say_last};
 use opening::Torrent;
 use part_reports::{JoinFault, Kind, kind_of};
@@ -150,11 +149,13 @@ pub fn new_session<'t, 'a>(
     Ok(Session::new(alloc, torrent, !info_only)?)
 }
 
-/// Fills a session from a shelf, and says a line for each file of the torrent.
-pub fn seed<'a, N: NodeMap, S: Shelf, L: LineSink>(
+/// Fills a session from a shelf, and says a line for each file of the torrent. Small files are read
+/// together, as many as the pace lets wait.
+pub fn seed<'a, N: NodeMap, S: Shelf, P: Pace, L: LineSink>(
     alloc: Global,
     session: &mut Session<'_, N>,
     shelf: &mut S,
+    pace: &mut P,
     out: &mut L,
 ) -> Result<(), Fault<'a>>
     ensures seeded { OnOk result (IsSeededAs S.Shelf S.File.seen (seed_line_as L.spelled)
@@ -165,7 +166,7 @@ pub fn seed<'a, N: NodeMap, S: Shelf, L: LineSink>(
         (shelf_and_session shelf.old session.old) (shelf_and_session shelf.new session.new)
         (L.seen out.old) (L.seen out.new) (Err e) × IsSeedingFault e f) }
 {
-    match seeding::seed_onto(alloc, session, shelf, out) {
+    match seeding::seed_onto_at_pace(alloc, session, shelf, pace, out) {
         Ok(()) => Ok(()),
         Err(SeedFault::NoMemory) => Err(Fault::NoMemory),
         Err(SeedFault::Write) => Err(Fault::Write(OUTPUT)),
@@ -231,17 +232,25 @@ pub fn replay_and_answer<'a, N: NodeMap, R: Source, L: LineSink, A: Sink>(
 
 /// Gathers a draft of all files on a shelf. If they cannot be a torrent, it prints the refusal and
 /// answers the exit status, 1. A fault names the file that could not be read, or says why the
-/// shelf was not listed.
-pub fn gather<'a, S: Shelf, W: Sink>(
+/// shelf was not listed. What `lengths` answers chooses only how files are hashed.
+pub fn gather<'a, S: Shelf, L: Lengths, W: Sink>(
     alloc: Global,
     asked: &Create<'a>,
     shelf: &mut S,
+    lengths: &mut L,
     out: &mut W,
 ) -> Result<Result<Draft, u8>, Fault<'a>>
     ensures { MakesDraft (Gathers S.Shelf S.File.seen (wanted_draft asked.now) shelf.old shelf.new)
         (Fault.Read asked.now.dir) (W.seen out.old) (W.seen out.new) result }
 {
-    match gathering::gather(alloc, shelf, asked.name, asked.piece_length, asked.hybrid) {
+    match gather_by_lengths(
+        alloc,
+        shelf,
+        lengths,
+        asked.name,
+        asked.piece_length,
+        asked.hybrid,
+    ) {
         Ok(draft) => Ok(Ok(draft)),
         Err(GatherFault::Refused(refusal, path)) => Ok(Err(refuse(&refusal, &path, out)?)),
         Err(GatherFault::Device(path)) => Err(Fault::ReadBelow(path)),

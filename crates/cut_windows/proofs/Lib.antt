@@ -1,1 +1,4 @@
+-- Lemmas on windows of cuts.
 mod Cuts
+mod LaneParts
+pub mod Lengths

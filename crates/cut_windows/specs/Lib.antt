@@ -1,3 +1,4 @@
 -- What contracts of windows of cuts cite.
 pub mod Digests
+pub mod LaneCuts
 pub mod Windows

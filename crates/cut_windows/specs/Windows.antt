@@ -3,7 +3,7 @@ use Rattle.std.specs.Prelude.{◌≡◌, ℕ, ◌+◌, ◌-◌, ◌*◌, ◌<◌
 use Rattle.pieces.specs.Cuts.{cut, filled_up}
 use Rattle.pieces.specs.Pieces.{pieces_of}
 use Rattle.sha1.specs.Sha1.{sha1}
-use Rattle.cut_windows.specs.Digests.{IsDigest}
+use Rattle.cut_windows.specs.Digests.{IsDigest, IsOwnDigest}
 use Rattle.cut_windows.specs.declared.window.CutWindow.{CutWindow}
 
 -- the bytes of a file of this size at this byte of a buffer
@@ -41,6 +41,10 @@ IsWithin w bytes = (i : ℕ) → i < w.count → StandsIn w bytes i
 abbrev pub IsHashed : CutWindow → List ℕ → Type 0
 IsHashed w buffer = (i : ℕ) → i < w.count
     → IsDigest buffer w.piece_length w.starts w.sizes w.digests i
+
+-- each own digest is that of a cut in this buffer, as it is
+abbrev pub AreOwnHashed : CutWindow → List ℕ → Type 0
+AreOwnHashed w buffer = (i : ℕ) → i < w.count → IsOwnDigest buffer w.starts w.sizes w.own i
 
 -- for the cuts of this file, each filled up with zeros to the piece length, these digests are
 -- listed, as far as the list goes

@@ -1,8 +1,8 @@
 //! One cut by itself.
 
-ghost use Rattle.std.specs.Prelude.{◌≡◌, ◌+◌, ◌≤◌, length};
-ghost use Rattle.sha1.specs.Sha1.{sha1};
-ghost use Rattle.sha1_lanes.specs.Batches.{filled_at};
+ghost use Rattle.std.specs.Prelude.{◌≡◌, ℕ, ◌+◌, ◌-◌, ◌≤◌, ◌++◌, List, length, replicate};
+ghost use Rattle.sha1.specs.Sha1.{Holds, sha1};
+ghost use Rattle.sha1_lanes.specs.Batches.{filled_at, message_at};
 
 use sha1::Sha1;
 
@@ -21,9 +21,38 @@ pub(crate) fn digest_alone(
     requires fits { size ≤ piece_length }
     ensures { result ≡ sha1 (filled_at buffer.now start size piece_length) }
 {
-    let zeros = [0; ZEROS];
     let mut hasher = Sha1::new();
     hasher.update(&buffer[start..start + size]);
+    filled_up(hasher, size, piece_length)
+}
+
+/// The digest of this cut as it is, and the same. Conditions: as for [`digest_alone`].
+pub(crate) fn digests_alone(
+    buffer: &[u8],
+    start: usize,
+    size: usize,
+    piece_length: usize,
+) -> ([u8; 20], [u8; 20])
+    requires inside { start + size ≤ length buffer.now }
+    requires fits { size ≤ piece_length }
+    ensures own { result.0 ≡ sha1 (message_at buffer.now start size) }
+    ensures filled { result.1 ≡ sha1 (filled_at buffer.now start size piece_length) }
+{
+    let mut hasher = Sha1::new();
+    hasher.update(&buffer[start..start + size]);
+    let Ok(own) = hasher.clone() else {
+        unreachable!();
+    };
+    (own.finalize(), filled_up(hasher, size, piece_length))
+}
+
+// The digest of a cut of this size that was taken, filled up with zeros to the piece length.
+fn filled_up(mut hasher: Sha1, size: usize, piece_length: usize) -> [u8; 20]
+    requires { size ≤ piece_length }
+    ensures { (cut : List ℕ) → Holds hasher cut
+        → result ≡ sha1 (cut ++ replicate (piece_length - size) 0) }
+{
+    let zeros = [0; ZEROS];
     let mut filled = size;
     'zeros: while filled < piece_length {
         let count = (piece_length - filled).min(ZEROS);

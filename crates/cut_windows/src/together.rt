@@ -104,8 +104,8 @@ fn take_lanes(
     }
 }
 
-// One of these numbers for each lane, from this place on; where none is left, the last one again.
-fn from_here(values: &[usize], from: usize) -> [usize; LANES]
+/// One of these numbers for each lane, from this place on; where none is left, the last one again.
+pub(crate) fn from_here(values: &[usize], from: usize) -> [usize; LANES]
     requires few { length values.now ≤ 64 }
     requires some { from < length values.now }
     ensures { (j : ℕ) → j < LANES → slice_index result j

@@ -1,22 +1,28 @@
 //! The cuts of several small files in a buffer.
 
-ghost use Rattle.std.specs.Prelude.{◌≡◌, ℕ, ◌+◌, ◌-◌, ◌*◌, ◌%◌, ◌^◌, ◌<◌, ◌≤◌, IsTrue, List, length, min};
+ghost use Rattle.std.specs.Prelude.{◌≡◌, ℕ, ◌+◌, ◌-◌, ◌*◌, ◌%◌, ◌^◌, ◌<◌, ◌≤◌, IfOk, IsTrue, List, OnErr, length, min};
+ghost use Rattle.pieces.specs.FileCuts.{IsV1File};
 ghost use Rattle.pieces.specs.Pieces.{pieces_of};
 
+use crate::both::write_both;
 use crate::together::write_digests;
+use hashtree::NoMemory;
+use pieces::V1File;
+use std::alloc::Global;
 
 /// How many cuts a window has at most.
 pub const WINDOW: usize = 64;
 
 /// The cuts of files that stand in a buffer, a window of them at most: a `push` for each file, one
-/// `hash` for all cuts, and then each file's digests can be compared with those that are listed. It
-/// takes no memory.
+/// `hash` for all cuts, and then each file's digests can be compared with those that are listed; or
+/// `hash_both`, and then each file's digests can be had. The window takes no memory.
 #[derive(Drop)]
 pub struct CutWindow {
     piece_length: usize,
     starts: [usize; WINDOW],
     sizes: [usize; WINDOW],
     digests: [[u8; 20]; WINDOW],
+    own: [[u8; 20]; WINDOW],
     count: usize,
     ghost some: { 0 < piece_length },
     ghost whole_blocks: { piece_length % 64 ≡ 0 },
@@ -24,7 +30,7 @@ pub struct CutWindow {
 }
 
 impl CutWindow {
-    ghost use Rattle.cut_windows.specs.Windows.{AreListed, HasCuts, IsHashed, IsWithin, bytes_at, cut_total, length_of_cuts};
+    ghost use Rattle.cut_windows.specs.Windows.{AreListed, AreOwnHashed, HasCuts, IsHashed, IsWithin, bytes_at, cut_total, length_of_cuts};
 
     /// No file, of a torrent with this piece length. Conditions: it is a multiple of 64, and not 0.
     pub fn new(piece_length: usize) -> CutWindow
@@ -39,6 +45,7 @@ impl CutWindow {
             starts: [0; WINDOW],
             sizes: [0; WINDOW],
             digests: [[0; 20]; WINDOW],
+            own: [[0; 20]; WINDOW],
             count: 0,
         }
     }
@@ -95,6 +102,61 @@ impl CutWindow {
             &mut digests[..count],
         );
         self.digests = digests;
+    }
+
+    /// Hashes all cuts twice: as they are, and filled up with zeros to the piece length. Condition:
+    /// they stand in the buffer.
+    pub fn hash_both(&mut self, buffer: &[u8])
+        requires { IsWithin self.old (length buffer.now) }
+        ensures own { AreOwnHashed self.new buffer.now }
+        ensures hashed { IsHashed self.new buffer.now }
+        ensures piece_length { length_of_cuts self.new ≡ length_of_cuts self.old }
+        ensures kept { (first start size : ℕ) → HasCuts self.old first start size
+            → HasCuts self.new first start size }
+    {
+        let count = self.count;
+        let starts = self.starts;
+        let sizes = self.sizes;
+        let mut own = self.own;
+        let mut digests = self.digests;
+        write_both(
+            buffer,
+            self.piece_length,
+            &starts[..count],
+            &sizes[..count],
+            &mut own[..count],
+            &mut digests[..count],
+        );
+        self.own = own;
+        self.digests = digests;
+    }
+
+    /// The digests of a file of this size, whose first cut this is: those of its cuts, and that of
+    /// the last one filled up with zeros. Condition: the cuts are in the window.
+    ///
+    /// # Errors
+    ///
+    /// It fails only if memory was refused, which is asked for only if the file has a byte.
+    pub fn file(&self, alloc: Global, first: usize, size: usize) -> Result<V1File, NoMemory>
+        requires { first + pieces_of (length_of_cuts self.now) size ≤ 64 }
+        ensures file { IfOk result (λ file. (buffer : List ℕ) (start : ℕ)
+            → HasCuts self.now first start size → AreOwnHashed self.now buffer
+            → IsHashed self.now buffer → start + size ≤ length buffer
+            → IsV1File (length_of_cuts self.now) (bytes_at buffer start size) file) }
+        ensures memory { OnErr result (0 < size) }
+    {
+        if size == 0 {
+            return Ok(V1File {
+                cuts: Vec::new(alloc),
+                padded: [0; 20],
+            });
+        }
+        let count = cut_count(self.piece_length, size);
+        let cuts = Vec::from_slice(alloc, &self.own[first..first + count])?;
+        Ok(V1File {
+            cuts,
+            padded: self.digests[first + count - 1],
+        })
     }
 
     /// Whether these are the digests of the cuts from this one on: those of a file that begins

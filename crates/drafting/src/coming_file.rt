@@ -26,7 +26,7 @@ impl ComingFile {
     pub fn new(alloc: Global, kind: TorrentKind) -> ComingFile
         ensures { IsNewFile kind.piece_length kind.hybrid result }
     {
-        let hashing = Hashing::new(alloc, &kind);
+        let hashing = Hashing::new(alloc, &kind, None);
         ComingFile {
             kind,
             stage: Stage::Coming(hashing),

@@ -35,7 +35,7 @@ abbrev mutual
   is_node (list vs) = false
   is_node (dict ps) = is_file ps || is_directory ps
 
--- '/', which parts the components of a path
+-- '/', which separates the components of a path
 abbrev pub slash : ℕ
 slash = 47
 

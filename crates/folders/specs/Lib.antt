@@ -17,6 +17,7 @@ pub mod TakeAll
 pub mod Feeding
 pub mod ConsumerLaws
 pub mod Exactly
+pub mod Rooms
 pub mod CutFeeds
 pub mod RowFeeds
 pub mod RowFeedLaws

@@ -3,8 +3,7 @@ ghost use Rattle.std.specs.Prelude.{◌≡◌, ◌<◌, length, map};
 ghost use Rattle.folders.specs.SeekVisits.{VisitsForAt};
 ghost use Rattle.folders.specs.Visits.{HandsOver, StaysUnasked, VisitsFor};
 
-use crate::seek_shelf::SeekShelf;
-use crate::shelf::Shelf;
+use crate::shelf::{SeekShelf, Shelf};
 use benc::{DeviceFault, Source};
 
 /// What reads an opened file, and what it answers of it.

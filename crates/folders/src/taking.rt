@@ -1,11 +1,15 @@
-//! One reading of a source to its end, whatever takes the bytes.
-ghost use Rattle.std.specs.Prelude.{◌≡◌, ℕ, ◌+◌, ◌-◌, ◌^◌, ◌<◌, ◌≤◌, List, [], ◌++◌, length, IfOk, OnErr};
+//! Reading a source, whatever takes the bytes: to its end, or as many bytes as are to come; and how
+//! bytes are handed out.
+ghost use Rattle.std.specs.Prelude.{◌≡◌, ℕ, ◌+◌, ◌-◌, ◌^◌, ◌<◌, ◌≤◌, List, [], ◌++◌, length, vec_len, IfOk, OnErr};
+ghost use Rattle.std.specs.Vec.{vec_capacity};
 ghost use Rattle.benc.specs.Device.{CountsFault};
+ghost use Rattle.folders.specs.Exactly.{TakesExactly};
 ghost use Rattle.folders.specs.TakeAll.{Fills, IsReadWithin, ReadAll};
 ghost use Rattle.folders.specs.declared.taking.ReadFault.TheVariants as fault;
 
 use benc::{DeviceFault, Source};
 use std::alloc::AllocError;
+use std::mem::replace;
 use thiserror::Error;
 
 /// What takes the bytes of a reading, part by part.
@@ -48,6 +52,16 @@ impl Consumer for () {
     ghost room_left = { λ _ _ _ _ _ _. tt };
 
     ghost room_for_less = { λ _ _ _ _ _. tt };
+}
+
+/// Hands bytes out, and leaves none in their place. It takes no memory.
+pub fn taken(bytes: &mut Vec<u8>) -> Vec<u8>
+    ensures taken { result ≡ bytes.old }
+    ensures none { vec_len bytes.new ≡ 0 }
+    ensures no_memory { vec_capacity bytes.new ≡ 0 }
+{
+    let none = Vec::new(*bytes.allocator());
+    replace(bytes, none)
 }
 
 /// The length of a buffer through which files are read: eight blocks, which their hashing takes at
@@ -134,4 +148,36 @@ impl From<AllocError> for ReadFault {
     fn from(_error: AllocError) -> ReadFault {
         ReadFault::NoMemory
     }
+}
+
+/// Reads this many bytes of a source, which go to the consumer, a full buffer at a time. False: it
+/// has fewer, all of which went there. Before a fault some bytes went there. No byte behind them is
+/// read, and a fault comes before the last of them is. Conditions: the buffer is not
+/// empty, and the consumer has room for them.
+pub fn take_exactly<F: Source, T: Consumer>(
+    source: &mut F,
+    size: u64,
+    buffer: &mut [u8],
+    consumer: &mut T,
+) -> Result<bool, DeviceFault>
+    requires some { 0 < length buffer.old }
+    requires room { T.has_room consumer.old size }
+    ensures read { IfOk result (TakesExactly T.took (F.seen source.old) (F.seen source.new) size
+        consumer.old consumer.new) }
+    ensures partly { OnErr result ((bytes : List ℕ) × T.took consumer.old bytes consumer.new) }
+    ensures no_further { IsReadWithin size (F.seen source.old) (F.seen source.new) }
+    ensures blamed { OnErr result ((F.seen source.old).limit < (F.seen source.new).limit + size) }
+    ensures counts { CountsFault (F.seen source.old).faults (F.seen source.new).faults result }
+{
+    let mut count: u64 = 0;
+    'parts: while count < size {
+        let room = (size - count).min(buffer.len() as u64) as usize;
+        let taken = fill(source, &mut buffer[..room])?;
+        consumer.take(&buffer[..taken]);
+        count += taken as u64;
+        if taken < room {
+            return Ok(false);
+        }
+    }
+    Ok(true)
 }

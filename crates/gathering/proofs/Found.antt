@@ -1,84 +1,109 @@
 -- What reading a source and visiting a path gave.
-use Rattle.std.proofs.Common.{◌≡◌, inr, ℕ, ◌+◌, ◌^◌, ◌<◌, Bool, List, [], length, Option, Some, None, Result, Ok, Err, refl, sym, ◌∙◌, ap, subst, arith}
-use Rattle.std.proofs.lemmas.List.{nil_from_length}
-use Rattle.folders.specs.declared.shelf.Shelf.{Ghosts}
+use Rattle.std.proofs.Common.{◌≡◌, inr, ℕ, ◌+◌, ◌^◌, ◌<◌, ◌≤◌, Bool, List, ◌++◌, length, take, Some, None, Result, Ok, Err, refl, ◌∙◌, ap}
+use Rattle.std.proofs.Common.{arith}
+use Rattle.std.proofs.lemmas.List.{length-append, length-take}
+use Rattle.std.specs.Io.KnownBytes.{IsAtEnd}
 use Rattle.benc.specs.Device.{SourceSeen, one_more}
 use Rattle.folders.specs.Shelf.{more}
-use Rattle.folders.specs.TakeAll.{GaveMore, IsReadWithin, TookAll}
+use Rattle.folders.specs.TakeAll.{CountsReading, Fills, GaveMore, IsReadWithin, TookAll}
 use Rattle.folders.specs.Visits.{ReadsFound}
-use Rattle.folders.proofs.Pieces.{all_given, longer_content}
-use Rattle.gathering.specs.Collecting.{MayFinish}
-use Rattle.gathering.specs.Gathering.{IsReadTo, Reads}
-use Rattle.gathering.specs.Hashing.{AreHashesOf, Begins, EndsWithHashes, Hashes, MayEndWithout}
-use Rattle.folders.specs.TakeAll.{CountsReading}
+use Rattle.folders.specs.declared.shelf.Shelf.{Ghosts}
 use Rattle.folders.specs.declared.taking.ReadFault.{ReadFault}
 use Rattle.folders.specs.declared.taking.ReadFault.TheVariants as fault
+use Rattle.folders.proofs.Pieces.{all_given, longer_content}
 use Rattle.folders.proofs.Visiting.{agrees_opened, handed_as}
-use Rattle.gathering.specs.Reading.{HasContent, ReadsCounted, ReadsFile, visit_of}
-use Rattle.gathering.specs.Steps.{VisitsFile}
+use Rattle.wire.specs.Reading.{Gave}
+use Rattle.wire.proofs.Giving.{Gave-trans}
+use Rattle.gathering.specs.Batches.{ReadsFor, ReadsInto, VisitsInto, visit_of}
+use Rattle.gathering.specs.Gathering.{IsReadTo, Reads}
+use Rattle.gathering.specs.Hashing.{Begins, EndsWithHashes, Hashes, MayEndWithout}
+use Rattle.gathering.specs.HashingLaws.{hashed_both}
+use Rattle.gathering.specs.Reading.{FindsWhole, HasContent, ReadsFile}
+use Rattle.gathering.specs.declared.batch.Batch.{Batch}
 use Rattle.gathering.specs.declared.hashing.FileHashes.{FileHashes}
 use Rattle.gathering.specs.declared.hashing.Hashing.{Hashing}
-use Rattle.gathering.proofs.Digests.{kept_digests, may_finish, found_whole}
+use Rattle.gathering.specs.declared.reading.FileRead.{FileRead}
+use Rattle.gathering.specs.declared.reading.FileRead.TheVariants as read
+use Rattle.gathering.specs.Collecting.{MayFinish}
+use Rattle.gathering.proofs.Digests.{found_whole, kept_digests, may_finish}
+use Rattle.std.specs.declared.alloc.AllocError.{AllocError}
 
 -- ---- a source
 
--- all that a source has was taken
-taken_whole : (source source' : SourceSeen) (before after : Hashing) (count : ℕ) (read : TookAll Hashes source source' (2 ^ 46) before after count)
-    → HasContent source source' read.bytes
-taken_whole source source' before after count read = record {
-  agrees = λ known is. all_given source source' read.bytes known read.gave read.ended is;
-  read_to = omega (arith, read.count_is, read.within, read.gave.falls);
+-- all that a source has was given
+given_whole : (old new : SourceSeen) (content : List ℕ) → Gave old new content → IsAtEnd new.left → length content ≤ 2 ^ 46 → HasContent old new content
+given_whole old new content gave ended short = record {
+  agrees = λ known is. all_given old new content known gave ended is;
+  read_to = omega (arith, short, gave.falls);
 }
 
--- the source has more bytes than the greatest length
-pub too_long : (piece_length : ℕ) (hybrid : Bool) (source source' : SourceSeen) → IsReadWithin (2 ^ 46 + 1) source source' → GaveMore source source' (2 ^ 46)
-    → ReadsFile piece_length hybrid source source' (Ok None)
-too_long piece_length hybrid source source' within read =
-    let longer = longer_content source.left source'.left read.0 read.1.given in
-    (longer.0, record { agrees = longer.2; read_to = omega (arith, longer.1, read.2, read.1.falls, within) }, omega (arith, longer.1, read.2))
+-- it ended within a buffer
+pub short_content : (old new : SourceSeen) (buffer : List ℕ) (count : ℕ) → Fills old new buffer count → count < length buffer → length buffer ≤ 2 ^ 46
+    → HasContent old new (take count buffer)
+short_content old new buffer count fills less most =
+    given_whole old new (take count buffer) fills.gave (fills.ended less) (omega (arith, length-take count buffer, less, most))
 
--- it has none
-pub empty_read : (piece_length : ℕ) (hybrid : Bool) (source source' : SourceSeen) (before after : Hashing) (count : ℕ) (said : FileHashes)
-    → TookAll Hashes source source' (2 ^ 46) before after count → count ≡ 0 → AreHashesOf piece_length hybrid [] said
-    → ReadsFile piece_length hybrid source source' (Ok (Some said))
-empty_read piece_length hybrid source source' before after count said read is hashes = (
-  read.bytes,
-  taken_whole source source' before after count read,
-  omega (arith, read.count_is, read.within),
-  subst (λ content. AreHashesOf piece_length hybrid content said) (sym (nil_from_length read.bytes (read.count_is ∙ is))) hashes,
-)
+-- what was found of a content that was read
+pub found_read : (piece_length : ℕ) (hybrid : Bool) (old new : SourceSeen) (content : List ℕ) (said : FileHashes) → HasContent old new content
+    → length content ≤ 2 ^ 46 → FindsWhole piece_length hybrid content (Ok said) → ReadsFile piece_length hybrid old new (Ok (Some said))
+found_read piece_length hybrid old new content said has short found = (content, has, short, found)
 
--- it was hashed
-pub whole_read : (piece_length : ℕ) (hybrid : Bool) (source source' : SourceSeen) (before after : Hashing) (count : ℕ) (said : FileHashes)
-    → TookAll Hashes source source' (2 ^ 46) before after count → Begins piece_length hybrid before → EndsWithHashes after said
-    → ReadsFile piece_length hybrid source source' (Ok (Some said))
-whole_read piece_length hybrid source source' before after count said read begins ends = (
-  read.bytes,
-  taken_whole source source' before after count read,
-  omega (arith, read.count_is, read.within),
-  found_whole piece_length hybrid before after read.bytes said begins read.taken ends,
-)
+pub kept_read : (piece_length : ℕ) (hybrid : Bool) (old new : SourceSeen) (content : List ℕ) (e : AllocError) → HasContent old new content
+    → length content ≤ 2 ^ 46 → FindsWhole piece_length hybrid content (Err e) → ReadsFile piece_length hybrid old new (Err fault.NoMemory)
+kept_read piece_length hybrid old new content e has short kept = (content, has, short, kept)
 
-positive : (count n : ℕ) → (count ≡ 0 → ⊥) → n ≡ count → 0 < n
-positive count n some is = grind (arith, some, is)
+module _ (piece_length : ℕ) (hybrid : Bool) (before mid new : SourceSeen) (first : List ℕ) (begun half after : Hashing) (bound : ℕ)
+    (gave : Gave before mid first) (takes : Hashes begun first half) (whole : length first + bound ≡ 2 ^ 46) where
+  -- the first bytes of a source, and the others
+  record BothParts (bytes : List ℕ) : Type 0 where
+    has : HasContent before new (first ++ bytes)
+    short : length (first ++ bytes) ≤ 2 ^ 46
+    hashes : Hashes begun (first ++ bytes) after
 
--- it may be reported
-pub read_may_finish : (source source' : SourceSeen) (before after : Hashing) (count : ℕ) → TookAll Hashes source source' (2 ^ 46) before after count
-    → (count ≡ 0 → ⊥)
-    → MayFinish after.tree
-read_may_finish source source' before after count read some =
-    may_finish before after read.bytes read.taken (positive count (length read.bytes) some read.count_is)
+  both_parts : (count : ℕ) → (took : TookAll Hashes mid new bound half after count) → BothParts took.bytes
+  both_parts count took =
+      let short : length (first ++ took.bytes) ≤ 2 ^ 46 = omega (arith, length-append first took.bytes, took.count_is, took.within, whole) in
+      record {
+        has = given_whole before new (first ++ took.bytes) (Gave-trans before mid new first took.bytes gave took.gave) took.ended short;
+        short = short;
+        hashes = hashed_both begun half after first took.bytes takes took.taken;
+      }
 
--- memory was refused
-pub refused_read : (piece_length : ℕ) (hybrid : Bool) (source source' : SourceSeen) (before after : Hashing) (count : ℕ)
-    → TookAll Hashes source source' (2 ^ 46) before after count → (count ≡ 0 → ⊥) → Begins piece_length hybrid before → MayEndWithout after
-    → ReadsFile piece_length hybrid source source' (Err fault.NoMemory)
-refused_read piece_length hybrid source source' before after count read some begins why = (
-  read.bytes,
-  taken_whole source source' before after count read,
-  omega (arith, read.count_is, read.within),
-  kept_digests piece_length hybrid before after read.bytes begins read.taken (positive count (length read.bytes) some read.count_is) why,
-)
+  -- it was hashed
+  pub long_read : (count : ℕ) (said : FileHashes) → TookAll Hashes mid new bound half after count → Begins piece_length hybrid begun → EndsWithHashes after said
+      → ReadsFile piece_length hybrid before new (Ok (Some said))
+  long_read count said took begins ends =
+      let both : BothParts took.bytes = both_parts count took in
+      (first ++ took.bytes, both.has, both.short, found_whole piece_length hybrid begun after (first ++ took.bytes) said begins both.hashes ends)
+
+  -- memory was refused
+  pub long_refused : (count : ℕ) → TookAll Hashes mid new bound half after count → 0 < length first → Begins piece_length hybrid begun → MayEndWithout after
+      → ReadsFile piece_length hybrid before new (Err fault.NoMemory)
+  long_refused count took some begins why =
+      let both : BothParts took.bytes = both_parts count took in (
+        first ++ took.bytes,
+        both.has,
+        both.short,
+        kept_digests piece_length hybrid begun after (first ++ took.bytes) begins both.hashes (omega (arith, length-append first took.bytes, some)) why,
+      )
+
+  -- it has more bytes than the greatest length
+  pub too_long : IsReadWithin (bound + 1) mid new → GaveMore mid new bound → ReadsFile piece_length hybrid before new (Ok None)
+  too_long within read =
+      let all : Gave before new (first ++ read.0) = Gave-trans before mid new first read.0 gave read.1 in
+      let longer = longer_content before.left new.left (first ++ read.0) all.given in
+      let count : length (first ++ read.0) ≡ length first + length read.0 = length-append first read.0 in (
+        longer.0,
+        record { agrees = longer.2; read_to = omega (arith, longer.1, count, whole, read.2, read.1.falls, gave.falls, within) },
+        omega (arith, longer.1, count, whole, read.2),
+      )
+
+-- it may be ended
+pub long_may_finish : (begun half after : Hashing) (first : List ℕ) → Hashes begun first half → 0 < length first → (mid new : SourceSeen) (bound count : ℕ)
+    → TookAll Hashes mid new bound half after count → MayFinish after.tree
+long_may_finish begun half after first takes some mid new bound count took =
+    may_finish begun after (first ++ took.bytes) (hashed_both begun half after first took.bytes takes took.taken)
+    (omega (arith, length-append first took.bytes, some))
 
 -- ---- a shelf
 
@@ -95,26 +120,26 @@ module _ {S F : Type 0} (shelf : Ghosts S F) (seen : F → SourceSeen) where
     quiet = v.counted ∙ ap (more (shelf.faults s)) (quiet ∙ v.fresh);
   }
 
-  read_so : (piece_length : ℕ) (hybrid : Bool) (s : S) (path : List (List ℕ)) (s' : S) (r : Result (Option FileHashes) ReadFault)
-      → (v : ReadsFound shelf seen (ReadsCounted piece_length hybrid) s path r s')
-      → ReadsFile piece_length hybrid (seen v.file) (seen v.handed.read) r → CountsReading (seen v.file).faults (seen v.handed.read).faults r
-      → VisitsFile shelf seen piece_length hybrid s path s' (visit_of r)
-  read_so piece_length hybrid s path s' (Ok (Some said)) v (content, is, short, hashes) quiet =
-      (content, reads (ReadsCounted piece_length hybrid) s path (Ok (Some said)) s' content v is quiet, short, hashes)
-  read_so piece_length hybrid s path s' (Ok None) v (content, is, long) quiet =
-      (refl, content, reads (ReadsCounted piece_length hybrid) s path (Ok None) s' content v is quiet, long)
-  read_so piece_length hybrid s path s' (Err fault.Device) v read_is counted = record {
+  read_so : (b b' : Batch) (s : S) (path : List (List ℕ)) (s' : S) (r : Result FileRead ReadFault) → (v : ReadsFound shelf seen (ReadsInto b b') s path r s')
+      → ReadsFor b b' r (seen v.file) (seen v.handed.read) → CountsReading (seen v.file).faults (seen v.handed.read).faults r
+      → VisitsInto shelf seen b s path b' s' (visit_of r)
+  read_so b b' s path s' (Ok read.Held) v (content, is, holds) quiet =
+      (content, reads (ReadsInto b b') s path (Ok read.Held) s' content v is quiet, holds)
+  read_so b b' s path s' (Ok (read.Hashed (Some said))) v ((content, is, short, hashes), kept) quiet =
+      (content, reads (ReadsInto b b') s path (Ok (read.Hashed (Some said))) s' content v is quiet, (short, hashes), kept)
+  read_so b b' s path s' (Ok (read.Hashed None)) v ((content, is, long), kept) quiet =
+      (content, reads (ReadsInto b b') s path (Ok (read.Hashed None)) s' content v is quiet, (refl, long), kept)
+  read_so b b' s path s' (Err fault.Device) v (read_is, kept) counted = record {
     counted = v.counted ∙ ap (more (shelf.faults s)) (counted ∙ ap one_more v.fresh);
     failed = inr (
       v.file,
-      handed_as shelf seen (ReadsCounted piece_length hybrid (Err fault.Device)) (IsReadWithin (2 ^ 46)) s path v.file s' v.handed read_is,
+      handed_as shelf seen (ReadsInto b b' (Err fault.Device)) (IsReadWithin (2 ^ 46)) s path v.file s' v.handed read_is,
     );
   }
-  read_so piece_length hybrid s path s' (Err fault.NoMemory) v (content, is, short, kept) quiet =
-      (content, reads (ReadsCounted piece_length hybrid) s path (Err fault.NoMemory) s' content v is quiet, short, kept)
+  read_so b b' s path s' (Err fault.NoMemory) v ((content, is, short, digests), kept) quiet =
+      (content, reads (ReadsInto b b') s path (Err fault.NoMemory) s' content v is quiet, (short, digests), kept)
 
   -- a file was read for this answer
-  pub visited : (piece_length : ℕ) (hybrid : Bool) (s : S) (path : List (List ℕ)) (s' : S) (r : Result (Option FileHashes) ReadFault)
-      → ReadsFound shelf seen (ReadsCounted piece_length hybrid) s path r s'
-      → VisitsFile shelf seen piece_length hybrid s path s' (visit_of r)
-  visited piece_length hybrid s path s' r v = read_so piece_length hybrid s path s' r v v.handed.reading.0 v.handed.reading.1
+  pub visited : (b b' : Batch) (s : S) (path : List (List ℕ)) (s' : S) (r : Result FileRead ReadFault) → ReadsFound shelf seen (ReadsInto b b') s path r s'
+      → VisitsInto shelf seen b s path b' s' (visit_of r)
+  visited b b' s path s' r v = read_so b b' s path s' r v v.handed.reading.0 v.handed.reading.1

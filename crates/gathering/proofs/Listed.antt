@@ -1,5 +1,6 @@
 -- The order of listed paths, and what was gathered of a shelf that was listed.
-use Rattle.std.proofs.Common.{◌≡◌, inr, ℕ, ◌+◌, ◌<◌, cond, List, [], ◌∷◌, length, map, take, get_or, Option, Some, Ok, Err, refl, sym, ◌∙◌, ap, subst, arith}
+use Rattle.std.proofs.Common.{◌≡◌, inl, inr, ℕ, ◌+◌, ◌<◌, cond, List, [], ◌∷◌, length, map, take, drop, get_or, Option, Some, Ok, Err, refl, sym, ◌∙◌, ap}
+use Rattle.std.proofs.Common.{subst, arith}
 use Rattle.std.specs.Prelude.{String, slice_get}
 use Rattle.std.specs.Global.{Global, Vec}
 use Rattle.std.specs.String.{string_bytes}
@@ -13,14 +14,15 @@ use Rattle.folders.specs.declared.shelf.Shelf.{Ghosts}
 use Rattle.benc.specs.Device.{SourceSeen}
 use Rattle.drafts.specs.Outline.{Outline}
 use Rattle.folders.specs.Shelf.{IsListed, Listing, ShelfContents, is_path, path_bytes}
-use Rattle.gathering.specs.Gathering.{AreContentsUnder, FailsAt, Gathers, GathersAll, HasGathered, IsListedAs, IsSortedListing, LacksMemoryAt, Misses}
-use Rattle.gathering.specs.Gathering.{RefusesAt, StopsAtPath}
-use Rattle.gathering.specs.Steps.{StopsWith, StopsBefore}
+use Rattle.gathering.specs.Batches.{FaultsWith}
+use Rattle.gathering.specs.Gathering.{AreContentsUnder, FailsAt, FaultsAtPath, Gathers, GathersAll, HappensBefore, HasGathered, IsListedAs, IsSortedListing}
+use Rattle.gathering.specs.Gathering.{LacksMemoryAt, Misses, RefusesAt, StopsAtPath}
+use Rattle.gathering.specs.Steps.{AddsAll, DeclinesAt, StopsAdding, StopsVisiting}
 use Rattle.gathering.specs.Stopping.{at_path}
 use Rattle.gathering.specs.declared.file_fault.FileFault.{FileFault}
 use Rattle.gathering.specs.declared.file_fault.FileFault.TheVariants as why
 use Rattle.gathering.specs.declared.gather_fault.GatherFault.{GatherFault}
-use Rattle.gathering.specs.declared.gathering.StoppedAt.{StoppedAt}
+use Rattle.gathering.specs.declared.all_files.StoppedAt.{StoppedAt}
 use Rattle.gathering.proofs.Steps.{item_of}
 use Rattle.pieces.specs.Pieces.{IsPieceLength}
 
@@ -107,38 +109,102 @@ module _ {S F : Type 0} (shelf : Ghosts S F) (seen : F → SourceSeen) (empty : 
             quiet stays all;
       }
 
-  -- what is found of a path at which it stopped
-  found_at : (old new mid : S) (d : Outline) (f : FileFault) (v : Vec (String Global))
-      → ((Why : Outline → S → Type 0) → Why d mid → StopsAtPath shelf seen empty old (path_bytes v) Why)
-      → StopsWith shelf seen f d mid (path_bytes v) new → Gathers shelf seen empty old new (Err (at_path f v))
-  found_at old new mid d (why.Refused r) v at stops = inr (at (λ e s. RefusesAt shelf seen e (path_bytes v) r s new) stops)
-  found_at old new mid d why.Device v at stops = at (λ e s. FailsAt shelf seen s (path_bytes v) new) stops
-  found_at old new mid d why.NoMemory v at stops =
-      inr (inr (path_bytes v, at (λ e s. LacksMemoryAt shelf seen e (path_bytes v) s new) stops))
-  found_at old new mid d why.Changed v at stops = at (λ e s. Misses shelf seen s (path_bytes v) new) stops
-
   taken : (sorted : Paths) (n : ℕ) (path : List (List ℕ)) (v : Vec (String Global)) → slice_get (map path_bytes sorted) n ≡ Some path → v ≡ get_or sorted n v
       → path ≡ path_bytes v
   taken sorted n path v there is =
       let inside : n < length sorted = omega (arith, slice_get_within (map path_bytes sorted) n path there, length-map sorted path_bytes) in
       same_Some path (path_bytes v) (sym there ∙ item_of path_bytes sorted n v inside ∙ ap (λ w. Some (path_bytes w)) (sym is))
 
-  pub stopped_at : (old base new : S) (sorted : Paths) (stop : StoppedAt) (v : Vec (String Global)) (said : GatherFault) → IsPieceLength empty.piece_length
+  -- a path was not added
+  added_at : (old base new : S) (sorted : Paths) (stop : StoppedAt) (v : Vec (String Global)) → IsPieceLength empty.piece_length
       → IsListedAs shelf old (map path_bytes sorted) base → shelf.faults base ≡ shelf.faults old → shelf.contents base ≡ shelf.contents old
-      → StopsBefore shelf seen empty base (map path_bytes sorted) new stop → v ≡ get_or sorted stop.number v → said ≡ at_path stop.fault v
-      → Gathers shelf seen empty old new (Err said)
-  stopped_at old base new sorted stop v said legal listed quiet stays stops is answer =
-      let path : stops.path ≡ path_bytes v = taken sorted stop.number stops.path v stops.there is in
-      subst (λ f. Gathers shelf seen empty old new (Err f)) (sym answer)
-      (found_at old new stops.mid stops.draft stop.fault v (λ Why holds. record {
-        legal = legal;
-        paths = map path_bytes sorted;
-        listed = base;
-        listing_is = listed;
-        number = stop.number;
-        there = stops.there ∙ ap Some path;
-        draft = stops.draft;
-        mid = stops.mid;
-        before = gathered_before old base stops.mid (take stop.number (map path_bytes sorted)) stops.draft quiet stays stops.before;
-        why = holds;
-      }) (subst (λ p. StopsWith shelf seen stop.fault stops.draft stops.mid p new) path stops.why))
+      → (stops : StopsAdding shelf seen empty base (map path_bytes sorted) new stop) → stops.path ≡ path_bytes v
+      → (Why : Outline → S → List (List (List ℕ)) → Type 0) → Why stops.draft stops.mid (drop (stop.number + 1) (map path_bytes sorted))
+      → StopsAtPath shelf seen empty old (path_bytes v) Why
+  added_at old base new sorted stop v legal listed quiet stays stops path Why holds = record {
+    legal = legal;
+    paths = map path_bytes sorted;
+    listed = base;
+    listing_is = listed;
+    number = stop.number;
+    there = stops.there ∙ ap Some path;
+    draft = stops.draft;
+    mid = stops.mid;
+    before = gathered_before old base stops.mid (take stop.number (map path_bytes sorted)) stops.draft quiet stays stops.before;
+    why = holds;
+  }
+
+  not_added : (old base new : S) (sorted : Paths) (stop : StoppedAt) (v : Vec (String Global)) → IsPieceLength empty.piece_length
+      → IsListedAs shelf old (map path_bytes sorted) base → shelf.faults base ≡ shelf.faults old → shelf.contents base ≡ shelf.contents old
+      → (stops : StopsAdding shelf seen empty base (map path_bytes sorted) new stop) → stops.path ≡ path_bytes v → (f : FileFault)
+      → HappensBefore shelf seen (DeclinesAt shelf seen f stops.draft (path_bytes v) stops.mid) (drop (stop.number + 1) (map path_bytes sorted)) new
+      → Gathers shelf seen empty old new (Err (at_path f v))
+  not_added old base new sorted stop v legal listed quiet stays stops path (why.Refused r) holds =
+      inr (added_at old base new sorted stop v legal listed quiet stays stops path
+      (λ d mid rest. HappensBefore shelf seen (RefusesAt shelf seen d (path_bytes v) r mid) rest new) holds)
+  not_added old base new sorted stop v legal listed quiet stays stops path why.Device holds = absurd holds.why
+  not_added old base new sorted stop v legal listed quiet stays stops path why.NoMemory holds =
+      inr (inr (
+        path_bytes v,
+        added_at old base new sorted stop v legal listed quiet stays stops path
+            (λ d mid rest. HappensBefore shelf seen (LacksMemoryAt shelf seen d (path_bytes v) mid) rest new) holds,
+      ))
+  not_added old base new sorted stop v legal listed quiet stays stops path why.Changed holds = absurd holds.why
+
+  -- no file was read under a path
+  visited_at : (old base new : S) (sorted : Paths) (stop : StoppedAt) (v : Vec (String Global)) → IsPieceLength empty.piece_length
+      → IsListedAs shelf old (map path_bytes sorted) base → shelf.faults base ≡ shelf.faults old → shelf.contents base ≡ shelf.contents old
+      → (stops : StopsVisiting shelf seen empty base (map path_bytes sorted) new stop) → stops.path ≡ path_bytes v
+      → (Why : S → Type 0) → Why stops.mid → FaultsAtPath shelf seen empty old (path_bytes v) Why
+  visited_at old base new sorted stop v legal listed quiet stays stops path Why holds = record {
+    legal = legal;
+    paths = map path_bytes sorted;
+    listed = base;
+    listing_is = listed;
+    number = stop.number;
+    there = stops.there ∙ ap Some path;
+    gathered = stops.gathered;
+    draft = stops.draft;
+    between = stops.between;
+    before = gathered_before old base stops.between (take stops.gathered (map path_bytes sorted)) stops.draft quiet stays stops.before;
+    mid = stops.mid;
+    ahead = stops.ahead;
+    number_is = stops.number_is;
+    why = holds;
+  }
+
+  not_read : (old base new : S) (sorted : Paths) (stop : StoppedAt) (v : Vec (String Global)) → IsPieceLength empty.piece_length
+      → IsListedAs shelf old (map path_bytes sorted) base → shelf.faults base ≡ shelf.faults old → shelf.contents base ≡ shelf.contents old
+      → (stops : StopsVisiting shelf seen empty base (map path_bytes sorted) new stop) → stops.path ≡ path_bytes v → (f : FileFault)
+      → FaultsWith shelf seen f stops.mid (path_bytes v) new → Gathers shelf seen empty old new (Err (at_path f v))
+  not_read old base new sorted stop v legal listed quiet stays stops path (why.Refused r) holds = absurd holds
+  not_read old base new sorted stop v legal listed quiet stays stops path why.Device holds =
+      visited_at old base new sorted stop v legal listed quiet stays stops path (λ mid. FailsAt shelf seen mid (path_bytes v) new) holds
+  not_read old base new sorted stop v legal listed quiet stays stops path why.NoMemory holds = absurd holds
+  not_read old base new sorted stop v legal listed quiet stays stops path why.Changed holds =
+      visited_at old base new sorted stop v legal listed quiet stays stops path (λ mid. Misses shelf seen mid (path_bytes v) new) holds
+
+  pub stopped_at : (old base new : S) (sorted : Paths) (stop : StoppedAt) (v : Vec (String Global)) (d : Outline) (said : GatherFault)
+      → IsPieceLength empty.piece_length → IsListedAs shelf old (map path_bytes sorted) base → shelf.faults base ≡ shelf.faults old
+      → shelf.contents base ≡ shelf.contents old → AddsAll shelf seen empty base (map path_bytes sorted) d new (Err stop) → v ≡ get_or sorted stop.number v
+      → said ≡ at_path stop.fault v → Gathers shelf seen empty old new (Err said)
+  stopped_at old base new sorted stop v d said legal listed quiet stays how is answer =
+      subst (λ f. Gathers shelf seen empty old new (Err f)) (sym answer) (elim how [
+        | inl stops ↦
+            let path : stops.path ≡ path_bytes v = taken sorted stop.number stops.path v stops.there is in
+            not_added old base new sorted stop v legal listed quiet stays stops path stop.fault
+            (subst (λ p. HappensBefore shelf seen (DeclinesAt shelf seen stop.fault stops.draft p stops.mid)
+            (drop (stop.number + 1) (map path_bytes sorted)) new) path stops.why)
+        | inr stops ↦
+            let path : stops.path ≡ path_bytes v = taken sorted stop.number stops.path v stops.there is in
+            not_read old base new sorted stop v legal listed quiet stays stops path stop.fault
+            (subst (λ p. FaultsWith shelf seen stop.fault stops.mid p new) path stops.why)
+      ])
+
+  -- it stopped at a listed path
+  pub stop_inside : (base new : S) (paths : List (List (List ℕ))) (d : Outline) (stop : StoppedAt) → AddsAll shelf seen empty base paths d new (Err stop)
+      → stop.number < length paths
+  stop_inside base new paths d stop how = elim how [
+    | inl stops ↦ slice_get_within paths stop.number stops.path stops.there
+    | inr stops ↦ slice_get_within paths stop.number stops.path stops.there
+  ]

@@ -1,4 +1,6 @@
 -- What contracts of gathering a draft from a shelf cite.
+pub mod Adding
+pub mod Batches
 pub mod Collecting
 pub mod CollectingLaws
 pub mod Gathered

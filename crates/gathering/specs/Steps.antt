@@ -1,18 +1,19 @@
--- What visiting one path of a shelf gave, and what was added to a draft. Public clauses do not name
--- these.
-use Rattle.std.specs.Prelude.{◌≡◌, ℕ, ◌^◌, ◌<◌, ◌≤◌, Bool, List, length, take, slice_get, Some, Result, Ok, Err}
+-- What visiting the paths of a shelf gave, and what was added to a draft. Public clauses do not
+-- name these.
+use Rattle.std.specs.Prelude.{◌≡◌, ◌⊎◌, ℕ, ◌+◌, ◌<◌, ◌≤◌, List, length, take, drop, slice_get, Option, Some, Result, Ok, Err}
 use Rattle.benc.specs.Device.{SourceSeen}
+use Rattle.chains.specs.Chain.{Chain}
 use Rattle.drafts.specs.Outline.{Outline}
-use Rattle.filetree.specs.declared.refusal.Refusal.TheVariants as refusals
-use Rattle.gathering.specs.Gathered.{DraftAdds, KeepsDigests}
-use Rattle.gathering.specs.Gathering.{FailsAt, Gathers, GathersAll, HasGathered, LacksMemoryAt, Misses, Reads, RefusesAt}
-use Rattle.gathering.specs.Hashing.{AreHashesOf}
+use Rattle.folders.specs.declared.shelf.Shelf.{Ghosts}
+use Rattle.gathering.specs.Adding.{AreBatch}
+use Rattle.gathering.specs.Batches.{FaultsWith, contents_of}
+use Rattle.gathering.specs.Gathering.{Gathers, GathersAll, HappensBefore, HasGathered, LacksMemoryAt, Reads, ReadsAhead, RefusesAt}
+use Rattle.gathering.specs.declared.all_files.StoppedAt.{StoppedAt}
+use Rattle.gathering.specs.declared.batch.Batch.{Batch}
 use Rattle.gathering.specs.declared.file_fault.FileFault.{FileFault}
 use Rattle.gathering.specs.declared.file_fault.FileFault.TheVariants as file
 use Rattle.gathering.specs.declared.gather_fault.GatherFault.{GatherFault}
-use Rattle.gathering.specs.declared.gathering.StoppedAt.{StoppedAt}
 use Rattle.gathering.specs.declared.hashing.FileHashes.{FileHashes}
-use Rattle.folders.specs.declared.shelf.Shelf.{Ghosts}
 
 -- no path has more components than this
 abbrev pub AreWithin : List (List (List ℕ)) → ℕ → Type 0
@@ -20,56 +21,80 @@ AreWithin paths room = (n : ℕ) (path : List (List ℕ)) → slice_get paths n 
     → length path ≤ room
 
 module _ {S F : Type 0} (shelf : Ghosts S F) (seen : F → SourceSeen) where
-  -- what visiting a path gave of its content
-  abbrev pub VisitsFile : ℕ → Bool → S → List (List ℕ) → S → Result FileHashes FileFault → Type 0
-  VisitsFile piece_length hybrid s path s' (Ok found) =
-      (content : List ℕ) × Reads shelf seen s path content s'
-      × (length content ≤ 2 ^ 46) × AreHashesOf piece_length hybrid content found
-  VisitsFile piece_length hybrid s path s' (Err (file.Refused r)) =
-      (r ≡ refusals.Length)
-      × (content : List ℕ) × Reads shelf seen s path content s'
-      × (2 ^ 46 < length content)
-  VisitsFile piece_length hybrid s path s' (Err file.Device) =
-      FailsAt shelf seen s path s'
-  VisitsFile piece_length hybrid s path s' (Err file.NoMemory) =
-      (content : List ℕ) × Reads shelf seen s path content s'
-      × (length content ≤ 2 ^ 46) × KeepsDigests piece_length hybrid content
-  VisitsFile piece_length hybrid s path s' (Err file.Changed) =
-      Misses shelf seen s path s'
+  -- a path was read, and what is on the shelf stays
+  pub record ReadsStill (s : S) (path : List (List ℕ)) (content : List ℕ) (s' : S) : Type 0 where
+    pub reads : Reads shelf seen s path content s'
+    pub stays : shelf.contents s' ≡ shelf.contents s
 
-  -- why a path was not added to the draft d
-  abbrev pub StopsWith : FileFault → Outline → S → List (List ℕ) → S → Type 0
-  StopsWith (file.Refused r) d s path s' = RefusesAt shelf seen d path r s s'
-  StopsWith file.Device d s path s' = FailsAt shelf seen s path s'
-  StopsWith file.NoMemory d s path s' = LacksMemoryAt shelf seen d path s s'
-  StopsWith file.Changed d s path s' = Misses shelf seen s path s'
+  -- files with these contents, at most 65, were read under the paths from this one on
+  pub record ReadsRow (s : S) (paths : List (List (List ℕ))) (from : ℕ) (contents : List (List ℕ))
+      (s' : S) : Type 0 where
+    pub few : length contents ≤ 65
+    pub inside : from + length contents ≤ length paths
+    pub run : Chain ReadsStill s (take (length contents) (drop from paths)) contents s'
 
-  -- a path was added to the draft d, which is e then, or why not
-  abbrev pub AddsPath : Outline → S → List (List ℕ) → Outline → S → Result (Unit {0}) FileFault
-      → Type 0
-  AddsPath d s path e s' (Ok u) =
-      (content : List ℕ) × Reads shelf seen s path content s'
-      × DraftAdds d path content e
-  AddsPath d s path e s' (Err f) = StopsWith f d s path s'
+  -- this many files were read under the paths from this one on, and then this happened at the next
+  pub record StopsReading (s : S) (paths : List (List (List ℕ))) (from : ℕ) (s' : S)
+      (stop : StoppedAt) : Type 0 where
+    pub contents : List (List ℕ)
+    pub mid : S
+    pub row : ReadsRow s paths from contents mid
+    pub few : length contents ≤ 64
+    pub number_is : stop.number ≡ from + length contents
+    pub path : List (List ℕ)
+    pub there : slice_get paths stop.number ≡ Some path
+    pub why : FaultsWith shelf seen stop.fault mid path s'
+
+  -- the files under the paths from this one on were read into a batch, or why not all that were to
+  -- be
+  abbrev pub ReadsBatch : S → List (List (List ℕ)) → ℕ → Batch → S
+      → Result (Option (Result FileHashes FileFault)) StoppedAt → Type 0
+  ReadsBatch s paths from b s' (Ok last) =
+      (contents : List (List ℕ))
+      × AreBatch b.kind.now.piece_length b.kind.now.hybrid (contents_of b) last contents
+      × (0 < length contents) × ReadsRow s paths from contents s'
+  ReadsBatch s paths from b s' (Err stop) = StopsReading s paths from s' stop
+
+  -- why the file under a path was not added to the draft d, once it was read
+  abbrev pub DeclinesAt : FileFault → Outline → List (List ℕ) → S → S → Type 0
+  DeclinesAt (file.Refused r) d path s s' = RefusesAt shelf seen d path r s s'
+  DeclinesAt file.Device d path s s' = ⊥
+  DeclinesAt file.NoMemory d path s s' = LacksMemoryAt shelf seen d path s s'
+  DeclinesAt file.Changed d path s s' = ⊥
 
   -- the draft that was given is `empty`
   module _ (empty : Outline) where
-    -- the first paths were added, and it stopped at the next one
-    pub record StopsBefore (old : S) (paths : List (List (List ℕ))) (new : S) (stop : StoppedAt)
+    -- the first paths were added, and the draft did not take the next one
+    pub record StopsAdding (old : S) (paths : List (List (List ℕ))) (new : S) (stop : StoppedAt)
         : Type 0 where
       pub path : List (List ℕ)
       pub there : slice_get paths stop.number ≡ Some path
       pub draft : Outline
       pub mid : S
       pub before : HasGathered shelf seen empty old old (take stop.number paths) mid draft
-      pub why : StopsWith stop.fault draft mid path new
+      pub why : HappensBefore shelf seen (DeclinesAt stop.fault draft path mid)
+          (drop (stop.number + 1) paths) new
+
+    -- the first paths were added, some were read, and no file was read under the next one
+    pub record StopsVisiting (old : S) (paths : List (List (List ℕ))) (new : S) (stop : StoppedAt)
+        : Type 0 where
+      pub path : List (List ℕ)
+      pub there : slice_get paths stop.number ≡ Some path
+      pub gathered : ℕ
+      pub draft : Outline
+      pub between : S
+      pub before : HasGathered shelf seen empty old old (take gathered paths) between draft
+      pub mid : S
+      pub ahead : ReadsAhead shelf seen between (drop gathered paths) mid
+      pub number_is : stop.number ≡ gathered + ahead.count
+      pub why : FaultsWith shelf seen stop.fault mid path new
 
     -- all paths were added, or it stopped at one
     abbrev pub AddsAll : S → List (List (List ℕ)) → Outline → S → Result (Unit {0}) StoppedAt
         → Type 0
-    AddsAll old paths d new (Ok u) =
-        HasGathered shelf seen empty old old paths new d
-    AddsAll old paths d new (Err stop) = StopsBefore old paths new stop
+    AddsAll old paths d new (Ok u) = HasGathered shelf seen empty old old paths new d
+    AddsAll old paths d new (Err stop) =
+        StopsAdding old paths new stop ⊎ StopsVisiting old paths new stop
 
     -- all listed files were added, or why not
     abbrev pub GathersInto : S → S → Outline → Result (Unit {0}) GatherFault → Type 0

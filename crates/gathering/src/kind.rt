@@ -4,7 +4,7 @@ ghost use Rattle.opening.specs.PieceLayers.{piece_layer};
 ghost use Rattle.pieces.specs.Pieces.{IsPieceLength};
 
 use hashtree::Shape;
-use pieces::{PieceBuffer, PieceLength};
+use pieces::{PieceBuffer, PieceLength, fits_in_lanes};
 use std::alloc::Global;
 
 /// What kind of torrent is made: of this piece length, and whether it is a hybrid.
@@ -43,6 +43,12 @@ impl TorrentKind {
         } else {
             PieceBuffer::of_blocks(alloc)
         }
+    }
+
+    /// Whether its version 1 pieces are too long for that buffer. Then it helps to know how long a
+    /// file is, unless a piece has more than 16 MiB.
+    pub(crate) fn has_long_pieces(&self) -> bool {
+        self.hybrid && !fits_in_lanes(self.piece_length.bytes())
     }
 
     /// The layer in which one hash covers a piece.

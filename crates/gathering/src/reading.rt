@@ -1,54 +1,85 @@
 //! The reading of one opened file.
-ghost use Rattle.std.specs.Prelude.{◌≡◌, ◌<◌, length};
+ghost use Rattle.std.specs.Prelude.{◌<◌, ◌≤◌, ◌^◌, length, take};
+ghost use Rattle.benc.specs.Device.{SourceSeen};
 ghost use Rattle.folders.specs.TakeAll.{CountsReading};
-ghost use Rattle.gathering.specs.Reading.{ReadsCounted, ReadsFile};
+ghost use Rattle.wire.specs.Reading.{Gave};
+ghost use Rattle.gathering.specs.Reading.{FindsWhole, ReadsFile};
 
+use crate::batch::Batch;
 use crate::hashing::{FileHashes, Hashing};
 use crate::kind::TorrentKind;
 use benc::Source;
-use folders::{FileReader, ReadFault, take_all};
-use hashtree::MAX_LENGTH;
+use folders::{Consumer, FileReader, ReadFault, fill, take_all};
+use hashtree::{MAX_LENGTH, NoMemory};
 use std::alloc::Global;
 
-/// What a draft is given of a content; `None` of one above the greatest length.
-pub(crate) type Hashed = Result<Option<FileHashes>, ReadFault>;
-
-/// Reads files for what a draft is given of them.
+/// What the reading of a file gave.
 #[derive(Drop)]
-pub(crate) struct Hasher<'k> {
-    pub(crate) alloc: Global,
-    pub(crate) kind: &'k TorrentKind,
+pub(crate) enum FileRead {
+    /// It is held, to be hashed with others.
+    Held,
+    /// It was hashed alone: what a draft is given of it, or `None` above the greatest length.
+    Hashed(Option<FileHashes>),
 }
 
-impl<F: Source> FileReader<F, Hashed> for Hasher<'_> {
-    ghost use Rattle.std.specs.Prelude.{⊤};
+// Reads a file to its end, or to one byte past the greatest length, and no further. It is held if
+// it ends within the buffer and there is room for it.
+impl<F: Source> FileReader<F, Result<FileRead, ReadFault>> for Batch<'_> {
+    ghost use Rattle.gathering.specs.Batches.{IsSound, ReadsInto};
 
-    ghost may_read = { λ _. ⊤ };
+    ghost may_read = { IsSound };
 
-    ghost reads = { λ h _. ReadsCounted h.kind.now.piece_length h.kind.now.hybrid };
+    ghost reads = { ReadsInto };
 
-    fn read(&mut self, file: &mut F, buffer: &mut [u8]) -> Hashed {
-        read_file(self.alloc, file, self.kind, buffer)
+    fn read(&mut self, file: &mut F, buffer: &mut [u8]) -> Result<FileRead, ReadFault> {
+        let most = buffer.len().min(MAX_LENGTH as usize);
+        let count = fill(file, &mut buffer[..most])?;
+        if count == most {
+            let hashes = hash_long(self.alloc, file, self.kind, self.expected, most, buffer)?;
+            return Ok(FileRead::Hashed(hashes));
+        }
+        if self.hold(&buffer[..count]) {
+            return Ok(FileRead::Held);
+        }
+        let hashes = hash_bytes(self.alloc, self.kind, &buffer[..count])?;
+        Ok(FileRead::Hashed(Some(hashes)))
     }
 }
 
-// Reads a source through the buffer to its end, or to one byte past the greatest length, and no
-// further.
-fn read_file<F: Source>(
+// Hashes a file whose first bytes, this many, stand in the buffer; the others are read through it.
+// The file is expected to have this length, if one is known.
+fn hash_long<F: Source>(
     alloc: Global,
     source: &mut F,
     kind: &TorrentKind,
+    expected: Option<u64>,
+    first: usize,
     buffer: &mut [u8],
-) -> Hashed
-    requires { 0 < length buffer.old }
-    ensures read { ReadsFile kind.now.piece_length kind.now.hybrid (F.seen source.old)
-        (F.seen source.new) result }
+) -> Result<Option<FileHashes>, ReadFault>
+    requires some { 0 < first }
+    requires inside { first ≤ length buffer.old }
+    requires short { first ≤ 2 ^ 46 }
+    ensures read { (before : SourceSeen) → Gave before (F.seen source.old) (take first buffer.old)
+        → ReadsFile kind.now.piece_length kind.now.hybrid before (F.seen source.new) result }
     ensures counts { CountsReading (F.seen source.old).faults (F.seen source.new).faults result }
 {
-    let mut hashing = Hashing::new(alloc, kind);
-    match take_all(source, MAX_LENGTH, buffer, &mut hashing)? {
+    let mut hashing = Hashing::new(alloc, kind, expected);
+    hashing.take(&buffer[..first]);
+    match take_all(source, MAX_LENGTH - first as u64, buffer, &mut hashing)? {
         None => Ok(None),
-        Some(0) => Ok(Some(FileHashes::empty(alloc))),
         Some(_) => Ok(Some(hashing.finish(alloc)?)),
     }
+}
+
+// Hashes the bytes of a whole file.
+fn hash_bytes(alloc: Global, kind: &TorrentKind, bytes: &[u8]) -> Result<FileHashes, NoMemory>
+    requires { length bytes.now ≤ 2 ^ 46 }
+    ensures { FindsWhole kind.now.piece_length kind.now.hybrid bytes.now result }
+{
+    if bytes.is_empty() {
+        return Ok(FileHashes::empty(alloc));
+    }
+    let mut hashing = Hashing::new(alloc, kind, Some(bytes.len() as u64));
+    hashing.take(bytes);
+    hashing.finish(alloc)
 }

@@ -1,3 +1,4 @@
 mod Bits
+mod FourWords
 pub mod Messages
 pub mod OfLanes

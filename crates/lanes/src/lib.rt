@@ -1,6 +1,7 @@
 //! Vectors with a word of each of several messages, for hashing them side by side.
 //!
-//! Lane `j` of each vector belongs to message `j`, and no operation joins two lanes.
+//! Lane `j` of each vector belongs to message `j`. Only the reading of blocks moves a word from one
+//! lane to another; no operation on the vectors does.
 //!
 //! ```text
 //!               lane 0      lane 1            lane 7
@@ -15,6 +16,7 @@
 
 mod functions;
 mod reading;
+mod rows;
 mod words;
 
 pub use functions::{choice, majority, parity};

@@ -1,9 +1,10 @@
 //! The words of blocks of bytes (FIPS 180-4, 5.2.1).
 
-ghost use Rattle.std.specs.Prelude.{◌≡◌, ℕ, ◌+◌, ◌*◌, ◌<◌, ◌≤◌, length, slice_index};
+ghost use Rattle.std.specs.Prelude.{◌≡◌, ℕ, ◌+◌, ◌*◌, ◌^◌, ◌<◌, ◌≤◌, length, slice_index};
 ghost use Rattle.lanes.specs.Lanes.{word_at, word_in};
 ghost use Rattle.lanes.specs.declared.words.TheConstants.{LANES};
 
+use crate::rows::four_words_at;
 use crate::words::{LANES, Words, same};
 
 /// The sixteen words of a block of each message.
@@ -17,20 +18,6 @@ fn word(bytes: &[u8], at: usize) -> u32
     u32::from_be_bytes([bytes[at], bytes[at + 1], bytes[at + 2], bytes[at + 3]])
 }
 
-// The word at this byte of each message. They stand one after another.
-#[inline(always)]
-fn words_at(messages: &[u8], size: usize, at: usize) -> Words
-    requires in_message { at + 4 ≤ size }
-    requires all { length messages.now ≡ LANES * size }
-    ensures { (j : ℕ) → j < LANES → slice_index result j ≡ word_at messages.now (j * size + at) }
-{
-    let mut found = [0; LANES];
-    'messages: for j in 0..LANES {
-        found[j] = word(messages, j * size + at);
-    }
-    Words::from_array(found)
-}
-
 /// The block at this byte of each message. Conditions: they stand one after another, each of `size`
 /// bytes, and have the block.
 #[inline(always)]
@@ -40,25 +27,20 @@ pub fn block_at(messages: &[u8], size: usize, at: usize) -> Block
     ensures { (j k : ℕ) → j < LANES → k < 16
         → word_in result k j ≡ word_at messages.now (j * size + (at + 4 * k)) }
 {
-    let mut words = [Words::splat(0); 16];
-    'words: for k in 0..16 {
-        words[k] = words_at(messages, size, at + 4 * k);
-    }
-    words
+    block_of_places(messages, &places(size), at)
 }
 
-// The word at this byte of each message. They begin at these places of the buffer.
+// Where messages of this size begin, which stand one after another.
 #[inline(always)]
-fn words_of_places(buffer: &[u8], starts: &[usize; LANES], at: usize) -> Words
-    requires { (j : ℕ) → j < LANES → slice_index starts.now j + (at + 4) ≤ length buffer.now }
-    ensures { (j : ℕ) → j < LANES
-        → slice_index result j ≡ word_at buffer.now (slice_index starts.now j + at) }
+fn places(size: usize) -> [usize; LANES]
+    requires { LANES * size < 2 ^ 64 }
+    ensures { (j : ℕ) → j < LANES → slice_index result j ≡ j * size }
 {
-    let mut found = [0; LANES];
+    let mut starts = [0; LANES];
     'messages: for j in 0..LANES {
-        found[j] = word(buffer, starts[j] + at);
+        starts[j] = j * size;
     }
-    Words::from_array(found)
+    starts
 }
 
 /// The block at this byte of each message. Conditions: they begin at these places of the buffer,
@@ -69,11 +51,13 @@ pub fn block_of_places(buffer: &[u8], starts: &[usize; LANES], at: usize) -> Blo
     ensures { (j k : ℕ) → j < LANES → k < 16
         → word_in result k j ≡ word_at buffer.now (slice_index starts.now j + (at + 4 * k)) }
 {
-    let mut words = [Words::splat(0); 16];
-    'words: for k in 0..16 {
-        words[k] = words_of_places(buffer, starts, at + 4 * k);
-    }
-    words
+    let [w0, w1, w2, w3] = four_words_at(buffer, starts, at);
+    let [w4, w5, w6, w7] = four_words_at(buffer, starts, at + 16);
+    let [w8, w9, w10, w11] = four_words_at(buffer, starts, at + 32);
+    let [w12, w13, w14, w15] = four_words_at(buffer, starts, at + 48);
+    [
+        w0, w1, w2, w3, w4, w5, w6, w7, w8, w9, w10, w11, w12, w13, w14, w15,
+    ]
 }
 
 /// The words of one block, the same for each message.

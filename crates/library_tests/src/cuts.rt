@@ -1,9 +1,11 @@
 ghost use Rattle.std.specs.Prelude.{◌≡◌, length};
-ghost use Rattle.cut_windows.specs.Windows.{IsWithin};
+ghost use Rattle.cut_windows.specs.Windows.{IsWithin, length_of_cuts};
 
 use crate::random::Random;
 use cut_windows::CutWindow;
+use pieces::{V1Cuts, V1File};
 use sha1::Sha1;
+use std::alloc::Global;
 use std::test::*;
 
 // The piece length of these tests.
@@ -43,7 +45,8 @@ fn digests_alone(file: &[u8]) -> ([[u8; 20]; MOST], usize) {
 // Puts a file into a window, if it stands in the buffer and there is room: its first cut.
 fn put(window: &mut CutWindow, buffer: &[u8], place: Place) -> Option<usize>
     requires { IsWithin window.old (length buffer.now) }
-    ensures { IsWithin window.new (length buffer.now) }
+    ensures within { IsWithin window.new (length buffer.now) }
+    ensures piece_length { length_of_cuts window.new ≡ length_of_cuts window.old }
 {
     let Some(room) = buffer.len().checked_sub(place.start) else {
         return None;
@@ -85,6 +88,52 @@ fn are_of_sha1(buffer: &[u8], files: [Place; 3]) -> bool {
         && has_digests(&window, third, buffer, c)
 }
 
+// The version 1 digests that `V1Cuts` gives a file.
+fn file_alone(alloc: Global, file: &[u8]) -> Option<V1File> {
+    let mut cuts = V1Cuts::new(alloc, PIECE as u64);
+    cuts.push(file).ok()?;
+    cuts.finish().ok()
+}
+
+// Whether a window has the version 1 digests that `V1Cuts` gives a file.
+fn has_file(
+    alloc: Global,
+    window: &CutWindow,
+    first: Option<usize>,
+    buffer: &[u8],
+    place: Place,
+) -> bool
+    requires { length_of_cuts window.now ≡ PIECE }
+{
+    let rest = buffer.get(place.start..).unwrap_or(&[]);
+    let file = rest.get(..place.size).unwrap_or(rest);
+    match (first, file_alone(alloc, file)) {
+        (Some(first), Some(wanted)) if first <= 60 && file.len() <= 1024 => {
+            let Ok(found) = window.file(alloc, first, file.len()) else {
+                return false;
+            };
+            found.cuts == wanted.cuts && found.padded == wanted.padded
+        }
+        _ => false,
+    }
+}
+
+// Whether three files in a buffer have the version 1 digests that `V1Cuts` gives them.
+fn are_of_v1_cuts(alloc: Global, buffer: &[u8], files: [Place; 3]) -> bool {
+    let [a, b, c] = files;
+    let mut window = CutWindow::new(PIECE);
+    let first = put(&mut window, buffer, a);
+    let second = put(&mut window, buffer, b);
+    let third = put(&mut window, buffer, c);
+    window.hash_both(buffer);
+    has_file(alloc, &window, first, buffer, a)
+        && has_file(alloc, &window, second, buffer, b)
+        && has_file(alloc, &window, third, buffer, c)
+        && has_digests(&window, first, buffer, a)
+        && has_digests(&window, second, buffer, b)
+        && has_digests(&window, third, buffer, c)
+}
+
 // Sizes of three files: of no cut, of one by itself, of two to twelve side by side, and of one that
 // is left over.
 const SIZES: [[usize; 3]; 9] = [
@@ -117,6 +166,10 @@ fn sizes_of_three_files(rt: HostRuntime) {
             },
         ];
         assert!(rt; are_of_sha1(&buffer, files), "{a}, {b} and {c} bytes");
+        assert!(rt;
+            are_of_v1_cuts(rt.alloc(), &buffer, files),
+            "{a}, {b} and {c} bytes"
+        );
     }
 }
 
@@ -129,6 +182,7 @@ fn random_files(rt: HostRuntime) {
     for batch in 0..2_000u32 {
         let files = [any(&mut random), any(&mut random), any(&mut random)];
         assert!(rt; are_of_sha1(&buffer, files), "batch {batch}");
+        assert!(rt; are_of_v1_cuts(rt.alloc(), &buffer, files), "batch {batch}");
     }
 }
 

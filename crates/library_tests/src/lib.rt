@@ -10,6 +10,8 @@ mod cuts;
 #[cfg(test)]
 mod devices;
 #[cfg(test)]
+mod ended_messages;
+#[cfg(test)]
 mod equal_lengths;
 #[cfg(test)]
 mod filled_messages;
@@ -23,5 +25,7 @@ mod places;
 mod random;
 #[cfg(test)]
 mod records;
+#[cfg(test)]
+mod relayed_messages;
 #[cfg(test)]
 mod trees;

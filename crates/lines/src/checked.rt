@@ -9,7 +9,7 @@ use crate::plain::{say_number, say_path, say_word};
 use benc::DeviceFault;
 
 /// A line of a check. Pieces are counted from 0.
-#[derive(Clone, Copy, Debug, Drop)]
+#[derive(Clone, Copy, Drop)]
 pub enum Checked<'a> {
     /// The torrent does not name the file with this path.
     Extra(&'a [String]),

@@ -9,6 +9,7 @@ use crate::part::Part::{Code, Name, Number, Word};
 use benc::DeviceFault;
 
 /// Says a line that has the frame and the kind alone.
+#[inline(always)]
 pub(crate) fn say_frame<L: LineSink>(
     kind: &'static str,
     frame: u64,

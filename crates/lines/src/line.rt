@@ -17,7 +17,7 @@ use filetree::Refusal;
 
 /// A line of a report. It borrows what it says. Frames are counted from 1, files of a torrent and
 /// blocks of a file from 0.
-#[derive(Clone, Copy, Debug, Drop)]
+#[derive(Clone, Copy, Drop)]
 pub enum Line<'a> {
     /// This many hashes are newly known by this frame.
     Stored {
@@ -128,6 +128,7 @@ pub enum Line<'a> {
 }
 
 /// Says a line: its row of the table goes out. After a fault a prefix of it went out.
+#[inline(always)]
 pub fn say<L: LineSink>(line: &Line<'_>, out: &mut L) -> Result<(), DeviceFault>
     ensures { Wrote (L.seen out.old) (L.seen out.new) result (L.spelled (row_of line.now)) }
 {

@@ -10,7 +10,7 @@ use crate::plain::say_word;
 use benc::DeviceFault;
 
 /// A line that the report of a part has alone. Parts are counted from 1.
-#[derive(Clone, Copy, Debug, Drop)]
+#[derive(Clone, Copy, Drop)]
 pub enum Parted<'a> {
     /// The report is of this one of this many parts of a check of the torrent with this version 2
     /// info-hash.

@@ -10,7 +10,7 @@ use crate::part::Part::{self, Number, Path, Sha1, Sha256, Text, Word};
 use benc::DeviceFault;
 
 /// A line of what a torrent holds. Sizes are given also as the text of an amount with a unit.
-#[derive(Clone, Copy, Debug, Drop)]
+#[derive(Clone, Copy, Drop)]
 pub enum Shown<'a> {
     /// The display name.
     Name(&'a str),

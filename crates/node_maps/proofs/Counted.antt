@@ -140,12 +140,12 @@ row-count K l f c counted spare reads =
     held-known : (q : ℕ) → is_some (f q) ≡ true → is_among q (numbers_on l (map.keys K)) ≡ true
     held-known q e =
         let (p, is) = some_page (f q) e in
-        let holds : is_blank p.cells.items ≡ false = not_spare (is_blank p.cells.items) (λ blank. spare.known q (ap is_spare is ∙ blank)) in
-        let (o, low, some) = holds-hash p.cells.items holds in
-        let small : o < 512 = omega (arith, p.long) in
+        let holds : is_blank p.kept.items ≡ false = not_spare (is_blank p.kept.items) (λ blank. spare.known q (ap is_spare is ∙ blank)) in
+        let (o, low, some) = holds-hash p.kept.items holds in
+        let small : o < 512 = omega (arith, low, p.few) in
         let number : (512 * q + o) / 512 ≡ q = omega arith in
         let offset : (512 * q + o) % 512 ≡ o = omega arith in
-        let cell : cell_in f (512 * q + o) ≡ get_or p.cells.items o Empty = ap₂ (λ n k. cell_of (f n) k) number offset ∙ ap (λ x. cell_of x o) is in
+        let cell : cell_in f (512 * q + o) ≡ get_or p.kept.items o Empty = ap₂ (λ n k. cell_of (f n) k) number offset ∙ ap (λ x. cell_of x o) is in
         let known : is_some (look K l (512 * q + o)) ≡ true = ap is_some (reads (512 * q + o) ∙ ap hash_of cell) ∙ some in
         subst (λ n. is_among n (numbers_on l (map.keys K)) ≡ true) number (place-number l (512 * q + o) (map.keys K) (sym (known-there K l (512 * q + o))
         ∙ known))

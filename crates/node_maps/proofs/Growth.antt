@@ -1,12 +1,11 @@
 -- Pages that were made are given back one after the other, the last one first.
-use Rattle.std.proofs.Common.{◌≡◌, ◌≢◌, ◌⊎◌, ℕ, zero, suc, ◌+◌, ◌<◌, ◌≤◌, true, cond, eqb, List, [], ◌∷◌, ◌++◌, length, replicate, Some}
+use Rattle.std.proofs.Common.{◌≡◌, ◌≢◌, ◌⊎◌, ℕ, suc, ◌+◌, ◌<◌, ◌≤◌, true, cond, eqb, List, [], ◌∷◌, ◌++◌, length, Some}
 use Rattle.std.proofs.Common.{None, inl, inr, refl, sym, ap, ap₂, ◌∙◌}
 use Rattle.std.proofs.Common.{subst, arith}
 use Rattle.std.proofs.lemmas.List.{length_push}
 use Rattle.std.proofs.lemmas.Bool.{cases_eq, cond-true, cond-false, eq-eqb, ne_eqb}
 use Rattle.node_maps.specs.Cell.{is_blank}
 use Rattle.node_maps.specs.declared.page.Page.{Page}
-use Rattle.node_maps.specs.declared.page.Cell.TheVariants.{Empty}
 use Rattle.node_maps.specs.Pages.{Numbered, AreAlike, IsChanged, is_spare}
 use Rattle.node_maps.proofs.Pages.{changed_here, changed-self}
 use Rattle.node_maps.specs.Growth.{AreMade, IsGrown, IsGrownByOne}
@@ -46,22 +45,18 @@ made-alike old fresh c (n ∷ made) new g f' c' (mid, f, d, are, is) alike = (
 )
 
 -- a page that holds nothing was made and noted
-pub added-grown : (f g : Numbered) (q : ℕ) (p : Page) → f q ≡ None → IsChanged q (Some p) f g → p.cells.items ≡ replicate 512 Empty
+pub added-grown : (f g : Numbered) (q : ℕ) (p : Page) → f q ≡ None → IsChanged q (Some p) f g → p.kept.items ≡ []
     → (fresh : List ℕ) (count : ℕ) (noted : List ℕ) → noted ≡ fresh ++ q ∷ [] → IsGrownByOne f fresh count g noted (count + 1)
 added-grown f g q p none is blank fresh count noted more = inr (
   q,
   record {
     absent = none;
     changed = changed-self q (Some p) f g is;
-    spare = ap is_spare (changed_here f g q (Some p) is) ∙ ap is_blank blank ∙ blank_cells 512;
+    spare = ap is_spare (changed_here f g q (Some p) is) ∙ ap is_blank blank;
     noted = more;
     counted = refl;
   },
 )
-  where
-    blank_cells : (n : ℕ) → is_blank (replicate n Empty) ≡ true
-    blank_cells zero = refl
-    blank_cells (suc n) = blank_cells n
 
 module _ (base : Numbered) (fresh : List ℕ) (count : ℕ) where
   -- one page more, or none

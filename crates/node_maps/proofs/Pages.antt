@@ -1,5 +1,5 @@
 -- The pages of a layer, when one is added, written or given back.
-use Rattle.std.proofs.Common.{◌≡◌, ◌≢◌, ◌⊎◌, ℕ, zero, suc, ◌^◌, ◌<◌, Bool, true, false, cond, eqb, ◌||◌, List, [], ◌∷◌, ◌++◌, length, get_or, set, replicate}
+use Rattle.std.proofs.Common.{◌≡◌, ◌≢◌, ◌⊎◌, ℕ, zero, suc, ◌^◌, Bool, true, false, cond, eqb, ◌||◌, List, [], ◌∷◌, ◌++◌, length, get_or, set}
 use Rattle.std.proofs.Common.{Bor, Option, Some, None, IsSome, is_some, ◌/◌, ◌%◌, inl, inr, refl, sym, ap, ◌∙◌, subst, arith}
 use Rattle.std.proofs.lemmas.Bool.{cases_eq, false≢true, cond-true, cond-false, eq-eqb, ne_eqb, or_left}
 use Rattle.std.proofs.lemmas.Bool.Decides.{nat_tests}
@@ -8,7 +8,7 @@ use Rattle.node_maps.specs.declared.page.Cell.TheVariants.{Empty, Known, Marked}
 use Rattle.node_maps.specs.declared.page.Page.{Page}
 use Rattle.node_maps.specs.Digest.{Hash}
 use Rattle.node_maps.specs.Cell.{is_blank, mark_of, with_hash}
-use Rattle.std.proofs.lemmas.List.{get_or-set_same, get_or-set_other}
+use Rattle.std.proofs.lemmas.List.{get_or-set_same}
 use Rattle.std.specs.Bool.{OnTrue}
 use Rattle.std.specs.Option.{option_map}
 use Rattle.std.specs.List.{insert, remove}
@@ -51,11 +51,6 @@ blank-empty (Empty ∷ cs) zero e = refl
 blank-empty (Empty ∷ cs) (suc o) e = blank-empty cs o e
 blank-empty (Known h ∷ cs) o e = absurd (false≢true e)
 blank-empty (Marked h ∷ cs) o e = absurd (false≢true e)
-
-pub blank-replicate : (n o : ℕ) → get_or (replicate n Empty) o Empty ≡ Empty
-blank-replicate zero o = refl
-blank-replicate (suc n) zero = refl
-blank-replicate (suc n) (suc o) = blank-replicate n o
 
 -- ---- pages that change at one number
 
@@ -110,16 +105,6 @@ absent-changed q f none n = by_number (cases_eq q n)
 -- ---- a cell of a page is written
 
 module _ (place : ℕ) (hash : Hash) (mark : Bool) where
-  pub put-is : (p w : Page) → place < 512 → w.cells.items ≡ set p.cells.items place (with_hash (get_or p.cells.items place Empty) hash mark)
-      → IsPut place hash mark (Some p) (Some w)
-  put-is p w low items = record {
-    there = refl;
-    here = ap (λ xs. get_or xs place Empty) items ∙ get_or-set_same p.cells.items place (with_hash (get_or p.cells.items place Empty) hash mark) Empty
-        (omega (arith, low, p.long));
-    others = λ o other. ap (λ xs. get_or xs o Empty) items ∙ get_or-set_other p.cells.items place o (with_hash (get_or p.cells.items place Empty) hash mark)
-        Empty other;
-  }
-
   pub put-changed : (q : ℕ) (f g : Numbered) (p w : Page) → f q ≡ Some p → IsChanged q (Some w) f g → IsPut place hash mark (Some p) (Some w)
       → IsPut place hash mark (f q) (g q)
   put-changed q f g p w before is put = subst (λ x. IsPut place hash mark x (g q)) (sym before)
@@ -209,7 +194,7 @@ spare-some (Some p) e = refl
 
 spare-empty : (o : Option Page) (k : ℕ) → is_spare o ≡ true → cell_of o k ≡ Empty
 spare-empty None k e = refl
-spare-empty (Some p) k e = blank-empty p.cells.items k e
+spare-empty (Some p) k e = blank-empty p.kept.items k e
 
 with_hash-holds : (c : Cell) (h : Hash) (mark : Bool) → with_hash c h mark ≡ Empty → ⊥
 with_hash-holds c h mark = by_mark (mark || mark_of c)
@@ -220,9 +205,9 @@ with_hash-holds c h mark = by_mark (mark || mark_of c)
 
 module _ (f g : Numbered) (q : ℕ) where
   -- one is added
-  module _ (p : Page) (none : f q ≡ None) (is : IsChanged q (Some p) f g) (items : p.cells.items ≡ replicate 512 Empty) where
+  module _ (p : Page) (none : f q ≡ None) (is : IsChanged q (Some p) f g) (items : p.kept.items ≡ []) where
     pub added-cells : (i : ℕ) → cell_in g i ≡ cell_in f i
-    added-cells = changed_alike f g q (Some p) is (λ k. ap (λ xs. get_or xs k Empty) items ∙ blank-replicate 512 k ∙ sym (ap (λ o. cell_of o k) none))
+    added-cells = changed_alike f g q (Some p) is (λ k. ap (λ xs. get_or xs k Empty) items ∙ sym (ap (λ o. cell_of o k) none))
 
     pub added-spare : (fresh : List ℕ) → AreSpare f fresh → AreSpare g (fresh ++ q ∷ [])
     added-spare fresh spare = record {

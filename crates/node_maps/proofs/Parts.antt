@@ -9,7 +9,7 @@ use Rattle.node_maps.proofs.Runs.{ReadAlike}
 
 -- a page reads as its layer does
 pub page-alike : (pages : Numbered) (at n first count : ℕ) (page : Page) → n ≡ at / 512 → first ≡ at % 512 → first + count ≤ 512 → pages n ≡ Some page
-    → ReadAlike (hash_in page.cells.items) first (λ i. hash_of (cell_in pages i)) at count
+    → ReadAlike (hash_in page.kept.items) first (λ i. hash_of (cell_in pages i)) at count
 page-alike pages at n first count page number place inside there = record {
   at = λ j low.
       let q : n ≡ (at + j) / 512 = omega arith in

@@ -4,7 +4,7 @@ use Rattle.std.proofs.Common.{sym, ap, ◌∙◌, subst, arith, append_assoc, ap
 use Rattle.std.specs.Option.{unwrap_or}
 use Rattle.std.proofs.lemmas.Bool.{cases_lt}
 use Rattle.std.proofs.lemmas.Option.{none-some}
-use Rattle.std.proofs.lemmas.List.{get_or-take, get_or-drop, length-take}
+use Rattle.std.proofs.lemmas.List.{get_or_past, get_or-take, get_or-drop, length-take}
 use Rattle.std.proofs.lemmas.List.FromFn.{map-range_with_len_more}
 use Rattle.hashtree.specs.Tree.{pad_leaf}
 use Rattle.node_maps.specs.Digest.{Hash}
@@ -102,6 +102,14 @@ module _ {X : Type 0} (read : X → Option Hash) (d : X) (xs : List X) (from cou
       ≡ hashes_from (λ i. read (get_or xs i d)) from count
   hashes-in_part = ap (hashes_from (λ i. read (get_or (take (from + count - from) (drop from xs)) i d)) 0) part-length
       ∙ hashes-alike _ _ 0 from count part-alike
+
+-- a run that ends behind the list is known only if it is empty
+pub known-past : {X : Type 0} (read : X → Option Hash) (d : X) (xs : List X) (from count : ℕ) → read d ≡ None → length xs < from + count
+    → AreKnown (λ i. read (get_or xs i d)) from count → count ≡ 0
+known-past read d xs from zero none past known = refl
+known-past read d xs from (suc n) none past known =
+    let here = known n (omega arith) in
+    absurd (none-some here.0 (sym (ap read (get_or_past xs (from + n) d (omega (arith, past))) ∙ none) ∙ here.1))
 
 -- ---- a layer that has the hashes of another
 

@@ -31,12 +31,12 @@ AreInUse entries in_use indexes = All (λ d. (0 < entries d) × in_use d) indexe
 -- the cell at a place of a page, if there is one
 abbrev pub cell_of : Option Page → ℕ → Cell
 cell_of None o = Empty
-cell_of (Some p) o = slice_index_or p.cells.items o Empty
+cell_of (Some p) o = slice_index_or p.kept.items o Empty
 
 -- there is a page, and it holds nothing
 abbrev pub is_spare : Option Page → Bool
 is_spare None = false
-is_spare (Some p) = is_blank p.cells.items
+is_spare (Some p) = is_blank p.kept.items
 
 -- the cell of a place of the layer
 abbrev pub cell_in : Numbered → ℕ → Cell

@@ -1,6 +1,6 @@
 //! A page: the cells of 512 places of one layer that lie side by side.
 
-ghost use Rattle.std.specs.Prelude.{◌≡◌, ◌≢◌, ◌+◌, ◌<◌, ◌≤◌, ◌++◌, ◌↔◌, replicate, length, set, slice_index_or, Some, IfOk, IsTrue, vec_len};
+ghost use Rattle.std.specs.Prelude.{◌≡◌, ◌≢◌, ℕ, ◌+◌, ◌-◌, ◌<◌, ◌≤◌, ◌++◌, ◌↔◌, [], replicate, length, slice_index_or, IfOk, IsTrue, vec_len};
 ghost use Rattle.std.specs.Vec.{vec_capacity};
 ghost use Rattle.node_maps.specs.declared.page.Cell.TheVariants.{Empty};
 ghost use Rattle.node_maps.specs.Cell.{hash_in, is_blank, page_length, with_hash};
@@ -56,71 +56,93 @@ impl Cell {
     }
 }
 
-/// The cells of 512 places side by side.
+/// The cells of 512 places side by side. The first of them are kept; each behind those is empty.
 #[derive(Drop)]
 pub(crate) struct Page {
-    cells: Vec<Cell>,
-    ghost long: { length cells.items ≡ page_length },
+    kept: Vec<Cell>,
+    ghost few: { length kept.items ≤ page_length },
+    ghost room: { vec_capacity kept ≡ page_length },
 }
 
 impl Page {
-    /// A page that holds nothing. It is filled on the heap.
+    /// A page that holds nothing. It takes the memory for all its cells, and writes none of them.
     pub(crate) fn blank(alloc: Global) -> Result<Page, NoMemory>
-        ensures cells { IfOk result (λ page. page.cells.items ≡ replicate page_length Empty) }
-        ensures room { IfOk result (λ page. vec_capacity page.cells ≡ page_length) }
+        ensures { IfOk result (λ page. page.kept.items ≡ []) }
     {
-        let mut cells = Vec::with_capacity(alloc, PAGE_LENGTH)?;
-        'places: for place in 0..PAGE_LENGTH {
-            cells.push_reserved(Cell::Empty);
-        }
-        Ok(Page { cells })
+        let kept = Vec::with_capacity(alloc, PAGE_LENGTH)?;
+        Ok(Page { kept })
     }
 
     /// The cell of a place. Condition: the place is below 512.
     pub(crate) fn cell(&self, place: usize) -> Cell
         requires { place < page_length }
-        ensures { result ≡ slice_index_or self.now.cells.items place Empty }
+        ensures { result ≡ slice_index_or self.now.kept.items place Empty }
     {
-        self.cells[place]
+        match self.kept.get(place) {
+            Some(cell) => *cell,
+            None => Cell::Empty,
+        }
     }
 
     /// Whether `count` places hold a hash, from one on. Condition: `first + count` is at most 512.
     pub(crate) fn knows(&self, first: usize, count: usize) -> bool
         requires { first + count ≤ page_length }
-        ensures { IsTrue result ↔ AreKnown (hash_in self.now.cells.items) first count }
+        ensures { IsTrue result ↔ AreKnown (hash_in self.now.kept.items) first count }
     {
-        all_hold_hashes(&self.cells[first..first + count])
+        if first + count <= self.kept.len() {
+            all_hold_hashes(&self.kept[first..first + count])
+        } else {
+            count == 0
+        }
     }
 
     /// Appends the hashes of `count` places that hold one, from one on, to a list that has room for
     /// them. Condition: `first + count` is at most 512.
     pub(crate) fn copy_to(&self, first: usize, count: usize, out: &mut Vec<Hash>)
         requires inside { first + count ≤ page_length }
-        requires known { AreKnown (hash_in self.now.cells.items) first count }
+        requires known { AreKnown (hash_in self.now.kept.items) first count }
         requires room { vec_len out.old + count ≤ vec_capacity out.old }
         ensures copied { out.new.items
-            ≡ out.old.items ++ hashes_from (hash_in self.now.cells.items) first count }
+            ≡ out.old.items ++ hashes_from (hash_in self.now.kept.items) first count }
         ensures len { vec_len out.new ≡ vec_len out.old + count }
         ensures no_memory { vec_capacity out.new ≡ vec_capacity out.old }
     {
-        copy_hashes(&self.cells[first..first + count], out);
+        // Places that hold hashes are kept, so only an empty run ends behind the kept cells.
+        if first + count <= self.kept.len() {
+            copy_hashes(&self.kept[first..first + count], out);
+        }
     }
 
     /// Writes the hash of a place, and marks it, if `mark` says so. A mark that is there stays.
-    /// Condition: the place is below 512.
+    /// Takes no memory. Condition: the place is below 512.
     pub(crate) fn put(&mut self, place: usize, hash: Hash, mark: bool)
         requires { place < page_length }
-        ensures { self.new.cells.items ≡ set self.old.cells.items place
-            (with_hash (slice_index_or self.old.cells.items place Empty) hash mark) }
+        ensures here { slice_index_or self.new.kept.items place Empty
+            ≡ with_hash (slice_index_or self.old.kept.items place Empty) hash mark }
+        ensures others { (o : ℕ) → o ≢ place → slice_index_or self.new.kept.items o Empty
+            ≡ slice_index_or self.old.kept.items o Empty }
     {
-        self.cells[place] = self.cells[place].with_hash(hash, mark);
+        keep(&mut self.kept, place);
+        self.kept[place] = self.kept[place].with_hash(hash, mark);
     }
 
     /// Whether the page holds nothing.
     pub(crate) fn is_blank(&self) -> bool
-        ensures { result ≡ is_blank self.now.cells.items }
+        ensures { result ≡ is_blank self.now.kept.items }
     {
-        holds_nothing(&self.cells)
+        holds_nothing(&self.kept)
+    }
+}
+
+// Appends empty cells until the cell of a place is there. If it is, nothing changes.
+fn keep(cells: &mut Vec<Cell>, place: usize)
+    requires { place < vec_capacity cells.old }
+    ensures cells { cells.new.items
+        ≡ cells.old.items ++ replicate (place + 1 - vec_len cells.old) Empty }
+    ensures no_memory { vec_capacity cells.new ≡ vec_capacity cells.old }
+{
+    'places: while cells.len() <= place {
+        cells.push_reserved(Cell::Empty);
     }
 }
 

@@ -54,7 +54,7 @@ fn read_row<F: Source>(
     ensures no_further { IsReadWithin (size + 1) (F.seen source.old) (F.seen source.new) }
     ensures counts { CountsReading (F.seen source.old).faults (F.seen source.new).faults result }
 {
-    let mut hashing = Hashing::new(alloc, kind);
+    let mut hashing = Hashing::new(alloc, kind, Some(size));
     if !take_exactly(source, size, buffer, &mut hashing)? {
         return Ok(None);
     }

@@ -18,7 +18,7 @@ use Rattle.parts.specs.Worse.{worse}
 use Rattle.parts.specs.declared.places.Places.{Places}
 use Rattle.part_reports.specs.Marks.{CanMark, IsInRuns, IsTold}
 use Rattle.part_reports.specs.Reported.{CanSay}
-use Rattle.part_reports.specs.declared.bad_pieces.BadPieces.{BadPieces}
+use Rattle.part_reports.specs.declared.marked_report.BadPieces.{BadPieces}
 use Rattle.part_reports.specs.declared.kind.Kind.{Kind}
 use Rattle.part_reports.proofs.Listed.{all_padded, at_drop, one_of, quiet_marked}
 use Rattle.part_reports.proofs.Listed.{same_items, silent, silent_verdicts, split_marked, worse_good}

@@ -14,7 +14,7 @@ use Rattle.parts.specs.declared.places.Places.{Places}
 use Rattle.part_reports.specs.Lines.{HasFile, HasLine, HasNoRun, HasRuns, IsSmall, ReadsFile, ReadsLine, ReadsRuns, TellsFile}
 use Rattle.part_reports.specs.Marks.{CanMark, IsInRuns, IsTold}
 use Rattle.part_reports.specs.Reported.{CanSay}
-use Rattle.part_reports.specs.declared.bad_pieces.BadPieces.{BadPieces}
+use Rattle.part_reports.specs.declared.marked_report.BadPieces.{BadPieces}
 use Rattle.part_reports.specs.declared.kind.Kind.{Kind}
 use Rattle.part_reports.specs.declared.kind.Kind.TheVariants as kind
 use Rattle.part_reports.proofs.Listed.{one_of, silent}

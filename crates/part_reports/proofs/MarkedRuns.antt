@@ -8,7 +8,7 @@ use Rattle.parts.specs.Runs.{AreBadRuns, IsBadRun, Run}
 use Rattle.part_reports.specs.Marks.{AreUnmarked, IsMarkedRun}
 use Rattle.parts.specs.Parts.{piece_count}
 use Rattle.part_reports.specs.WholeLines.{AreFirstShown, IsNotBad}
-use Rattle.part_reports.specs.declared.bad_pieces.BadPieces.{BadPieces}
+use Rattle.part_reports.specs.declared.marked_report.BadPieces.{BadPieces}
 
 -- these are the runs of marked pieces before one of the file's: the first, the end of a run or of all
 pub record ShownUpTo (count at : ℕ) (bad : BadPieces) (f : FileEntry) (runs : List Run) : Type 0 where

@@ -5,7 +5,7 @@ use Rattle.opening.specs.Sound.{IsSound}
 use Rattle.parts.specs.Parts.{piece_count, place_count}
 use Rattle.parts.proofs.SharedPlaces.{sum_next}
 use Rattle.part_reports.specs.Marks.{HasRoom}
-use Rattle.part_reports.specs.declared.bad_pieces.BadPieces.{BadPieces}
+use Rattle.part_reports.specs.declared.marked_report.BadPieces.{BadPieces}
 use Rattle.part_reports.specs.declared.kind.Kind.{Kind}
 use Rattle.part_reports.specs.declared.kind.Kind.TheVariants as kind
 

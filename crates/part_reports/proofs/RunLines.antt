@@ -24,7 +24,7 @@ use Rattle.parts.specs.declared.places.Places.{Places}
 use Rattle.part_reports.specs.Lines.{HasNoRun, HasRuns, IsSmall, ReadsRuns}
 use Rattle.part_reports.specs.Marks.{AreRunsWithin, BeginsAtBad, CanTell, IsInRuns}
 use Rattle.part_reports.specs.RunLines.{BeginsRightly, HasOneRun, IsRunWithin, ReadsAll}
-use Rattle.part_reports.specs.declared.bad_pieces.BadPieces.{BadPieces}
+use Rattle.part_reports.specs.declared.marked_report.BadPieces.{BadPieces}
 use Rattle.part_reports.proofs.Fronts.{decimal_len}
 use Rattle.part_reports.proofs.Heads.{one_number}
 use Rattle.part_reports.proofs.RunMarks.{in_none, marks_none}

@@ -5,7 +5,7 @@ use Rattle.chains.proofs.Cases.{item_stays, pushed_at, pushed_last}
 use Rattle.opening.specs.Description.{FileEntry}
 use Rattle.parts.specs.Runs.{Run}
 use Rattle.part_reports.specs.Marks.{IsInRuns, MarksMore}
-use Rattle.part_reports.specs.declared.bad_pieces.BadPieces.{BadPieces}
+use Rattle.part_reports.specs.declared.marked_report.BadPieces.{BadPieces}
 
 -- ---- the pieces in runs
 

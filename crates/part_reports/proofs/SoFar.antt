@@ -23,7 +23,7 @@ use Rattle.parts.specs.declared.places.Places.{Places}
 use Rattle.part_reports.specs.Lines.{HasEnd, HasFile, HasLines, JoinsLines, ReadsEnd, ReadsFile}
 use Rattle.part_reports.specs.Marks.{CanMark, IsInRuns, IsTold, MarksMore}
 use Rattle.part_reports.specs.Reported.{CanSay}
-use Rattle.part_reports.specs.declared.bad_pieces.BadPieces.{BadPieces}
+use Rattle.part_reports.specs.declared.marked_report.BadPieces.{BadPieces}
 use Rattle.part_reports.specs.declared.kind.Kind.{Kind}
 use Rattle.part_reports.specs.declared.marked_report.MarkedReport.{MarkedReport}
 use Rattle.part_reports.proofs.Listed.{all_more, good_worse, one_of, quiet_marked}

@@ -17,7 +17,7 @@ use Rattle.parts.specs.declared.places.Places.{Places}
 use Rattle.part_reports.specs.Marks.{CanMark, CanMarkAll, CanTell, IsInRuns, IsTold, MarksMore}
 use Rattle.part_reports.specs.Reported.{CanReport, CanSay, CanSayV1}
 use Rattle.lines.specs.Reading.{BeginsWith}
-use Rattle.part_reports.specs.declared.bad_pieces.BadPieces.{BadPieces}
+use Rattle.part_reports.specs.declared.marked_report.BadPieces.{BadPieces}
 use Rattle.part_reports.specs.declared.kind.Kind.{Kind}
 use Rattle.part_reports.specs.declared.marked_report.MarkedReport.{MarkedReport}
 

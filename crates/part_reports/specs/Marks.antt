@@ -7,7 +7,7 @@ use Rattle.parts.specs.Runs.{IsInOne, Run}
 use Rattle.parts.specs.Spans.{end_in, first_in}
 use Rattle.parts.specs.Telling.{has_runs}
 use Rattle.parts.specs.declared.places.Places.{Places}
-use Rattle.part_reports.specs.declared.bad_pieces.BadPieces.{BadPieces}
+use Rattle.part_reports.specs.declared.marked_report.BadPieces.{BadPieces}
 use Rattle.part_reports.specs.declared.kind.Kind.{Kind}
 use Rattle.part_reports.specs.declared.kind.Kind.TheVariants as kind
 

@@ -7,7 +7,7 @@ use Rattle.parts.specs.Runs.{Run, run_text, runs_text}
 use Rattle.part_reports.specs.Lines.{HasNoRun}
 use Rattle.part_reports.specs.Marks.{AreRunsWithin, IsInRuns, MarksMore}
 use Rattle.lines.specs.Reading.{BeginsWith}
-use Rattle.part_reports.specs.declared.bad_pieces.BadPieces.{BadPieces}
+use Rattle.part_reports.specs.declared.marked_report.BadPieces.{BadPieces}
 
 -- the pieces of a run lie from one piece on and before another
 pub record IsRunWithin (at to : ℕ) (r : Run) : Type 0 where

@@ -11,7 +11,7 @@ use Rattle.parts.specs.Runs.{AreBadRuns, Run, runs_as}
 use Rattle.parts.specs.Telling.{has_runs}
 use Rattle.parts.specs.Words.{Words, words_in_text}
 use Rattle.part_reports.specs.Marks.{IsMarked}
-use Rattle.part_reports.specs.declared.bad_pieces.BadPieces.{BadPieces}
+use Rattle.part_reports.specs.declared.marked_report.BadPieces.{BadPieces}
 use Rattle.part_reports.specs.declared.marked_report.MarkedReport.{MarkedReport}
 
 -- ---- the text

@@ -6,7 +6,7 @@ ghost use Rattle.lines.specs.Table.{row_of};
 ghost use Rattle.part_reports.specs.Heads.{HasHead, HasNoHead, IsInfoHash, IsOfHash, first_line, first_row};
 
 use crate::kind::Kind;
-use crate::scan::first_number;
+use crate::words::first_number;
 use lines::{Line, Parted, strip_line};
 use opening::Torrent;
 

@@ -8,13 +8,12 @@ ghost use Rattle.part_reports.specs.MarkedJoins.{AreJoinedAs, JoinsText};
 ghost use Rattle.part_reports.specs.Marks.{HasRoom, IsMarked};
 ghost use Rattle.part_reports.specs.Numbers.{text_count};
 ghost use Rattle.part_reports.specs.Reasons.{AreNamed, HasReason, HasReasonOf, IsReportOf};
-ghost use Rattle.part_reports.specs.declared.bad_pieces.BadPieces.{BadPieces as OfBad};
+ghost use Rattle.part_reports.specs.declared.marked_report.BadPieces.{BadPieces as OfBad};
 
-use crate::bad_pieces::BadPieces;
 use crate::head::behind_head;
 use crate::join_fault::JoinFault;
 use crate::kind::Kind;
-use crate::marked_report::MarkedReport;
+use crate::marked_report::{BadPieces, MarkedReport};
 use crate::numbers::Numbers;
 use crate::report_lines::join_lines;
 use crate::starts::Division;

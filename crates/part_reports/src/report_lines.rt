@@ -1,19 +1,24 @@
 //! The lines of a report behind its first one, read again and joined to what other parts say.
-ghost use Rattle.std.specs.Prelude.{◌≡◌, ◌+◌, ◌<◌, ◌≤◌, length, is_some, MatchOption, Some};
-ghost use Rattle.folders.specs.declared.report.V1Verdict.{V1Verdict as OfV1};
 ghost use Rattle.std.specs.List.Sorted.{IsNonDecreasingBy, IsPartitionPoint};
-ghost use Rattle.parts.specs.Parts.{place_count};
-ghost use Rattle.parts.specs.Worse.{worse_v1};
-ghost use Rattle.part_reports.specs.Lines.{HasLines, JoinsLines};
+ghost use Rattle.std.specs.Prelude.{◌≡◌, ◌+◌, ◌<◌, ◌≤◌, length, is_some, MatchOption, Some, ◌↔◌, IsTrue, true, ℕ, List, ◌++◌, Option, ◌&&◌};
+ghost use Rattle.folders.specs.Printed.{stream_words};
+ghost use Rattle.folders.specs.Verdicts.{IsFileOf, is_good, is_whole, stream_is_good};
+ghost use Rattle.folders.specs.declared.report.V1Verdict.{V1Verdict as OfV1};
+ghost use Rattle.opening.specs.Seen.{file_entry};
+ghost use Rattle.part_reports.specs.Lines.{HasLines, JoinsLines, HasFile, HasLine, ReadsFile, ReadsLine, HasEnd, IsSmallV1, ReadsEnd, SaysEnd};
 ghost use Rattle.part_reports.specs.Marks.{HasRoom};
+ghost use Rattle.part_reports.specs.Reported.{CanSay, IsPieceIn};
+ghost use Rattle.parts.specs.PartLines.{has_place, answer_line};
+ghost use Rattle.parts.specs.Parts.{place_count, piece_count as pieces_in};
+ghost use Rattle.parts.specs.Worse.{worse_v1};
 
-use crate::ending::read_end;
 use crate::kind::Kind;
-use crate::line::read_file;
-use crate::marked_report::MarkedReport;
-use folders::{FileVerdict, V1Verdict};
+use crate::marked_report::{BadPieces, MarkedReport};
+use crate::runs::read_runs;
+use crate::words::{file_verdict, v1_verdict};
+use folders::{FileVerdict, V1Verdict, strip_version1};
 use opening::{File, Torrent};
-use parts::{Places, worse, worse_v1};
+use parts::{Places, piece_count, strip_answer, touches, worse, worse_v1};
 
 /// Joins to a report what a part with these places says in the lines behind the first one of its
 /// own, of this kind. Each line is compared with those that may stand there: only a text that is
@@ -76,4 +81,203 @@ fn begun_before(files: &[File<'_>], place: u64) -> usize
         (λ f. place ≤ f.first_piece) files.now result }
 {
     files.partition_point(|file| file.first_piece < place)
+}
+
+// The verdict on a file of a part with these places, and what follows all that its report, of
+// this kind, tells of the file; the pieces that it tells are bad are marked. Of a file that has no
+// place there the verdict is `Good`. `None`: nothing that such a report can tell of the file
+// stands at the front. Conditions: the torrent has the file, and there is a mark for each of its
+// pieces if bad ones are told of.
+fn read_file<'a>(
+    torrent: &Torrent<'_>,
+    kind: Kind,
+    file: &File<'_>,
+    places: Places,
+    text: &'a [u8],
+    bad: &mut BadPieces,
+) -> Option<(FileVerdict, &'a [u8])>
+    requires file { IsFileOf torrent.now (file_entry file.now) }
+    requires room { let f = file_entry file.now in
+        HasRoom kind (f.first_piece + pieces_in torrent.now f) bad.old }
+    ensures { let f = file_entry file.now in
+        MatchOption result (HasFile kind torrent.now places f text.now → ⊥)
+        (λ x. ReadsFile kind torrent.now places f text.now x.0 x.1.now bad.old bad.new) }
+{
+    torrent.recall_sound();
+    let (verdict, rest) = read_verdict(torrent, file, places, text)?;
+    match kind {
+        Kind::Plain => Some((verdict, rest)),
+        Kind::Marked => match read_runs(torrent, file, places, verdict, rest, bad) {
+            Some(behind) => Some((verdict, behind)),
+            None => None,
+        },
+    }
+}
+
+// The verdict on a file, and what follows its line, if it has one.
+fn read_verdict<'a>(
+    torrent: &Torrent<'_>,
+    file: &File<'_>,
+    places: Places,
+    text: &'a [u8],
+) -> Option<(FileVerdict, &'a [u8])>
+    requires { IsFileOf torrent.now (file_entry file.now) }
+    ensures { let f = file_entry file.now in let held = has_place torrent.now places f in
+        MatchOption result (HasLine torrent.now places f held text.now → ⊥)
+        (λ x. ReadsLine torrent.now places f held text.now x.0 x.1.now) }
+{
+    if touches(torrent, file, places) {
+        read_line(torrent, file, places, text)
+    } else {
+        Some((FileVerdict::Good, text))
+    }
+}
+
+// The verdict of the line of a file, and what follows the line.
+fn read_line<'a>(
+    torrent: &Torrent<'_>,
+    file: &File<'_>,
+    places: Places,
+    text: &'a [u8],
+) -> Option<(FileVerdict, &'a [u8])>
+    requires file { IsFileOf torrent.now (file_entry file.now) }
+    requires held { has_place torrent.now places (file_entry file.now) ≡ true }
+    ensures { let f = file_entry file.now in
+        MatchOption result (HasLine torrent.now places f true text.now → ⊥)
+        (λ x. ReadsLine torrent.now places f true text.now x.0 x.1.now) }
+{
+    torrent.recall_sound();
+    let (verdict, rest) = file_verdict(file, text)?;
+    if can_say(torrent, file, places, verdict) {
+        Some((verdict, rest))
+    } else {
+        None
+    }
+}
+
+// Whether a part with these places, of which the file has one, can say this of the file.
+fn can_say(torrent: &Torrent<'_>, file: &File<'_>, places: Places, verdict: FileVerdict) -> bool
+    requires file { IsFileOf torrent.now (file_entry file.now) }
+    requires held { has_place torrent.now places (file_entry file.now) ≡ true }
+    ensures { IsTrue result ↔ CanSay torrent.now places (file_entry file.now) verdict }
+{
+    match verdict {
+        FileVerdict::Bad(piece) => is_piece(torrent, file, places, piece),
+        _ => true,
+    }
+}
+
+// Whether this piece of the torrent is the file's, and among these places.
+fn is_piece(torrent: &Torrent<'_>, file: &File<'_>, places: Places, piece: u64) -> bool
+    requires { IsFileOf torrent.now (file_entry file.now) }
+    ensures { IsTrue result ↔ IsPieceIn torrent.now places (file_entry file.now) piece }
+{
+    torrent.recall_sound();
+    let end = file.first_piece + piece_count(torrent, file);
+    let from = places.from.max(file.first_piece);
+    let to = places.to.min(end);
+    is_between(from, piece, to)
+}
+
+// The verdict on the version 1 pieces of a hybrid, which the last lines of a report say: it is of
+// a part with these places, and this is the worst of its verdicts on files. `None` if these are
+// not its last lines. Condition: the torrent has this many pieces.
+fn read_end(
+    torrent: &Torrent<'_>,
+    places: Places,
+    pieces: u64,
+    worst: FileVerdict,
+    text: &[u8],
+) -> Option<Option<V1Verdict>>
+    requires { pieces + 1 ≡ place_count torrent.now }
+    ensures { MatchOption result (HasEnd torrent.now places worst text.now → ⊥)
+        (ReadsEnd torrent.now places worst text.now) }
+{
+    let v1 = read_v1(torrent, text);
+    if !can_say_of_stream(places, pieces, worst, v1) {
+        return None;
+    }
+    let answer = strip_version1(&v1, text)?;
+    if ends_with(yes(worst, v1), answer) {
+        Some(v1)
+    } else {
+        None
+    }
+}
+
+// The verdict on the version 1 pieces of a hybrid, whose line stands at the front.
+fn read_v1(torrent: &Torrent<'_>, text: &[u8]) -> Option<V1Verdict>
+    ensures hybrid { is_some result ≡ is_some torrent.now.v1 }
+    ensures whole { (v1 : Option OfV1) (more : List ℕ) → is_some v1 ≡ is_some torrent.now.v1
+        → ((v : OfV1) → v1 ≡ Some v → IsSmallV1 v) → text.now ≡ stream_words v1 ++ more
+        → result ≡ v1 }
+{
+    match torrent.v1() {
+        Some(_) => Some(v1_verdict(text)),
+        None => None,
+    }
+}
+
+// Whether a part with these places can say this of the version 1 pieces, beside this worst verdict
+// on its files.
+fn can_say_of_stream(places: Places, pieces: u64, worst: FileVerdict, v1: Option<V1Verdict>) -> bool
+    ensures { IsTrue result ↔ SaysEnd places pieces worst v1 }
+{
+    match v1 {
+        None => true,
+        Some(verdict) => can_say_of_hybrid(places, pieces, worst, verdict),
+    }
+}
+
+// The same of a hybrid.
+fn can_say_of_hybrid(places: Places, pieces: u64, worst: FileVerdict, verdict: V1Verdict) -> bool
+    ensures { IsTrue result ↔ SaysEnd places pieces worst (Some verdict) }
+{
+    match verdict {
+        V1Verdict::NotChecked => !is_whole(worst),
+        V1Verdict::Good => is_whole(worst),
+        V1Verdict::Bad(piece) => can_say_bad(places, pieces, worst, piece),
+    }
+}
+
+// The same of the verdict that this piece is the first bad one.
+fn can_say_bad(places: Places, pieces: u64, worst: FileVerdict, piece: u64) -> bool
+    ensures { IsTrue result ↔ SaysEnd places pieces worst (Some (V1Verdict.Bad piece)) }
+{
+    let to = places.to.min(pieces);
+    is_whole(worst) && is_between(places.from, piece, to)
+}
+
+// Whether a file with this verdict was read whole, and has the right length.
+fn is_whole(verdict: FileVerdict) -> bool
+    ensures { result ≡ is_whole verdict }
+{
+    matches!(verdict, FileVerdict::Good | FileVerdict::Bad(_))
+}
+
+// Whether files with this worst verdict and these version 1 pieces are all good.
+fn yes(worst: FileVerdict, v1: Option<V1Verdict>) -> bool
+    ensures { result ≡ is_good worst && stream_is_good v1 }
+{
+    match (worst, v1) {
+        (FileVerdict::Good, None | Some(V1Verdict::Good)) => true,
+        _ => false,
+    }
+}
+
+// Whether the last line stands there, and nothing behind it.
+fn ends_with(yes: bool, text: &[u8]) -> bool
+    ensures { IsTrue result ↔ (text.now ≡ answer_line yes) }
+{
+    match strip_answer(yes, text) {
+        Some(rest) => rest.is_empty(),
+        None => false,
+    }
+}
+
+// Whether a number is one from the first of these two up to the second.
+fn is_between(from: u64, number: u64, to: u64) -> bool
+    ensures { IsTrue result ↔ ((from ≤ number) × (number < to)) }
+{
+    from <= number && number < to
 }

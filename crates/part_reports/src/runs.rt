@@ -8,12 +8,11 @@ ghost use Rattle.parts.specs.Spans.{end_in, first_in};
 ghost use Rattle.part_reports.specs.Lines.{HasRuns, ReadsRuns};
 ghost use Rattle.part_reports.specs.RunLines.{BeginsRightly, HasOneRun, IsRunWithin, ReadsAll};
 
-use crate::bad_pieces::BadPieces;
-use crate::counts::{has_runs, piece_count};
-use crate::scan::first_number;
+use crate::marked_report::BadPieces;
+use crate::words::first_number;
 use folders::FileVerdict;
 use opening::{File, Torrent};
-use parts::{Places, strip_run};
+use parts::{Places, has_runs, piece_count, strip_run};
 
 /// What follows the lines of the runs of bad pieces of a file with this verdict, in the report of a
 /// part with these places; the pieces in them are marked. `None` if they do not begin with the

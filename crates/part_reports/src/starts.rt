@@ -3,8 +3,8 @@ ghost use Rattle.std.specs.Prelude.{◌≡◌, ◌+◌, ◌*◌, ◌<◌, ◌≤
 ghost use Rattle.parts.specs.Parts.{place_count};
 ghost use Rattle.parts.specs.Shares.{place_in, start};
 
-use crate::counts::piece_count;
 use opening::Torrent;
+use parts::piece_count;
 
 /// A torrent that is divided into parts.
 #[derive(Clone, Copy)]

@@ -6,14 +6,12 @@ ghost use Rattle.parts.specs.Parts.{piece_count as pieces_in, place_count};
 ghost use Rattle.parts.specs.Words.{words_as};
 ghost use Rattle.part_reports.specs.WholeLines.{PrintsMarked, SaysFile, SaysFiles, SaysMarked, SaysRuns};
 
-use crate::bad_pieces::BadPieces;
-use crate::counts::{has_runs, piece_count};
-use crate::marked_report::MarkedReport;
+use crate::marked_report::{BadPieces, MarkedReport};
 use benc::{DeviceFault, Sink, WriteFault};
 use folders::{FileVerdict, Lines, say_end, say_verdict};
 use lines::{LineSink, finish_after};
 use opening::{File, Torrent};
-use parts::say_run;
+use parts::{has_runs, piece_count, say_run};
 
 /// Writes what `check_with_bad_pieces` writes of a torrent's folder, and flushes: a line for each
 /// file, and behind that of one that is bad or has another length the line `bad pieces FIRST LAST

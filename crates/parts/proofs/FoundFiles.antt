@@ -24,7 +24,7 @@ use Rattle.parts.specs.Spans.{IsSpan, IsSpanOf, end_in, first_in}
 use Rattle.parts.specs.Telling.{MarksIn}
 use Rattle.parts.specs.declared.row.Found.{Found}
 use Rattle.parts.specs.declared.places.Places.{Places}
-use Rattle.parts.specs.declared.span.Span.{Span}
+use Rattle.parts.specs.declared.places.Span.{Span}
 use Rattle.parts.specs.declared.verdicts.Verdicts.{Verdicts}
 use Rattle.parts.proofs.GoodPieces.{piece_fits}
 use Rattle.parts.proofs.HeldPieces.{between_held, held_between, piece_touches}

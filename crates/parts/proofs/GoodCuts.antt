@@ -1,6 +1,6 @@
 -- The version 1 pieces of a file whose digests are listed.
-use Rattle.std.proofs.Common.{◌≡◌, ◌∙◌, ℕ, ◌+◌, ◌-◌, ◌*◌, ◌^◌, ◌%◌, ◌<◌, ◌≤◌, min, List, ◌++◌, length, take, drop, replicate, slice_get, Some}
-use Rattle.std.proofs.Common.{ap, sym, subst, arith, pow-add}
+use Rattle.std.proofs.Common.{◌≡◌, ◌∙◌, ℕ, ◌+◌, ◌*◌, ◌-◌, ◌^◌, ◌<◌, ◌≤◌, min, List, ◌++◌, length, take, drop, replicate, slice_get, Some}
+use Rattle.std.proofs.Common.{ap, sym, subst, arith}
 use Rattle.std.proofs.Math.Nat.{mul-le-mul_left}
 use Rattle.std.proofs.lemmas.List.{length-drop, length-take}
 use Rattle.sha1.specs.Sha1.{sha1}
@@ -8,20 +8,13 @@ use Rattle.cut_windows.specs.Windows.{AreListed}
 use Rattle.opening.specs.Description.{Description, FileEntry, Version1}
 use Rattle.opening.specs.Sound.{IsSound}
 use Rattle.pieces.specs.Cuts.{cut, filled_up}
-use Rattle.pieces.specs.Pieces.{IsPieceLength, pieces_of}
+use Rattle.pieces.specs.Pieces.{pieces_of}
 use Rattle.pieces.proofs.Cutting.{some_pieces}
 use Rattle.folders.proofs.Places.{pieces_are_positive}
 use Rattle.parts.specs.Parts.{IsVersion1Good, piece_count}
 use Rattle.parts.proofs.Batched.{item_of_part}
 use Rattle.parts.proofs.RowCuts.{part_fits}
 use Rattle.parts.proofs.RowPieces.{row_places}
-
--- a piece has whole blocks of SHA-1
-pub whole_blocks : (p : ℕ) → IsPieceLength p → p % 64 ≡ 0
-whole_blocks p legal =
-    let at : legal.0 ≡ legal.0 - 6 + 6 = omega (arith, legal.1) in
-    let is : p ≡ 2 ^ (legal.0 - 6) * 2 ^ 6 = legal.3 ∙ ap (λ e. 2 ^ e) at ∙ pow-add 2 (legal.0 - 6) 6 in
-    omega (arith, is)
 
 -- where a file's version 1 pieces end among those that are listed
 pub record Ends (t : Description) (v : Version1) (f : FileEntry) : Type 0 where

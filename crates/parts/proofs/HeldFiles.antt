@@ -18,10 +18,11 @@ use Rattle.folders.specs.declared.shelf.Shelf.{Ghosts}
 use Rattle.folders.proofs.Pieces.{all_given, longer_content}
 use Rattle.folders.proofs.Visiting.{agrees_opened}
 use Rattle.parts.specs.Finding.{FindsWhole}
-use Rattle.parts.specs.Held.{FitsIn, IsHeldFor, Promises, ReadsHeld, VisitsFound}
+use Rattle.folders.specs.Rooms.{FitsIn, FillsRoom}
+use Rattle.parts.specs.Held.{IsHeldFor, Promises, VisitsFound}
 use Rattle.parts.specs.declared.held.Held.{Held}
 use Rattle.parts.specs.declared.held.Held.TheVariants as held
-use Rattle.parts.specs.declared.held.HeldReader.{HeldReader}
+use Rattle.folders.specs.declared.room.RoomReader.{RoomReader}
 use Rattle.parts.specs.declared.verdicts.Verdicts.{Verdicts}
 use Rattle.parts.proofs.WholeFiles.{as_both, whole_missing, whole_unreadable}
 
@@ -37,10 +38,10 @@ no : (b : Bool) → b ≡ true → b ≡ false → ⊥
 no b on off = cc
 
 -- what the bits of no pieces tell
-module _ {S F : Type 0} (shelf : Ghosts S F) (seen : F → SourceSeen) (t : Description) (f : FileEntry) (r s : HeldReader) (fits : FitsIn r)
+module _ {S F : Type 0} (shelf : Ghosts S F) (seen : F → SourceSeen) (t : Description) (f : FileEntry) (r s : RoomReader) (fits : FitsIn r)
     (size : r.size ≡ f.length) (s0 s1 : S) (stays : shelf.contents s1 ≡ shelf.contents s0) where
   -- the file is visited for what was read of it
-  visited : (answer : Result ℕ DeviceFault) (v : Verdicts) (visit : ReadsFound shelf seen (ReadsHeld r s) s0 f.path answer s1)
+  visited : (answer : Result ℕ DeviceFault) (v : Verdicts) (visit : ReadsFound shelf seen (FillsRoom r s) s0 f.path answer s1)
       → FindsWhole t f ((shelf.contents s0).under f.path) [] v → IsReadFor t f v.file (seen visit.file) (seen visit.handed.read)
       → VisitsFound shelf seen t s0 f v s1
   visited answer v visit finds reading = record {
@@ -67,12 +68,12 @@ module _ {S F : Type 0} (shelf : Ghosts S F) (seen : F → SourceSeen) (t : Desc
       none_more file.WrongLength = refl
       none_more (file.Bad p) = refl
 
-  room_size : (answer : Result ℕ DeviceFault) (old new : SourceSeen) → ReadsHeld r s answer old new
+  room_size : (answer : Result ℕ DeviceFault) (old new : SourceSeen) → FillsRoom r s answer old new
       → length (take (r.size + 1) (drop r.at s.room.items)) ≡ r.size + 1
   room_size answer old new read =
       length-take (r.size + 1) (drop r.at s.room.items) ∙ omega (arith, length-drop r.at s.room.items, read.count, fits)
 
-  whole : (count : ℕ) → count ≡ r.size → ReadsFound shelf seen (ReadsHeld r s) s0 f.path (Ok count) s1
+  whole : (count : ℕ) → count ≡ r.size → ReadsFound shelf seen (FillsRoom r s) s0 f.path (Ok count) s1
       → Promises shelf seen t s0 f (held.Whole, bytes_at s.room.items r.at f.length) s1
   whole count is visit v (finds, on) =
       let old = seen visit.file in
@@ -109,7 +110,7 @@ module _ {S F : Type 0} (shelf : Ghosts S F) (seen : F → SourceSeen) (t : Desc
       })
 
   -- another content
-  other_content : (count : ℕ) (bytes : List ℕ) (v : Verdicts) (visit : ReadsFound shelf seen (ReadsHeld r s) s0 f.path (Ok count) s1) → length bytes ≢ f.length
+  other_content : (count : ℕ) (bytes : List ℕ) (v : Verdicts) (visit : ReadsFound shelf seen (FillsRoom r s) s0 f.path (Ok count) s1) → length bytes ≢ f.length
       → Agrees (seen visit.file).left bytes → count ≢ r.size → v.file ≡ file.WrongLength → v.v1 ≡ version1.NotChecked → VisitsFound shelf seen t s0 f v s1
   other_content count bytes v visit other agrees differs at bt =
       let old = seen visit.file in
@@ -138,7 +139,7 @@ module _ {S F : Type 0} (shelf : Ghosts S F) (seen : F → SourceSeen) (t : Desc
         early = λ on. (let never : ⊥ = cc in absurd never);
       }))
 
-  other : (count : ℕ) → count ≢ r.size → ReadsFound shelf seen (ReadsHeld r s) s0 f.path (Ok count) s1 → (bytes : List ℕ)
+  other : (count : ℕ) → count ≢ r.size → ReadsFound shelf seen (FillsRoom r s) s0 f.path (Ok count) s1 → (bytes : List ℕ)
       → Promises shelf seen t s0 f (held.Other, bytes) s1
   other count differs visit _ v (at, bt) =
       let old = seen visit.file in
@@ -158,7 +159,7 @@ module _ {S F : Type 0} (shelf : Ghosts S F) (seen : F → SourceSeen) (t : Desc
             other_content count longer.0 v visit (λ same. differs (omega (arith, same, longer.1, given, size, more))) longer.2 differs at bt
       ]
 
-  unreadable : (fault : DeviceFault) → ReadsFound shelf seen (ReadsHeld r s) s0 f.path (Err fault) s1 → (v : Verdicts) → v.file ≡ file.Unreadable
+  unreadable : (fault : DeviceFault) → ReadsFound shelf seen (FillsRoom r s) s0 f.path (Err fault) s1 → (v : Verdicts) → v.file ≡ file.Unreadable
       → v.v1 ≡ version1.NotChecked → VisitsFound shelf seen t s0 f v s1
   unreadable fault visit v at bt =
       let old = seen visit.file in
@@ -173,7 +174,7 @@ module _ {S F : Type 0} (shelf : Ghosts S F) (seen : F → SourceSeen) (t : Desc
       }))
 
   -- whatever was read
-  pub promises_read : (answer : Result ℕ DeviceFault) (h : Held) → IsHeldFor answer r.size h → ReadsFound shelf seen (ReadsHeld r s) s0 f.path answer s1
+  pub promises_read : (answer : Result ℕ DeviceFault) (h : Held) → IsHeldFor answer r.size h → ReadsFound shelf seen (FillsRoom r s) s0 f.path answer s1
       → Promises shelf seen t s0 f (h, bytes_at s.room.items r.at f.length) s1
   promises_read (Ok count) held.Missing is visit = absurd is
   promises_read (Ok count) held.Unreadable is visit = absurd is

@@ -4,7 +4,7 @@ use Rattle.opening.specs.Description.{Description, FileEntry}
 use Rattle.parts.specs.Parts.{Holds, Touches, last_place, piece_count}
 use Rattle.parts.specs.Spans.{IsSpan, IsSpanOf}
 use Rattle.parts.specs.declared.places.Places.{Places}
-use Rattle.parts.specs.declared.span.Span.{Span}
+use Rattle.parts.specs.declared.places.Span.{Span}
 
 -- no place of the file is among these: its last one comes before the first that could be
 pub ends_before : (t : Description) (r : Places) (f : FileEntry) (held last : ℕ) → held ≡ max r.from f.first_piece → last ≡ last_place t f → last < held

@@ -13,7 +13,7 @@ use Rattle.parts.specs.Parts.{IsVersion1Good}
 use Rattle.parts.specs.Saying.{SaysWhole}
 use Rattle.parts.specs.declared.held.Held.TheVariants as held
 use Rattle.parts.specs.declared.row.Found.{Found}
-use Rattle.parts.specs.declared.span.Span.{Span}
+use Rattle.parts.specs.declared.places.Span.{Span}
 use Rattle.parts.specs.declared.verdicts.Verdicts.{Verdicts}
 use Rattle.parts.proofs.WholeFiles.{IsWholeSpan, from_start, good_by_root, is_whole_says, whole_found}
 

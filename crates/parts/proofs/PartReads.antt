@@ -13,7 +13,7 @@ use Rattle.parts.specs.Saying.{SaysFound, file_says}
 use Rattle.parts.specs.Spans.{IsSpanOf, bytes_in, span_bytes}
 use Rattle.parts.specs.declared.row.Found.{Found}
 use Rattle.parts.specs.declared.places.Places.{Places}
-use Rattle.parts.specs.declared.span.Span.{Span}
+use Rattle.parts.specs.declared.places.Span.{Span}
 use Rattle.parts.specs.declared.verdicts.Verdicts.{Verdicts}
 
 -- the bytes of a span are those among the part's places

@@ -28,7 +28,7 @@ use Rattle.parts.specs.FilePieces.{AreJudgedFrom, IsBelow}
 use Rattle.parts.specs.Parts.{piece_count}
 use Rattle.parts.specs.RowChecks.{EndsInRow, IsRowCuts, IsRowHashes, IsRowLayer, IsRowOf, ReadsRow, row_bytes, stream_part}
 use Rattle.parts.specs.declared.row.Found.{Found}
-use Rattle.parts.specs.declared.span.Span.{Span}
+use Rattle.parts.specs.declared.places.Span.{Span}
 use Rattle.parts.proofs.RowCuts.{AreCompared, part_fits, row_cuts, row_lengths}
 use Rattle.parts.proofs.RowPieces.{IsRow, last_begins, range_length, row_fits, row_listed, within_rows}
 use Rattle.parts.proofs.CutRows.{row_bits_cut}

@@ -18,7 +18,7 @@ use Rattle.parts.specs.FilePieces.{AreJudgedFrom}
 use Rattle.parts.specs.RowChecks.{ReadsRow, row_bytes}
 use Rattle.parts.specs.Spans.{IsSpan}
 use Rattle.parts.specs.Parts.{piece_count}
-use Rattle.parts.specs.declared.span.Span.{Span}
+use Rattle.parts.specs.declared.places.Span.{Span}
 use Rattle.parts.proofs.Streams.{in_pieces}
 
 pub none_so_far : (t : Description) (f : FileEntry) (from : ℕ) → t.piece_length * from ≤ f.length → AreJudgedFrom t f from from [] None None

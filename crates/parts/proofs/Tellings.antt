@@ -18,7 +18,7 @@ use Rattle.parts.specs.Spans.{IsSpanOf, first_in}
 use Rattle.parts.specs.Telling.{AreMarkedRuns, AreToldRuns, MarksIn, MarksRow, NeedsBits, TellsFile, has_runs}
 use Rattle.parts.specs.Words.{Words}
 use Rattle.parts.specs.declared.places.Places.{Places}
-use Rattle.parts.specs.declared.span.Span.{Span}
+use Rattle.parts.specs.declared.places.Span.{Span}
 use Rattle.parts.specs.declared.telling.Telling.{Telling}
 use Rattle.parts.specs.declared.telling.Telling.TheVariants as telling
 use Rattle.parts.proofs.HeldPieces.{between_held, held_between, piece_touches, span_shape}

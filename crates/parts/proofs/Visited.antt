@@ -15,7 +15,7 @@ use Rattle.parts.specs.Saying.{SaysFound, SaysWhole}
 use Rattle.parts.specs.Spans.{IsSpanOf}
 use Rattle.parts.specs.declared.row.Found.{Found}
 use Rattle.parts.specs.declared.places.Places.{Places}
-use Rattle.parts.specs.declared.span.Span.{Span}
+use Rattle.parts.specs.declared.places.Span.{Span}
 use Rattle.parts.specs.declared.verdicts.Verdicts.{Verdicts}
 use Rattle.parts.proofs.FoundFiles.{finds_read}
 use Rattle.parts.proofs.PartReads.{read_in}

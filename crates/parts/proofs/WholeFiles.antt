@@ -32,7 +32,7 @@ use Rattle.parts.specs.Saying.{SaysWhole, v1_says, whole_says}
 use Rattle.parts.specs.Spans.{IsSpan, IsSpanOf, span_bytes}
 use Rattle.parts.specs.Telling.{has_runs}
 use Rattle.parts.specs.declared.row.Found.{Found}
-use Rattle.parts.specs.declared.span.Span.{Span}
+use Rattle.parts.specs.declared.places.Span.{Span}
 use Rattle.parts.specs.declared.verdicts.Verdicts.{Verdicts}
 use Rattle.parts.proofs.Files.{tree_of_file}
 use Rattle.parts.proofs.FoundFiles.{v1_good_or_bad}

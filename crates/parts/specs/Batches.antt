@@ -7,7 +7,7 @@ use Rattle.folders.specs.declared.shelf.Shelf.{Ghosts}
 use Rattle.opening.specs.Description.{Description, FileEntry}
 use Rattle.parts.specs.Held.{IsJudged, Promises, VisitsFound}
 use Rattle.parts.specs.Windows.{StandsAt}
-use Rattle.parts.specs.declared.ahead.Ahead.{Ahead}
+use Rattle.parts.specs.declared.verdicts.Ahead.{Ahead}
 use Rattle.parts.specs.declared.batch.HeldFiles.{HeldFiles}
 use Rattle.parts.specs.declared.batch.Kept.{Kept}
 use Rattle.parts.specs.declared.held.Held.{Held}

@@ -8,7 +8,7 @@ use Rattle.folders.specs.Verdicts.{Agrees}
 use Rattle.parts.specs.Parts.{IsPieceGood, IsVersion1Good, piece_count}
 use Rattle.parts.specs.RowBits.{AreBitsOf}
 use Rattle.parts.specs.declared.row.Found.{Found}
-use Rattle.parts.specs.declared.span.Span.{Span}
+use Rattle.parts.specs.declared.places.Span.{Span}
 
 -- of these numbers, from one up to another, this is the first that is bad, or all are good
 abbrev pub IsFirstBad : ℕ → ℕ → (ℕ → Type 0) → Option ℕ → Type 0

@@ -1,9 +1,8 @@
 -- Files that are read whole and judged later, several of them together.
-use Rattle.std.specs.Prelude.{◌≡◌, ◌≢◌, ℕ, ◌+◌, ◌<◌, ◌≤◌, true, List, [], length, take, drop, Some, Result, Ok, Err, IfOk, OnErr}
-use Rattle.benc.specs.Device.{CountsFault, SourceSeen}
+use Rattle.std.specs.Prelude.{◌≡◌, ◌≢◌, ℕ, ◌<◌, true, List, [], Some, Result, Ok, Err}
+use Rattle.benc.specs.Device.{SourceSeen}
 use Rattle.benc.specs.declared.device.DeviceFault.{DeviceFault}
 use Rattle.folders.specs.Shelf.{more}
-use Rattle.folders.specs.TakeAll.{Fills, IsReadWithin}
 use Rattle.folders.specs.Verdicts.{fault_count, is_whole}
 use Rattle.folders.specs.Visits.{Visits}
 use Rattle.folders.specs.declared.report.FileVerdict.TheVariants as file
@@ -14,25 +13,9 @@ use Rattle.parts.specs.Finding.{FindsWhole}
 use Rattle.parts.specs.Parts.{IsVersion1Good, piece_count}
 use Rattle.parts.specs.declared.held.Held.{Held}
 use Rattle.parts.specs.declared.held.Held.TheVariants as held
-use Rattle.parts.specs.declared.held.HeldReader.{HeldReader}
 use Rattle.parts.specs.declared.verdicts.Verdicts.{Verdicts}
 
 -- ---- reading
-
--- the reader has room for the file and one byte more
-abbrev pub FitsIn : HeldReader → Type 0
-FitsIn r = r.at + r.size + 1 ≤ length r.room.items
-
--- the file was read into the room, at most to one byte past its stated size; what stands before it
--- in the room stays
-pub record ReadsHeld (r s : HeldReader) (answer : Result ℕ DeviceFault) (old new : SourceSeen)
-    : Type 0 where
-  pub filled : IfOk answer (Fills old new (take (r.size + 1) (drop r.at s.room.items)))
-  pub no_further : IsReadWithin (r.size + 1) old new
-  pub blamed : OnErr answer (IsReadWithin r.size old new)
-  pub counts : CountsFault old.faults new.faults answer
-  pub kept : take r.at s.room.items ≡ take r.at r.room.items
-  pub count : length s.room.items ≡ length r.room.items
 
 -- what is held of a file of this stated size, by how many of its bytes were read
 abbrev pub IsHeldFor : Result ℕ DeviceFault → ℕ → Held → Type 0

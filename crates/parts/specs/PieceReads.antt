@@ -11,7 +11,7 @@ use Rattle.opening.specs.Description.{Description, FileEntry}
 use Rattle.parts.specs.FilePieces.{AreBelow, FindsPieces, TakesRow}
 use Rattle.parts.specs.Spans.{IsSpan, span_bytes}
 use Rattle.parts.specs.declared.row.Found.{Found}
-use Rattle.parts.specs.declared.span.Span.{Span}
+use Rattle.parts.specs.declared.places.Span.{Span}
 
 -- the torrent has the file, and the file these pieces, and no bit is set
 pub record MayReadPieces (t : Description) (f : FileEntry) (s : Span) (bits : Vec ℕ) : Type 0 where

@@ -13,7 +13,7 @@ use Rattle.wire.specs.Reading.{Gave}
 use Rattle.parts.specs.FilePieces.{AreJudgedFrom}
 use Rattle.parts.specs.RowBits.{AreBitsOf}
 use Rattle.parts.specs.declared.row.Found.{Found}
-use Rattle.parts.specs.declared.span.Span.{Span}
+use Rattle.parts.specs.declared.places.Span.{Span}
 
 -- these are the hashes of pieces of a file from one up to another, of this layer: a file of one
 -- piece is compared with its root

@@ -3,7 +3,7 @@ use Rattle.std.specs.Prelude.{◌≡◌, ◌↔◌, ℕ, ◌-◌, ◌*◌, ◌<�
 use Rattle.opening.specs.Description.{Description, FileEntry}
 use Rattle.parts.specs.Parts.{Holds, Touches, last_place, piece_count}
 use Rattle.parts.specs.declared.places.Places.{Places}
-use Rattle.parts.specs.declared.span.Span.{Span}
+use Rattle.parts.specs.declared.places.Span.{Span}
 
 -- the number within the file of the first of its pieces that is among these places
 abbrev pub first_in : Places → FileEntry → ℕ

@@ -6,11 +6,11 @@ ghost use Rattle.parts.specs.Windows.{AreHashed, AreWithin, HasRoom, KeepsFiles,
 ghost use Rattle.parts.specs.declared.batch.Kept.{Kept};
 ghost use Rattle.parts.specs.declared.held.Held.TheVariants as kept;
 
-use crate::ahead::{Ahead, MOST};
 use crate::held::{Held, hold_file};
 use crate::judging::judge_held;
+use crate::verdicts::{Ahead, MOST};
 use crate::windows::{Firsts, Windows};
-use folders::Shelf;
+use folders::{Pace, Shelf};
 use opening::Torrent;
 
 // Bytes in eight blocks, as many as a small file has at most.
@@ -107,13 +107,14 @@ fn firsts_of(windows: &mut Windows, held: Held, start: usize, size: usize) -> Fi
     }
 }
 
-/// Visits the small files that come next, from this one on, as many as there is room for, and then
-/// judges them. Conditions: the torrent has these files or they are at its end, no bits are kept,
-/// and the buffer is not empty.
-pub(crate) fn look_ahead<S: Shelf>(
+/// Visits the small files that come next, from this one on, as many as there is room for before
+/// their lines are due, and then judges them. Conditions: the torrent has these files or they are
+/// at its end, no bits are kept, and the buffer is not empty.
+pub(crate) fn look_ahead<S: Shelf, P: Pace>(
     shelf: &mut S,
     torrent: &Torrent<'_>,
     from: usize,
+    pace: &mut P,
     room: &mut Vec<u8>,
     bits: &mut Vec<u8>,
     buffer: &mut [u8],
@@ -126,18 +127,19 @@ pub(crate) fn look_ahead<S: Shelf>(
     ensures none { bits.new.items ≡ [] }
     ensures stays { S.contents shelf.new ≡ S.contents shelf.old }
 {
-    let mut held = hold_files(shelf, torrent, from, room);
+    let mut held = hold_files(shelf, torrent, from, pace, room);
     held.windows.hash(torrent, room);
     judge_files(torrent, from, &held, room, bits, buffer)
 }
 
-// Visits the small files that come next.
+// Visits the small files that come next, until the line of one of them is due.
 // It has what it makes in its frame too, so it is not inlined.
 #[inline(never)]
-fn hold_files<S: Shelf>(
+fn hold_files<S: Shelf, P: Pace>(
     shelf: &mut S,
     torrent: &Torrent<'_>,
     from: usize,
+    pace: &mut P,
     room: &mut Vec<u8>,
 ) -> HeldFiles
     requires from { from ≤ length torrent.now.files }
@@ -160,6 +162,10 @@ fn hold_files<S: Shelf>(
         let visited = hold_file(shelf, torrent, file, room, used);
         held.keep(visited, used, size);
         used += size;
+        pace.wait();
+        if pace.is_due() {
+            break 'files;
+        }
     }
     held
 }

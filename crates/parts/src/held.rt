@@ -1,13 +1,12 @@
 //! A small file that is read whole, to be judged together with others.
-ghost use Rattle.std.specs.Prelude.{◌≡◌, ℕ, ◌+◌, ◌≤◌, length, take};
+ghost use Rattle.std.specs.Prelude.{◌≡◌, ℕ, ◌+◌, ◌≤◌, length, take, ◌<◌, ◌^◌};
 ghost use Rattle.block_windows.specs.Files.{bytes_at};
-ghost use Rattle.opening.specs.Seen.{file_entry};
 ghost use Rattle.folders.specs.Verdicts.{IsFileOf};
+ghost use Rattle.opening.specs.Seen.{file_entry};
 ghost use Rattle.parts.specs.Held.{IsHeldFor, Promises};
 
-use crate::bits::taken;
 use benc::{DeviceFault, Source};
-use folders::{FileReader, Shelf, fill, visit};
+use folders::{RoomReader, Shelf, taken, visit};
 use opening::{File, Torrent};
 
 /// What the visit of a file gave whose bytes are held.
@@ -21,27 +20,6 @@ pub(crate) enum Held {
     Other,
     /// Its content has the stated length, and is held.
     Whole,
-}
-
-/// Reads a file of a stated size into a room, from this byte of it on, and one byte more to see the
-/// file's end.
-#[derive(Drop)]
-pub(crate) struct HeldReader {
-    pub(crate) room: Vec<u8>,
-    pub(crate) at: usize,
-    pub(crate) size: usize,
-}
-
-impl<F: Source> FileReader<F, Result<usize, DeviceFault>> for HeldReader {
-    ghost use Rattle.parts.specs.Held.{FitsIn, ReadsHeld};
-
-    ghost may_read = { FitsIn };
-
-    ghost reads = { ReadsHeld };
-
-    fn read(&mut self, file: &mut F, _buffer: &mut [u8]) -> Result<usize, DeviceFault> {
-        fill(file, &mut self.room[self.at..self.at + self.size + 1])
-    }
 }
 
 /// Opens a file, reads it into the room from this byte on, and hands it back. It is read to one
@@ -61,7 +39,7 @@ pub(crate) fn hold_file<S: Shelf>(
     ensures count { length room.new.items ≡ length room.old.items }
     ensures stays { S.contents shelf.new ≡ S.contents shelf.old }
 {
-    let mut reader = HeldReader {
+    let mut reader = RoomReader {
         room: taken(room),
         at,
         size: file.length as usize,
@@ -84,4 +62,31 @@ fn held_of(read: Result<usize, DeviceFault>, size: usize) -> Held
         Ok(_) => Held::Other,
         Err(_) => Held::Unreadable,
     }
+}
+
+/// The bytes of a file that is held, as a source that never fails.
+#[derive(Drop)]
+pub(crate) struct HeldBytes<'a> {
+    pub(crate) rest: &'a [u8],
+    ghost finite: { length rest.now < 2 ^ 64 },
+}
+
+impl<'a> Source for HeldBytes<'a> {
+    ghost use Rattle.std.specs.Prelude.{length, Some};
+
+    ghost seen = { λ s. record { left = Some s.rest.now; limit = length s.rest.now; faults = 0 } };
+
+    fn read(&mut self, buf: &mut [u8]) -> Result<usize, DeviceFault> {
+        let count = buf.len().min(self.rest.len());
+        let (given, rest) = self.rest.split_at(count);
+        buf[..count].copy_from_slice(given);
+        self.rest = rest;
+        Ok(count)
+    }
+
+    fn failures(&self) -> u64 {
+        0
+    }
+
+    ghost finite = { λ s. s.finite };
 }

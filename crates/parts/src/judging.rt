@@ -1,23 +1,24 @@
 //! How a file that is held is judged: by the root of its tree and its version 1 pieces, and if one
 //! of these is another than is listed, as a row of pieces.
-ghost use Rattle.std.specs.Prelude.{◌≡◌, ◌+◌, ◌<◌, ◌≤◌, [], IsTrue, length};
+ghost use Rattle.std.specs.Prelude.{◌≡◌, ◌+◌, ◌<◌, ◌≤◌, [], IsTrue, length, slice_range, Some};
 ghost use Rattle.block_windows.specs.Files.{bytes_at};
-ghost use Rattle.opening.specs.Seen.{file_entry};
+ghost use Rattle.cut_windows.specs.Windows.{HasCuts, IsHashed, length_of_cuts};
 ghost use Rattle.folders.specs.Verdicts.{IsFileOf};
-ghost use Rattle.parts.specs.Held.{IsJudged, IsJudgedGood};
+ghost use Rattle.opening.specs.Description.{Version1};
+ghost use Rattle.opening.specs.Seen.{file_entry};
+ghost use Rattle.parts.specs.Held.{IsJudged, IsJudgedGood, AreCutsGood};
 ghost use Rattle.parts.specs.Windows.{AreHashed, StandsAt};
 ghost use Rattle.parts.specs.declared.held.Held.TheVariants as kept;
 
-use crate::file_pieces::read_pieces;
-use crate::good_cuts::are_cuts_good;
-use crate::held::Held;
-use crate::held_bytes::HeldBytes;
-use crate::places::piece_count;
-use crate::span::Span;
+use crate::held::{Held, HeldBytes};
+use crate::places::{Span, piece_count};
+use crate::row::read_pieces;
 use crate::verdicts::Verdicts;
 use crate::windows::{Firsts, Windows};
+use cut_windows::CutWindow;
 use folders::FileVerdict;
 use opening::{File, Torrent};
+use pieces::V1;
 
 /// The verdicts on a file of which this is held: its bytes stand in the room from `start` on, and
 /// it in the windows from `firsts` on. Conditions: the torrent has the file, what is in the windows
@@ -83,6 +84,45 @@ fn is_good(
         && are_cuts_good(torrent, file, &windows.cuts, firsts.cut, room, start)
 }
 
+// Whether the version 1 pieces of a file are good, by their digests in a window, or the torrent
+// has none. It does not say so of a file whose last piece the stream's end cuts short, as no pad
+// follows it. Conditions: the torrent has the file, which is not empty, and its version 1 pieces
+// are in the window, from `first` on, hashed.
+fn are_cuts_good(
+    torrent: &Torrent<'_>,
+    file: &File<'_>,
+    cuts: &CutWindow,
+    first: usize,
+    _room: &[u8],
+    _start: usize,
+) -> bool
+    requires file { IsFileOf torrent.now (file_entry file.now) }
+    requires some { 0 < file.now.length }
+    requires piece_length { length_of_cuts cuts.now ≡ torrent.now.piece_length }
+    requires stands { HasCuts cuts.now first _start file.now.length }
+    requires inside { _start + file.now.length ≤ length _room.now }
+    requires hashed { (v : Version1) → torrent.now.v1 ≡ Some v → IsHashed cuts.now _room.now }
+    ensures { IsTrue result → AreCutsGood torrent.now (file_entry file.now)
+        (bytes_at _room.now _start file.now.length) }
+{
+    torrent.recall_sound();
+    let Some(v1) = torrent.v1() else {
+        return true;
+    };
+    let end = file.first_piece + piece_count(torrent, file);
+    torrent.piece_length() * end <= v1.total
+        && cuts.are_listed(first, listed(v1, file.first_piece, end))
+}
+
+// What is listed for these version 1 pieces.
+fn listed<'t>(v1: &V1<'t>, from: u64, to: u64) -> &'t [[u8; 20]]
+    requires order { from ≤ to }
+    requires there { to ≤ length v1.now.pieces.now }
+    ensures { result.now ≡ slice_range v1.now.pieces.now from to }
+{
+    &v1.pieces[from as usize..to as usize]
+}
+
 // Judges the bytes of a file as a row of pieces. Conditions: the torrent has the file, they are as
 // many as it states, no bits are kept, and the buffer is not empty.
 fn judge_bytes(
@@ -102,7 +142,7 @@ fn judge_bytes(
     torrent.recall_sound();
     let span = Span {
         from: 0,
-        to: piece_count(torrent, file.length),
+        to: piece_count(torrent, file),
         ends: true,
     };
     let mut source = HeldBytes { rest: bytes };

@@ -9,8 +9,7 @@ ghost use Rattle.folders.specs.Verdicts.{IsFileOf};
 ghost use Rattle.parts.specs.PartLines.{answer_line, has_place, held_as, lines_as, part_text};
 ghost use Rattle.parts.specs.PartWords.{bad_head_row, head_row, last_as, part_answer_row, part_as, part_words};
 
-use crate::places::Places;
-use crate::span::touches;
+use crate::places::{Places, touches};
 use benc::{DeviceFault, Sink, WriteFault};
 use folders::{FileVerdict, Report, say_verdict, say_version1};
 use lines::{Line, LineSink, Parted, finish_after, say, strip_line};

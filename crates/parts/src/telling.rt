@@ -1,21 +1,23 @@
-//! What is written of each file of a check as soon as it is done.
-ghost use Rattle.std.specs.Prelude.{◌≡◌, ◌*◌, ◌≤◌, length, IfOk, OnErr};
+//! What is said of each file of a check as soon as it is done: its line, and those of its runs of
+//! bad pieces.
+ghost use Rattle.std.specs.Prelude.{◌≡◌, ◌*◌, ◌≤◌, length, IfOk, OnErr, ◌+◌, ◌-◌, ◌<◌, ◌++◌, min, MatchOption};
 ghost use Rattle.std.specs.Vec.{vec_capacity};
-ghost use Rattle.opening.specs.Seen.{file_entry};
+ghost use Rattle.benc.specs.Device.{Wrote};
 ghost use Rattle.folders.specs.Verdicts.{IsFileOf};
+ghost use Rattle.lines.specs.Reading.{BeginsWith};
+ghost use Rattle.lines.specs.Table.{row_of};
+ghost use Rattle.opening.specs.Seen.{file_entry};
 ghost use Rattle.parts.specs.Parts.{piece_count as pieces_in};
-ghost use Rattle.parts.specs.Runs.{WritesRuns};
+ghost use Rattle.parts.specs.Runs.{WritesRuns, run_text};
 ghost use Rattle.parts.specs.Telling.{IsMostPieces, NeedsBits, TellsFile, TellsNothing, has_runs};
-ghost use Rattle.parts.specs.Words.{words_as};
+ghost use Rattle.parts.specs.Words.{words_as, run_row};
 ghost use Rattle.parts.specs.declared.telling.Telling.TheVariants as telling;
 
-use crate::places::{Places, piece_count};
-use crate::run::say_run;
-use crate::span::span_of;
+use crate::places::{Places, piece_count, span_of};
 use benc::DeviceFault;
 use folders::{FileVerdict, Lines, say_verdict, say_wanted};
 use hashtree::clear_run;
-use lines::LineSink;
+use lines::{Checked, Line, LineSink, say, strip_line};
 use opening::{File, Torrent};
 use std::alloc::{AllocError, Global};
 
@@ -71,8 +73,8 @@ impl Telling {
             Telling::Line(lines) => say_wanted(lines, verdict, file, out),
             Telling::LineAndRuns(lines) => {
                 say_wanted(lines, verdict, file, out)?;
-                if may_have_runs(verdict) {
-                    let count = piece_count(torrent, file.length);
+                if has_runs(verdict) {
+                    let count = piece_count(torrent, file);
                     say_runs(torrent, file, 0, count, bits, out)?;
                 }
                 Ok(())
@@ -101,7 +103,7 @@ fn say_marked<L: LineSink>(
         return Ok(());
     };
     say_verdict(verdict, file, out)?;
-    if may_have_runs(verdict) {
+    if has_runs(verdict) {
         say_runs(torrent, file, span.from, span.to, bits, out)?;
     }
     Ok(())
@@ -115,13 +117,13 @@ fn most_pieces(torrent: &Torrent<'_>) -> u64
     let entries = torrent.files();
     let mut most: u64 = 0;
     'files: for file in entries {
-        most = most.max(piece_count(torrent, file.length));
+        most = most.max(piece_count(torrent, file));
     }
     most
 }
 
-// Whether the bad pieces of a file are to be printed.
-fn may_have_runs(verdict: FileVerdict) -> bool
+/// Whether the lines of the bad pieces of a file with this verdict are said.
+pub fn has_runs(verdict: FileVerdict) -> bool
     ensures { result ≡ has_runs verdict }
 {
     matches!(verdict, FileVerdict::WrongLength | FileVerdict::Bad(_))
@@ -151,4 +153,91 @@ fn say_runs<L: LineSink>(
         at = end;
     }
     Ok(())
+}
+
+// The torrent's numbers of the first and last piece of a run, and the offsets in the file of its
+// first and last byte.
+#[derive(Drop)]
+struct Bounds {
+    first: u64,
+    last: u64,
+    from: u64,
+    to: u64,
+}
+
+/// Says the line `bad pieces FIRST LAST bytes FROM-TO` of the run from one piece of a file up to
+/// another. FIRST and LAST are the torrent's numbers of pieces, FROM and TO offsets in the file,
+/// both included. After a fault a prefix of it went out. Conditions: the torrent has the file, and
+/// the pieces are some of its own.
+pub fn say_run<L: LineSink>(
+    torrent: &Torrent<'_>,
+    file: &File<'_>,
+    from: u64,
+    to: u64,
+    out: &mut L,
+) -> Result<(), DeviceFault>
+    requires file { IsFileOf torrent.now (file_entry file.now) }
+    requires some { from < to }
+    requires inside { to ≤ pieces_in torrent.now (file_entry file.now) }
+    ensures { Wrote (L.seen out.old) (L.seen out.new) result (L.spelled
+        (run_row torrent.now (file_entry file.now) (record { first = from; last = to - 1 }))) }
+{
+    say(&line_of(torrent, file, from, to), out)
+}
+
+/// What stands behind that line, if a text begins with it. It takes no memory. Conditions: as for
+/// `say_run`.
+pub fn strip_run<'a>(
+    torrent: &Torrent<'_>,
+    file: &File<'_>,
+    from: u64,
+    to: u64,
+    text: &'a [u8],
+) -> Option<&'a [u8]>
+    requires file { IsFileOf torrent.now (file_entry file.now) }
+    requires some { from < to }
+    requires inside { to ≤ pieces_in torrent.now (file_entry file.now) }
+    ensures { let line = run_text torrent.now (file_entry file.now)
+        (record { first = from; last = to - 1 }) in
+        MatchOption result (BeginsWith line text.now → ⊥) (λ rest. text.now ≡ line ++ rest.now) }
+{
+    strip_line(&line_of(torrent, file, from, to), text)
+}
+
+// The line of a run. Conditions: as for `say_run`.
+fn line_of(torrent: &Torrent<'_>, file: &File<'_>, from: u64, to: u64) -> Line<'static>
+    requires file { IsFileOf torrent.now (file_entry file.now) }
+    requires some { from < to }
+    requires inside { to ≤ pieces_in torrent.now (file_entry file.now) }
+    ensures { row_of result
+        ≡ run_row torrent.now (file_entry file.now) (record { first = from; last = to - 1 }) }
+{
+    let run = bounds_of(torrent, file, from, to);
+    Line::Checked(Checked::BadPieces {
+        first: run.first,
+        last: run.last,
+        from: run.from,
+        to: run.to,
+    })
+}
+
+// What the line of a run tells. Conditions: as for `say_run`.
+fn bounds_of(torrent: &Torrent<'_>, file: &File<'_>, from: u64, to: u64) -> Bounds
+    requires file { IsFileOf torrent.now (file_entry file.now) }
+    requires some { from < to }
+    requires inside { to ≤ pieces_in torrent.now (file_entry file.now) }
+    ensures first { result.first ≡ file.now.first_piece + from }
+    ensures last { result.last ≡ file.now.first_piece + (to - 1) }
+    ensures from { result.from ≡ torrent.now.piece_length * from }
+    ensures to { result.to
+        ≡ min (torrent.now.piece_length * (to - 1 + 1)) file.now.length - 1 }
+{
+    torrent.recall_sound();
+    let piece_length = torrent.piece_length();
+    Bounds {
+        first: file.first_piece + from,
+        last: file.first_piece + (to - 1),
+        from: piece_length * from,
+        to: (piece_length * to).min(file.length) - 1,
+    }
 }

@@ -1,9 +1,13 @@
-//! What a part says of one file.
-ghost use Rattle.std.specs.Prelude.{◌≡◌};
+//! What is said of a file and of its version 1 pieces, also of several files at once; and how what
+//! parts say is joined.
+ghost use Rattle.std.specs.Prelude.{◌≡◌, ℕ, ◌+◌, ◌<◌, ◌≤◌, [], ◌∷◌, ◌++◌, length, min, slice_get, is_some, IfSome, IsNone, Some};
+ghost use Rattle.folders.specs.declared.report.FileVerdict.{FileVerdict as OfFile};
+ghost use Rattle.folders.specs.declared.report.V1Verdict.{V1Verdict as OfV1};
 ghost use Rattle.parts.specs.Saying.{IsSmallFrom, file_says, v1_says, whole_says};
+ghost use Rattle.parts.specs.Worse.{worse, worse_v1};
 
-use crate::file_pieces::Read;
-use folders::{FileVerdict, V1Verdict};
+use crate::row::Read;
+use folders::{FileVerdict, Report, V1Verdict};
 use opening::File;
 
 /// What a part says of a file, and of the version 1 pieces that begin with the file's pieces.
@@ -103,5 +107,108 @@ fn v1_verdict(first: u64, bad: Option<u64>) -> V1Verdict
     match bad {
         Some(number) => V1Verdict::Bad(first + number),
         None => V1Verdict::Good,
+    }
+}
+
+/// How many files are judged together at most.
+pub(crate) const MOST: usize = 64;
+
+/// Verdicts on the files that come next, which were visited and judged together.
+#[derive(Drop)]
+pub(crate) struct Ahead {
+    verdicts: [Verdicts; MOST],
+    next: usize,
+    count: usize,
+    ghost order: { next ≤ count },
+    ghost few: { count ≤ 64 },
+}
+
+impl Ahead {
+    ghost use Rattle.parts.specs.Batches.{left};
+
+    /// None.
+    pub(crate) fn none() -> Ahead
+        ensures none { left result ≡ [] }
+        ensures count { result.count ≡ 0 }
+    {
+        Ahead {
+            verdicts: [Verdicts::not_whole(FileVerdict::Missing); MOST],
+            next: 0,
+            count: 0,
+        }
+    }
+
+    /// The next one.
+    pub(crate) fn take(&mut self) -> Option<Verdicts>
+        ensures some { IfSome result (λ v. left self.old ≡ v ∷ left self.new) }
+        ensures none { IsNone result → left self.new ≡ left self.old }
+        ensures ended { IsNone result → left self.old ≡ [] }
+    {
+        if self.next == self.count {
+            return None;
+        }
+        let verdicts = self.verdicts[self.next];
+        self.next += 1;
+        Some(verdicts)
+    }
+
+    /// One more, behind the others. Condition: there is room.
+    pub(crate) fn push(&mut self, verdicts: Verdicts)
+        requires { self.old.count < 64 }
+        ensures count { self.new.count ≡ self.old.count + 1 }
+        ensures last { left self.new ≡ left self.old ++ verdicts ∷ [] }
+    {
+        self.verdicts[self.count] = verdicts;
+        self.count += 1;
+    }
+}
+
+/// The worse of two verdicts on a file: missing, unreadable, of a wrong length, bad at the earlier
+/// piece, good.
+pub fn worse(a: FileVerdict, b: FileVerdict) -> FileVerdict
+    ensures { result ≡ worse a b }
+{
+    match (a, b) {
+        (FileVerdict::Missing, _) | (_, FileVerdict::Missing) => FileVerdict::Missing,
+        (FileVerdict::Unreadable, _) | (_, FileVerdict::Unreadable) => FileVerdict::Unreadable,
+        (FileVerdict::WrongLength, _) | (_, FileVerdict::WrongLength) => FileVerdict::WrongLength,
+        (FileVerdict::Bad(p), FileVerdict::Bad(q)) => FileVerdict::Bad(p.min(q)),
+        (FileVerdict::Good, other) => other,
+        (bad, FileVerdict::Good) => bad,
+    }
+}
+
+/// The worse of two verdicts on the version 1 pieces: not checked, bad at the earlier piece, good.
+pub fn worse_v1(a: V1Verdict, b: V1Verdict) -> V1Verdict
+    ensures { result ≡ worse_v1 a b }
+{
+    match (a, b) {
+        (V1Verdict::NotChecked, _) | (_, V1Verdict::NotChecked) => V1Verdict::NotChecked,
+        (V1Verdict::Bad(p), V1Verdict::Bad(q)) => V1Verdict::Bad(p.min(q)),
+        (V1Verdict::Good, other) => other,
+        (bad, V1Verdict::Good) => bad,
+    }
+}
+
+/// Joins what one more part reports to a report: each verdict becomes the worse of the two.
+/// Condition: both are of one torrent.
+pub fn join(report: &mut Report, part: &Report)
+    requires files { length report.old.files.items ≡ length part.now.files.items }
+    requires hybrid { is_some report.old.v1 ≡ is_some part.now.v1 }
+    ensures count { length report.new.files.items ≡ length report.old.files.items }
+    ensures each { (n : ℕ) (v w : OfFile) → slice_get report.old.files.items n ≡ Some v
+        → slice_get part.now.files.items n ≡ Some w
+        → slice_get report.new.files.items n ≡ Some (worse v w) }
+    ensures hybrid { is_some report.new.v1 ≡ is_some report.old.v1 }
+    ensures version1 { (v w : OfV1) → report.old.v1 ≡ Some v → part.now.v1 ≡ Some w
+        → report.new.v1 ≡ Some (worse_v1 v w) }
+{
+    let count = report.files.len();
+    'files: for i in 0..count {
+        let joined = worse(report.files[i], part.files[i]);
+        report.files[i] = joined;
+    }
+    if let (Some(a), Some(b)) = (report.v1, part.v1) {
+        report.v1 = Some(worse_v1(a, b));
     }
 }

@@ -11,11 +11,9 @@ ghost use Rattle.parts.specs.Rooms.{IsRoomFor};
 ghost use Rattle.parts.specs.Visiting.{EndsVisits};
 ghost use Rattle.parts.specs.Words.{words_as};
 
-use crate::buffer::buffer_of;
-use crate::joining::worse_v1;
-use crate::room::Room;
+use crate::room::{Room, buffer_of};
 use crate::telling::Telling;
-use crate::verdicts::Verdicts;
+use crate::verdicts::{Verdicts, worse_v1};
 use benc::DeviceFault;
 use folders::{Report, V1Verdict};
 use lines::LineSink;
@@ -57,8 +55,9 @@ pub(crate) trait Visitor<S> {
 }
 
 /// Visits each file of a torrent, and says what is wanted of it before the next one is visited.
-/// No memory is taken but for the buffer: if that is refused, it is a smaller one. What breaks off
-/// ends the visits. Condition: there is room for what is told.
+/// No memory is taken but for the buffer, which is a smaller one if that is refused, and for long
+/// pieces of a hybrid, which do without. What breaks off ends the visits. Condition: there is room
+/// for what is told.
 // It has a block in its frame, so it is not inlined.
 #[inline(never)]
 pub(crate) fn visit_files<S, V: Visitor<S>, L: LineSink>(

@@ -12,12 +12,12 @@ use folders::Lines;
 use lines::LineSink;
 use opening::Torrent;
 use printing::Fault;
-use real_files::{Cleared, Folder, Progress, System};
+use real_files::{Cleared, Folder, Progress, System, TerminalPace};
 use std::io::IsTerminal;
 use std::time::Instant;
 
-/// Checks that a folder holds the files of a torrent. A terminal gets each line as soon as it is
-/// known, all else gets full buffers. Gives the exit status.
+/// Checks that a folder holds the files of a torrent. A terminal gets a line at a time, at the pace
+/// of [`TerminalPace`]; all else gets full buffers. Gives the exit status.
 pub(crate) fn perform_check<'a>(system: &System, asked: &Check<'a>) -> Result<u8, Fault<'a>> {
     let bytes = read_torrent(system, asked.torrent)?;
     if system.rt().stdout().is_terminal() {
@@ -95,5 +95,6 @@ fn judge_folder<'a, L: LineSink>(
     if asked.bad {
         return checks::check_bad(system.alloc(), torrent, &mut folder, lines, out);
     }
-    checks::check(system.alloc(), torrent, &mut folder, lines, out)
+    let mut pace = TerminalPace::new(system);
+    checks::check(system.alloc(), torrent, &mut folder, lines, &mut pace, out)
 }

@@ -8,8 +8,8 @@ use excluding::{Excluding, regex_of};
 use folders::Shelf;
 use printing::Fault;
 use real_files::{
-    Cause, Cleared, Folder, Noted, Progress, System, bytes_of, create_new_output, create_output,
-    refuse_if_there,
+    Cause, Cleared, Folder, FolderLengths, Noted, Progress, System, bytes_of, create_new_output,
+    create_output, refuse_if_there,
 };
 use regex::Regex;
 use std::alloc::AllocError;
@@ -95,7 +95,8 @@ fn gather<'a, S: Shelf, W: Sink>(
         piece_length: piece_length(system, asked, shelf)?,
         hybrid: asked.hybrid,
     };
-    outcomes::gather(system.alloc(), &create, shelf, out)
+    let mut lengths = FolderLengths::new(system, asked.dir);
+    outcomes::gather(system.alloc(), &create, shelf, &mut lengths, out)
 }
 
 /// How many bytes a piece has.

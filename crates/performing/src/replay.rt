@@ -1,6 +1,6 @@
 //! `replay`: which messages of a record are right.
 use crate::holding::hold_onto;
-use crate::printed::{refuse, say_to};
+use crate::printed::{buffered_output, refuse, say_to};
 use crate::sizes::all_bytes;
 use crate::torrent_file::{open_torrent, read_torrent};
 use actions::Replay;
@@ -9,9 +9,12 @@ use commands::outcomes;
 use lines::LineSink;
 use opening::Torrent;
 use printing::Fault;
-use real_files::{Cause, Cleared, Folder, Noted, Progress, System, create_output};
+use real_files::{
+    Cause, Cleared, Folder, Noted, Output, Progress, System, TerminalPace, create_output,
+};
 use session::{Paged, Session};
 use std::fs::File;
+use std::io::{BufWriter, IsTerminal};
 
 // How many bytes a block has.
 const BLOCK: u64 = 16_384;
@@ -83,7 +86,8 @@ fn replay_file<'a, L: LineSink>(
     replay_onto(system, &mut session, file, asked.padded, out, answers)
 }
 
-// Fills the session from the folder, if there is one.
+// Fills the session from the folder, if there is one. Its lines go out by full buffers, all of them
+// before the record is read; on a terminal line by line, at its pace.
 fn seed<'a, L: LineSink>(
     system: &System,
     torrent: &Torrent<'_>,
@@ -96,7 +100,22 @@ fn seed<'a, L: LineSink>(
         return Ok(());
     };
     let mut folder = Folder::with_torrent(system, dir, torrent, progress);
-    outcomes::seed(system.alloc(), session, &mut folder, out)
+    let mut pace = TerminalPace::new(system);
+    let Some(buffered) = buffer_for_seeds(system) else {
+        return outcomes::seed(system.alloc(), session, &mut folder, &mut pace, out);
+    };
+    let cleared = Cleared::new(buffered, progress);
+    say_to!(asked.json, cleared, lines => {
+        outcomes::seed(system.alloc(), session, &mut folder, &mut pace, &mut lines)
+    })
+}
+
+// Standard output with a buffer, unless it is a terminal or memory is refused.
+fn buffer_for_seeds<'s>(system: &'s System) -> Option<FromWrite<BufWriter<Output<'s>>>> {
+    if system.rt().stdout().is_terminal() {
+        return None;
+    }
+    buffered_output(system).ok()
 }
 
 // Replays the record, and writes the answers to their file, if they are wanted.

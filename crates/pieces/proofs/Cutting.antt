@@ -39,6 +39,12 @@ cut_count_none n some =
     (let a : 0 * n ≤ 0 + (n - 1) = omega arith in a)
     (let b : 0 + (n - 1) < (0 + 1) * n = omega arith in b)
 
+-- whole cuts
+pub whole_count : (p n : ℕ) → 0 < p → pieces_of p (p * n) ≡ n
+whole_count p zero some = let none : p * 0 ≡ 0 = omega arith in ap (pieces_of p) none ∙ cut_count_none p some
+whole_count p (suc n) some =
+    let step : p * suc n ≡ p * n + p = omega arith in ap (pieces_of p) step ∙ cut_count_is p n p some (omega arith) ∙ omega arith
+
 pub length-cut_digests : (n : ℕ) (content : List ℕ) → length (cut_digests n content) ≡ pieces_of n (length content)
 length-cut_digests n content =
     length-map (cuts n content) sha1 ∙ length-map-range_with_len (cut n content) 0 (pieces_of n (length content))

@@ -11,8 +11,8 @@ use Rattle.pieces.specs.Pieces.{pieces_of}
 use Rattle.pieces.specs.declared.cutter.Cutter.{Cutter}
 use Rattle.pieces.specs.declared.v1_feed.V1Feed.{V1Feed}
 use Rattle.pieces.specs.Cutting.{IsCutting}
-use Rattle.pieces.specs.Feeding.{FeedsStream, IsFeedAt, IsFeedGiven, IsFirstBad}
-use Rattle.pieces.proofs.Cutting.{last_cut, cut_count_is, cut_count_least, cut_count_none}
+use Rattle.pieces.specs.Feeding.{FeedsStream, IsFeedGiven, IsFirstBad}
+use Rattle.pieces.proofs.Cutting.{last_cut, cut_count_is, cut_count_least, whole_count}
 use Rattle.pieces.proofs.Comparing.{first_bad_append, some_from}
 
 -- a cut that is not empty holds something
@@ -21,87 +21,81 @@ some_held r zero fits holds = let never : r ≡ true = fits.1 refl in cc
 some_held r (suc k) fits holds = omega arith
 
 -- nothing runs after a bad cut, so a running cut comes before one
-pub no_bad : (f : V1Feed) (pieces : List (List ℕ)) (n : ℕ) (content : List ℕ) → IsFeedAt f pieces n content → 0 < f.cutter.filled → f.bad ≡ None
-no_bad f pieces n content at some = elim (some_or_none f.bad) [
+pub no_bad : (f : V1Feed) (pieces : List (List ℕ)) (n : ℕ) (content : List ℕ) → IsFeedGiven f pieces n content → 0 < f.cutter.filled → f.bad ≡ None
+no_bad f pieces n content fed some = elim (some_or_none f.bad) [
   | inr none ↦ none
-  | inl bad ↦ absurd (omega (arith, at.stopped (λ none. none-some bad.0 (sym none ∙ bad.1))))
+  | inl bad ↦ absurd (omega (arith, fed.stopped (λ none. none-some bad.0 (sym none ∙ bad.1))))
 ]
 
 -- the content ends where the running cut does
-pub ends : (f : V1Feed) (pieces : List (List ℕ)) (n : ℕ) (content : List ℕ) → IsFeedAt f pieces n content → f.bad ≡ None
+pub ends : (f : V1Feed) (pieces : List (List ℕ)) (n : ℕ) (content : List ℕ) → IsFeedGiven f pieces n content → f.bad ≡ None → f.stages ≡ None
     → length content ≡ n * f.cut + f.cutter.filled
-ends f pieces n content at good = omega (arith, at.whole, (at.running good).length_is, length-drop (n * f.cut) content)
+ends f pieces n content fed good alone = omega (arith, fed.whole, (fed.running good alone).length_is, length-drop (n * f.cut) content)
 
 -- the running cut was full, and is closed
-pub at_closed : (f g : V1Feed) (pieces : List (List ℕ)) (n : ℕ) (content : List ℕ) → IsFeedAt f pieces n content → 0 < f.cutter.filled
-    → f.cutter.filled ≡ f.cutter.piece_length
+pub given_closed : (f g : V1Feed) (pieces : List (List ℕ)) (n : ℕ) (content : List ℕ) → IsFeedGiven f pieces n content → 0 < f.cutter.filled
+    → f.cutter.filled ≡ f.cutter.piece_length → f.stages ≡ None → g.stages ≡ None
     → g.given ≡ f.given → g.pieces ≡ f.pieces → g.cutter.piece_length ≡ f.cutter.piece_length → g.cut ≡ f.cut + 1 → g.cutter.filled ≡ 0 → IsCutting g.cutter []
-    → IsFirstBad n pieces content g.cut g.bad → IsFeedAt g pieces n content
-at_closed f g pieces n content at some full same_given same_pieces same_length next empty cutting bad =
+    → IsFirstBad n pieces content g.cut g.bad → IsFeedGiven g pieces n content
+given_closed f g pieces n content fed some full alone still same_given same_pieces same_length next empty cutting bad =
     let count : n * g.cut ≡ n * f.cut + n = ap (λ k. n * k) next ∙ omega arith in
-    let all : length content ≡ n * g.cut = omega (arith, ends f pieces n content at (no_bad f pieces n content at some), at.piece_length_is) in
+    let all : length content ≡ n * g.cut =
+    omega (arith, ends f pieces n content fed (no_bad f pieces n content fed some) alone, fed.piece_length_is) in
     let none : drop (n * g.cut) content ≡ [] = drop_all (n * g.cut) content (omega arith) in
     record {
-      given_is = at.given_is ∙ sym same_given;
-      pieces_are = ap (λ p. p.now) same_pieces ∙ at.pieces_are;
-      piece_length_is = same_length ∙ at.piece_length_is;
+      given_is = fed.given_is ∙ sym same_given;
+      pieces_are = ap (λ p. p.now) same_pieces ∙ fed.pieces_are;
+      piece_length_is = same_length ∙ fed.piece_length_is;
       whole = omega arith;
       bad_is = bad;
-      running = λ _. subst (IsCutting g.cutter) (sym none) cutting;
+      running = λ _ _. subst (IsCutting g.cutter) (sym none) cutting;
+      staged = λ s is. absurd (none-some s (sym still ∙ is));
       stopped = λ _. empty;
     }
 
 -- what is known of the cuts before stays known, as more comes
-bad_more : (f g : V1Feed) (pieces : List (List ℕ)) (n : ℕ) (content part : List ℕ) → IsFeedAt f pieces n content → g.cut ≡ f.cut → g.bad ≡ f.bad
+bad_more : (f g : V1Feed) (pieces : List (List ℕ)) (n : ℕ) (content part : List ℕ) → IsFeedGiven f pieces n content → g.cut ≡ f.cut → g.bad ≡ f.bad
     → IsFirstBad n pieces (content ++ part) g.cut g.bad
-bad_more f g pieces n content part at same_cut same_bad =
+bad_more f g pieces n content part fed same_cut same_bad =
     subst (λ k. IsFirstBad n pieces (content ++ part) k g.bad) (sym same_cut)
-    (subst (IsFirstBad n pieces (content ++ part) f.cut) (sym same_bad) (first_bad_append n pieces content part f.cut f.bad at.whole at.bad_is))
+    (subst (IsFirstBad n pieces (content ++ part) f.cut) (sym same_bad) (first_bad_append n pieces content part f.cut f.bad fed.whole fed.bad_is))
 
 -- some bytes go into the running cut
-pub fed_more : (f g : V1Feed) (pieces : List (List ℕ)) (n : ℕ) (content part : List ℕ) → IsFeedAt f pieces n content → f.bad ≡ None → 0 < length part
+pub fed_more : (f g : V1Feed) (pieces : List (List ℕ)) (n : ℕ) (content part : List ℕ) → IsFeedGiven f pieces n content → f.bad ≡ None
+    → f.stages ≡ None → g.stages ≡ f.stages
     → g.given ≡ f.given + length part → g.pieces ≡ f.pieces → g.cutter.piece_length ≡ f.cutter.piece_length → g.cut ≡ f.cut → g.bad ≡ f.bad
-    → g.cutter.filled ≡ f.cutter.filled + length part → IsCutting g.cutter (drop (n * f.cut) content ++ part) → IsFeedGiven g pieces n (content ++ part)
-fed_more f g pieces n content part at good some more same_pieces same_length same_cut same_bad filled cutting =
+    → IsCutting g.cutter (drop (n * f.cut) content ++ part) → IsFeedGiven g pieces n (content ++ part)
+fed_more f g pieces n content part fed good alone same_stages more same_pieces same_length same_cut same_bad cutting =
     let count : n * g.cut ≡ n * f.cut = ap (λ k. n * k) same_cut in
     let rest : drop (n * f.cut) content ++ part ≡ drop (n * g.cut) (content ++ part) =
-    sym (drop-append-le (n * f.cut) content part at.whole) ∙ ap (λ k. drop k (content ++ part)) (sym count) in
+    sym (drop-append-le (n * f.cut) content part fed.whole) ∙ ap (λ k. drop k (content ++ part)) (sym count) in
     record {
-      at = record {
-        given_is = omega (arith, at.given_is, length-append content part);
-        pieces_are = ap (λ p. p.now) same_pieces ∙ at.pieces_are;
-        piece_length_is = same_length ∙ at.piece_length_is;
-        whole = omega (arith, at.whole, length-append content part);
-        bad_is = bad_more f g pieces n content part at same_cut same_bad;
-        running = λ _. subst (IsCutting g.cutter) rest cutting;
-        stopped = λ bad. absurd (bad (same_bad ∙ good));
-      };
-      started = λ _ _. omega arith;
+      given_is = omega (arith, fed.given_is, more, length-append content part);
+      pieces_are = ap (λ p. p.now) same_pieces ∙ fed.pieces_are;
+      piece_length_is = same_length ∙ fed.piece_length_is;
+      whole = omega (arith, fed.whole, count, length-append content part);
+      bad_is = bad_more f g pieces n content part fed same_cut same_bad;
+      running = λ _ _. subst (IsCutting g.cutter) rest cutting;
+      staged = λ s is. absurd (none-some s (sym (same_stages ∙ alone) ∙ is));
+      stopped = λ bad. absurd (bad (same_bad ∙ good));
     }
 
 -- some bytes are counted, after a bad cut
-pub fed_skipped : (f g : V1Feed) (pieces : List (List ℕ)) (n : ℕ) (content more : List ℕ) → IsFeedAt f pieces n content → is_some f.bad ≡ true
+pub fed_skipped : (f g : V1Feed) (pieces : List (List ℕ)) (n : ℕ) (content more : List ℕ) → IsFeedGiven f pieces n content → is_some f.bad ≡ true
     → g.given ≡ f.given + length more → g.pieces ≡ f.pieces → g.cutter ≡ f.cutter → g.cut ≡ f.cut → g.bad ≡ f.bad → IsFeedGiven g pieces n (content ++ more)
-fed_skipped f g pieces n content more at bad counted same_pieces same_cutter same_cut same_bad =
+fed_skipped f g pieces n content more fed bad counted same_pieces same_cutter same_cut same_bad =
     let count : n * g.cut ≡ n * f.cut = ap (λ k. n * k) same_cut in
     let no : g.bad ≡ None → ⊥ = λ none. some_from f.bad bad (sym same_bad ∙ none) in
     record {
-      at = record {
-        given_is = omega (arith, at.given_is, length-append content more);
-        pieces_are = ap (λ p. p.now) same_pieces ∙ at.pieces_are;
-        piece_length_is = ap (λ (c : Cutter). c.piece_length) same_cutter ∙ at.piece_length_is;
-        whole = omega (arith, at.whole, length-append content more);
-        bad_is = bad_more f g pieces n content more at same_cut same_bad;
-        running = λ none. absurd (no none);
-        stopped = λ _. ap (λ (c : Cutter). c.filled) same_cutter ∙ at.stopped (some_from f.bad bad);
-      };
-      started = λ none. absurd (no none);
+      given_is = omega (arith, fed.given_is, counted, length-append content more);
+      pieces_are = ap (λ p. p.now) same_pieces ∙ fed.pieces_are;
+      piece_length_is = ap (λ (c : Cutter). c.piece_length) same_cutter ∙ fed.piece_length_is;
+      whole = omega (arith, fed.whole, count, length-append content more);
+      bad_is = bad_more f g pieces n content more fed same_cut same_bad;
+      running = λ none. absurd (no none);
+      staged = λ s is. absurd (none-some s (sym (g.stopped no) ∙ is));
+      stopped = λ _. ap (λ (c : Cutter). c.filled) same_cutter ∙ fed.stopped (some_from f.bad bad);
     }
-
--- after a bad cut nothing runs, so that nothing is missing from the running cut
-pub given_stopped : (f : V1Feed) (pieces : List (List ℕ)) (n : ℕ) (content : List ℕ) → IsFeedAt f pieces n content → is_some f.bad ≡ true
-    → IsFeedGiven f pieces n content
-given_stopped f pieces n content at bad = record { at = at; started = λ none. absurd (some_from f.bad bad none) }
 
 -- ---- what a feed was given, as a whole
 
@@ -125,37 +119,10 @@ feeds_both a b c x y both joined one two = record {
 -- ---- the end
 
 -- the digest of the running cut
-pub digest_of_last : (f : V1Feed) (pieces : List (List ℕ)) (n : ℕ) (content digest : List ℕ) → IsFeedAt f pieces n content → f.bad ≡ None
-    → f.cutter.filled ≤ f.cutter.piece_length
-    → digest ≡ sha1 (drop (n * f.cut) content) → digest ≡ sha1 (cut n content f.cut)
-digest_of_last f pieces n content digest at good bound is =
-    is ∙ ap sha1 (sym (last_cut n content f.cut (omega (arith, ends f pieces n content at good, at.piece_length_is))))
-
--- every cut is closed, once the running one is
-pub all_closed : (f : V1Feed) (pieces : List (List ℕ)) (n : ℕ) (content : List ℕ) → IsFeedAt f pieces n content → 0 < f.cutter.filled
-    → f.cutter.filled ≤ f.cutter.piece_length
-    → f.cut + 1 ≡ pieces_of n (length content)
-all_closed f pieces n content at some bound =
-    sym (ap (pieces_of n) (ends f pieces n content at (no_bad f pieces n content at some))
-    ∙ cut_count_is n f.cut f.cutter.filled some (omega (arith, at.piece_length_is)))
-
-none_of : (k : ℕ) → (0 < k → ⊥) → k ≡ 0
-none_of zero h = refl
-none_of (suc k) h = absurd (h (omega arith))
-
-zero_factor : (n c : ℕ) → 0 < n → n * c ≡ 0 → c ≡ 0
-zero_factor n zero pos h = refl
-zero_factor (suc n) (suc c) pos h = absurd (omega arith)
-zero_factor zero (suc c) pos h = absurd (omega arith)
-
--- there is none where nothing was given
-none_open : (f : V1Feed) (pieces : List (List ℕ)) (n : ℕ) (content : List ℕ) → IsFeedGiven f pieces n content → f.bad ≡ None → f.cutter.filled ≡ 0
-    → 0 < f.cutter.piece_length
-    → f.cut ≡ pieces_of n (length content)
-none_open f pieces n content fed good empty some =
-    let pos : 0 < n = omega (arith, fed.at.piece_length_is) in
-    let nothing : length content ≡ 0 = none_of (length content) (λ lt. omega (arith, fed.started good lt)) in
-    zero_factor n f.cut pos (omega (arith, ends f pieces n content fed.at good)) ∙ sym (ap (pieces_of n) nothing ∙ cut_count_none n pos)
+pub digest_of_last : (f : V1Feed) (pieces : List (List ℕ)) (n : ℕ) (content digest : List ℕ) → IsFeedGiven f pieces n content → f.bad ≡ None
+    → f.stages ≡ None → digest ≡ sha1 (drop (n * f.cut) content) → digest ≡ sha1 (cut n content f.cut)
+digest_of_last f pieces n content digest fed good alone is =
+    is ∙ ap sha1 (sym (last_cut n content f.cut (omega (arith, ends f pieces n content fed good alone, fed.piece_length_is, f.cutter.in_cut))))
 
 -- every cut was compared, up to a bad one
 pub record IsWhole (f : V1Feed) (pieces : List (List ℕ)) (n : ℕ) (content : List ℕ) : Type 0 where
@@ -164,27 +131,34 @@ pub record IsWhole (f : V1Feed) (pieces : List (List ℕ)) (n : ℕ) (content : 
   pub all : f.bad ≡ None → f.cut ≡ pieces_of n (length content)
   pub bad_is : IsFirstBad n pieces content f.cut f.bad
 
+-- the running cut was the last one, and is closed
 pub whole_closed : (f g : V1Feed) (pieces : List (List ℕ)) (n : ℕ) (content : List ℕ) → IsFeedGiven f pieces n content → 0 < f.cutter.filled
-    → f.cutter.filled ≤ f.cutter.piece_length
-    → g.pieces ≡ f.pieces → g.cut ≡ f.cut + 1 → (f.bad ≡ None → IsFirstBad n pieces content g.cut g.bad) → IsWhole g pieces n content
-whole_closed f g pieces n content fed some bound same next bad =
-    let all : g.cut ≡ pieces_of n (length content) = next ∙ all_closed f pieces n content fed.at some bound in
+    → f.stages ≡ None → g.pieces ≡ f.pieces → g.cut ≡ f.cut + 1 → (f.bad ≡ None → IsFirstBad n pieces content g.cut g.bad) → IsWhole g pieces n content
+whole_closed f g pieces n content fed some alone same next bad =
+    let good : f.bad ≡ None = no_bad f pieces n content fed some in
+    let all : g.cut ≡ pieces_of n (length content) =
+    next ∙ sym (ap (pieces_of n) (ends f pieces n content fed good alone)
+    ∙ cut_count_is n f.cut f.cutter.filled some (omega (arith, fed.piece_length_is, f.cutter.in_cut))) in
     record {
-      pieces_are = ap (λ p. p.now) same ∙ fed.at.pieces_are;
+      pieces_are = ap (λ p. p.now) same ∙ fed.pieces_are;
       within = omega arith;
       all = λ _. all;
-      bad_is = bad (no_bad f pieces n content fed.at some);
+      bad_is = bad good;
     }
 
+-- none runs
 pub whole_none : (f : V1Feed) (pieces : List (List ℕ)) (n : ℕ) (content : List ℕ) → IsFeedGiven f pieces n content → f.cutter.filled ≡ 0
-    → 0 < f.cutter.piece_length
-    → IsWhole f pieces n content
-whole_none f pieces n content fed empty some = record {
-  pieces_are = fed.at.pieces_are;
-  within = cut_count_least n f.cut (length content) (omega (arith, fed.at.piece_length_is)) fed.at.whole;
-  all = λ good. none_open f pieces n content fed good empty some;
-  bad_is = fed.at.bad_is;
-}
+    → f.stages ≡ None → IsWhole f pieces n content
+whole_none f pieces n content fed empty alone =
+    let some : 0 < n = omega (arith, fed.piece_length_is, f.cutter.some) in
+    record {
+      pieces_are = fed.pieces_are;
+      within = cut_count_least n f.cut (length content) some fed.whole;
+      all = λ good.
+          let end : length content ≡ n * f.cut = omega (arith, ends f pieces n content fed good alone) in
+          sym (ap (pieces_of n) end ∙ whole_count n f.cut some);
+      bad_is = fed.bad_is;
+    }
 
 -- some zeros more
 pub zeros_more : (done part n : ℕ) → part ≤ n → ◌++◌ {A = ℕ} (replicate done 0) (take part (replicate n 0)) ≡ replicate (done + part) 0

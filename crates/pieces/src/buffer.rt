@@ -1,7 +1,9 @@
 //! The buffer through which files are read.
 
-ghost use Rattle.std.specs.Prelude.{◌<◌, length};
+ghost use Rattle.std.specs.Prelude.{◌≡◌, ◌*◌, ◌/◌, ◌-◌, ◌^◌, ◌<◌, ◌≤◌, ◌↔◌, IsTrue, length, min};
+ghost use Rattle.lanes.specs.declared.words.TheConstants.{LANES};
 
+use crate::room::room_of_zeros;
 use lanes::LANES;
 use std::alloc::Global;
 
@@ -11,8 +13,7 @@ const BLOCK: usize = 16_384;
 // The most blocks that room is asked for: 32 MiB.
 const MOST: u64 = 2048;
 
-// What there is without memory, and what room is filled by at a time: a quarter of a block, since
-// it stands on the stack.
+// What there is without memory: a quarter of a block, since it stands on the stack.
 const LEAST: usize = BLOCK / 4;
 
 /// A buffer through which files are read, with room for what is hashed side by side. If memory for
@@ -35,11 +36,10 @@ impl PieceBuffer {
     /// A buffer for a piece of this length in each lane. If that is more than 32 MiB, or memory for
     /// it is refused, it is one for a block in each.
     pub fn of_pieces(alloc: Global, piece_length: u64) -> PieceBuffer {
-        let blocks = (piece_length / BLOCK as u64).saturating_mul(LANES as u64);
-        if blocks > MOST {
+        if !fits_in_lanes(piece_length) {
             return PieceBuffer::of_blocks(alloc);
         }
-        match room_for(alloc, blocks as usize) {
+        match room_for(alloc, blocks_in_lanes(piece_length) as usize) {
             Some(room) => PieceBuffer {
                 room,
                 least: [0; LEAST],
@@ -59,13 +59,21 @@ impl PieceBuffer {
     }
 }
 
+/// Whether a buffer may have a piece of this length in each lane: that is at most 32 MiB.
+pub fn fits_in_lanes(piece_length: u64) -> bool
+    ensures { IsTrue result ↔ (LANES * (piece_length / 16384) ≤ 2048) }
+{
+    blocks_in_lanes(piece_length) <= MOST
+}
+
+// How many blocks a piece of this length in each lane has.
+fn blocks_in_lanes(piece_length: u64) -> u64
+    ensures { result ≡ min (piece_length / 16384 * LANES) (2 ^ 64 - 1) }
+{
+    (piece_length / BLOCK as u64).saturating_mul(LANES as u64)
+}
+
 // Room for this many blocks, if memory for them is given.
 fn room_for(alloc: Global, blocks: usize) -> Option<Vec<u8>> {
-    let bytes = blocks.checked_mul(BLOCK)?;
-    let mut room = Vec::with_capacity(alloc, bytes).ok()?;
-    // Part by part, which takes far fewer instructions than a byte at a time.
-    for _ in 0..bytes / LEAST {
-        room.extend_from_slice(&[0; LEAST]).ok()?;
-    }
-    Some(room)
+    room_of_zeros(alloc, blocks.checked_mul(BLOCK)?)
 }

@@ -1,10 +1,14 @@
 //! What a hybrid states of its version 1 stream, and the stream compared with that as its bytes
 //! come (BEP 3, "pieces"; BEP 52, "Upgrade Path").
-ghost use Rattle.std.specs.Prelude.{◌≡◌, ℕ, ◌+◌, ◌-◌, ◌*◌, ◌<◌, ◌≤◌, ◌++◌, [], List, drop, length, take, replicate, slice_get, Some, None, is_some, true, IsTrue, ◌↔◌};
+ghost use Rattle.std.specs.Prelude.{◌≡◌, ◌≢◌, ℕ, ◌+◌, ◌-◌, ◌*◌, ◌<◌, ◌≤◌, ◌++◌, [], List, drop, length, take, replicate, slice_get, Some, None, is_some, true, IsTrue, ◌↔◌};
 ghost use Rattle.pieces.specs.Cuts.{IsNext};
+ghost use Rattle.pieces.specs.Staged.{AreBegun, AreInStep, CountsTold, IsInStep};
 
 use crate::cutter::{Cutter, ZEROS};
+use crate::listed::first_bad;
 use crate::next_cuts::NextCuts;
+use crate::stages::Stages;
+use std::alloc::Global;
 
 /// The version 1 part of a hybrid.
 #[derive(Clone, Copy, Debug, PartialEq)]
@@ -26,21 +30,49 @@ pub struct V1Feed<'a> {
     // The running cut, which is empty after a bad one, and its number.
     cutter: Cutter,
     cut: u64,
+    // The stages through which the cuts go from that one on, and then the cutter is empty.
+    stages: Option<Stages>,
     // The first of the cuts before whose digest differs.
     bad: Option<u64>,
     ghost in_stream: { given ≤ total },
     ghost counted: { cut + cutter.filled ≤ given },
+    ghost in_step: { AreInStep stages given cut cutter.filled },
+    ghost stopped: { bad ≢ None → stages ≡ None },
 }
 
 impl<'a> V1Feed<'a> {
     ghost use Rattle.pieces.specs.Cutting.{IsCutting};
     ghost use Rattle.pieces.specs.NextCuts.{KnowsCuts};
-    ghost use Rattle.pieces.specs.Feeding.{BeginsStream, ComparesCut, CountsContent, EndsStream, FeedsStream, FillsCut, MakesRoom, bytes_given, total};
+    ghost use Rattle.pieces.specs.Feeding.{BeginsStream, ComparesCut, ComparesTold, CountsContent, EndsStream, FeedsStream, FillsCut, IsFeedGiven, IsFeedWith, KeepsContent, KeepsStaged, bytes_given, total};
 
     /// A feed that was given nothing, for a stream of the length that the hybrid states. Condition:
     /// the piece length is above 0.
     pub fn new(v: &V1<'a>, piece_length: u64) -> V1Feed<'a>
         requires { 0 < piece_length }
+        ensures { BeginsStream v.now.total v.now.pieces.now piece_length result }
+    {
+        V1Feed::over(v, piece_length, None)
+    }
+
+    /// A feed as `new` makes it, which takes memory to hash large pieces side by side as they come:
+    /// if the stream has at least four whole pieces, eight pieces have more than 32 MiB, and what
+    /// waits to be hashed, 29 eighths of a piece, has at most 64 MiB. If memory is refused, it goes
+    /// without. Condition: the piece length is above 0.
+    pub fn with_room(alloc: Global, v: &V1<'a>, piece_length: u64) -> V1Feed<'a>
+        requires { 0 < piece_length }
+        ensures { BeginsStream v.now.total v.now.pieces.now piece_length result }
+    {
+        V1Feed::over(
+            v,
+            piece_length,
+            Stages::of_stream(alloc, v.total, piece_length),
+        )
+    }
+
+    // A feed with these stages, if there are some.
+    fn over(v: &V1<'a>, piece_length: u64, stages: Option<Stages>) -> V1Feed<'a>
+        requires some { 0 < piece_length }
+        requires begun { AreBegun stages piece_length }
         ensures { BeginsStream v.now.total v.now.pieces.now piece_length result }
     {
         V1Feed {
@@ -49,6 +81,7 @@ impl<'a> V1Feed<'a> {
             given: 0,
             cutter: Cutter::new(piece_length),
             cut: 0,
+            stages,
             bad: None,
         }
     }
@@ -105,6 +138,7 @@ impl<'a> V1Feed<'a> {
     pub fn finish(mut self) -> Option<u64>
         ensures { EndsStream self.entry result }
     {
+        self.leave_stages();
         if !self.cutter.is_empty() {
             self.close_cut();
         }
@@ -125,6 +159,10 @@ impl<'a> V1Feed<'a> {
         ensures next { result < length bytes.now
             → KnowsCuts next.new self.new.cutter.piece_length (drop result bytes.now) }
     {
+        if let Some(stages) = self.stages.take() {
+            *next = NextCuts::new();
+            return self.take_staged(stages, bytes);
+        }
         self.make_room();
         if self.bad.is_some() {
             self.skip(bytes.len() as u64);
@@ -133,13 +171,87 @@ impl<'a> V1Feed<'a> {
         self.fill(next, bytes)
     }
 
+    // Takes the first of these bytes, at most up to the end of a stretch, into the stages.
+    fn take_staged(&mut self, mut stages: Stages, bytes: &[u8]) -> usize
+        requires some { 0 < length bytes.now }
+        requires room { bytes_given self.old + length bytes.now ≤ total self.old }
+        requires alone { self.old.stages ≡ None }
+        requires in_step { IsInStep stages self.old.given self.old.cut self.old.cutter.filled }
+        ensures some { 0 < result }
+        ensures bound { result ≤ length bytes.now }
+        ensures total { total self.new ≡ total self.old }
+        ensures given { bytes_given self.new ≡ bytes_given self.old + result }
+        ensures piece_length { self.new.cutter.piece_length ≡ self.old.cutter.piece_length }
+        ensures content { (pieces : List (List ℕ)) (piece_length : ℕ) (content : List ℕ)
+            → IsFeedWith self.old stages pieces piece_length content
+            → IsFeedGiven self.new pieces piece_length (content ++ take result bytes.now) }
+    {
+        let (taken, digest) = stages.take(bytes);
+        self.given += taken as u64;
+        self.compare_told(digest);
+        self.keep(stages);
+        taken
+    }
+
+    // Goes on with these stages, unless a cut was bad. It leaves them once no whole piece is to
+    // come.
+    fn keep(&mut self, stages: Stages)
+        requires alone { self.old.stages ≡ None }
+        requires in_step { IsInStep stages self.old.given self.old.cut self.old.cutter.filled }
+        ensures total { total self.new ≡ total self.old }
+        ensures given { bytes_given self.new ≡ bytes_given self.old }
+        ensures piece_length { self.new.cutter.piece_length ≡ self.old.cutter.piece_length }
+        ensures content { KeepsStaged self.old stages self.new }
+    {
+        if self.bad.is_some() {
+            return;
+        }
+        if self.total - self.given <= self.total % self.cutter.piece_length() {
+            return self.settle(stages);
+        }
+        self.stages = Some(stages);
+    }
+
+    // Leaves the stages, if there are some.
+    fn leave_stages(&mut self)
+        ensures alone { self.new.stages ≡ None }
+        ensures content { KeepsContent self.old self.new }
+    {
+        if let Some(stages) = self.stages.take() {
+            self.settle(stages);
+        }
+    }
+
+    // Compares the whole pieces that are in these stages with their digests. What came of the next
+    // one is the running cut then.
+    fn settle(&mut self, mut stages: Stages)
+        requires alone { self.old.stages ≡ None }
+        requires in_step { IsInStep stages self.old.given self.old.cut self.old.cutter.filled }
+        ensures alone { self.new.stages ≡ None }
+        ensures total { total self.new ≡ total self.old }
+        ensures given { bytes_given self.new ≡ bytes_given self.old }
+        ensures piece_length { self.new.cutter.piece_length ≡ self.old.cutter.piece_length }
+        ensures content { KeepsStaged self.old stages self.new }
+    {
+        let mut step = stages.steps();
+        'steps: while self.bad.is_none() && self.cut < stages.pieces() {
+            let digest = stages.drain(step);
+            self.compare_told(digest);
+            step += 1;
+        }
+        if self.bad.is_none() {
+            stages.give_rest(&mut self.cutter);
+        }
+    }
+
     // Closes the running cut if it is full.
     fn make_room(&mut self)
         ensures total { total self.new ≡ total self.old }
         ensures given { bytes_given self.new ≡ bytes_given self.old }
         ensures open { self.new.cutter.filled < self.new.cutter.piece_length }
         ensures piece_length { self.new.cutter.piece_length ≡ self.old.cutter.piece_length }
-        ensures content { MakesRoom self.old self.new }
+        ensures alone { self.new.stages ≡ self.old.stages }
+        ensures content { KeepsContent self.old self.new }
     {
         if self.cutter.is_full() {
             self.close_cut();
@@ -152,6 +264,7 @@ impl<'a> V1Feed<'a> {
         requires next { KnowsCuts next.old self.old.cutter.piece_length bytes.now }
         requires room { bytes_given self.old + length bytes.now ≤ total self.old }
         requires open { self.old.cutter.filled < self.old.cutter.piece_length }
+        requires alone { self.old.stages ≡ None }
         ensures some { 0 < result }
         ensures bound { result ≤ length bytes.now }
         ensures total { total self.new ≡ total self.old }
@@ -183,30 +296,44 @@ impl<'a> V1Feed<'a> {
         ensures empty { self.new.cutter.filled ≡ 0 }
         ensures running { IsCutting self.new.cutter [] }
         ensures pieces { self.new.pieces ≡ self.old.pieces }
+        ensures alone { self.new.stages ≡ self.old.stages }
         ensures bad { ComparesCut self.old self.new }
     {
         let digest = self.cutter.close();
-        self.bad = first_bad(self.bad, self.pieces, self.cut, &digest);
+        self.compare(&digest);
+    }
+
+    // Compares the digest of the next whole piece, if it is told.
+    fn compare_told(&mut self, digest: Option<[u8; 20]>)
+        requires alone { self.old.stages ≡ None }
+        requires more { (d : List ℕ) → digest ≡ Some d
+            → self.old.cut + self.old.cutter.filled < self.old.given }
+        ensures total { total self.new ≡ total self.old }
+        ensures given { bytes_given self.new ≡ bytes_given self.old }
+        ensures cut { CountsTold digest self.old.cut self.new.cut }
+        ensures cutter { self.new.cutter ≡ self.old.cutter }
+        ensures pieces { self.new.pieces ≡ self.old.pieces }
+        ensures alone { self.new.stages ≡ None }
+        ensures bad { ComparesTold self.old digest self.new }
+    {
+        if let Some(digest) = digest {
+            self.compare(&digest);
+        }
+    }
+
+    // Compares this digest with the one that is listed for the next cut.
+    fn compare(&mut self, digest: &[u8; 20])
+        requires alone { self.old.stages ≡ None }
+        requires more { self.old.cut + self.old.cutter.filled < self.old.given }
+        ensures total { total self.new ≡ total self.old }
+        ensures given { bytes_given self.new ≡ bytes_given self.old }
+        ensures cut { self.new.cut ≡ self.old.cut + 1 }
+        ensures cutter { self.new.cutter ≡ self.old.cutter }
+        ensures pieces { self.new.pieces ≡ self.old.pieces }
+        ensures alone { self.new.stages ≡ None }
+        ensures bad { IsNext self.old.pieces.now self.old.cut digest.now self.old.bad self.new.bad }
+    {
+        self.bad = first_bad(self.bad, self.pieces, self.cut, digest);
         self.cut += 1;
-    }
-}
-
-// The first bad cut, after this digest of one more cut was compared.
-fn first_bad(bad: Option<u64>, pieces: &[[u8; 20]], cut: u64, digest: &[u8; 20]) -> Option<u64>
-    ensures { IsNext pieces.now cut digest.now bad result }
-{
-    if bad.is_none() && !is_listed(pieces, cut, digest) {
-        return Some(cut);
-    }
-    bad
-}
-
-// Whether this is the digest that is listed for the cut.
-fn is_listed(pieces: &[[u8; 20]], cut: u64, digest: &[u8; 20]) -> bool
-    ensures { IsTrue result ↔ (slice_get pieces.now cut ≡ Some digest.now) }
-{
-    match pieces.get(cut as usize) {
-        Some(listed) => listed == digest,
-        None => false,
     }
 }

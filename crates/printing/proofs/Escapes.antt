@@ -6,7 +6,7 @@ use Rattle.std.proofs.Math.Seq.{take-length}
 use Rattle.std.proofs.lemmas.Grind.{flat_map-append}
 use Rattle.std.specs.List.{flat_map, join_with_byte}
 use Rattle.hex.specs.Hex.{encode_lower}
-use Rattle.filetree.specs.FileTree.{slash}
+use Rattle.printing.specs.Ascii.{slash}
 use Rattle.printing.specs.Text.{is_special, escape_of, escaped, path_text}
 
 -- what is escaped of the first bytes, and what is to come

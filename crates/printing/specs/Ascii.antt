@@ -5,6 +5,10 @@ use Rattle.std.specs.Prelude.{ℕ}
 abbrev pub space : ℕ
 space = 32
 
+-- the slash, which separates the components of a path
+abbrev pub slash : ℕ
+slash = 47
+
 -- the backslash
 abbrev pub backslash : ℕ
 backslash = 92

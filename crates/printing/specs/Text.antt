@@ -2,8 +2,7 @@
 use Rattle.std.specs.Prelude.{ℕ, List, [], ◌∷◌, ◌++◌, codes, Bool, nat_lt, ◌==◌, ◌||◌, if◌then◌else◌}
 use Rattle.std.specs.List.{flat_map, join_with_byte}
 use Rattle.hex.specs.Hex.{encode_lower}
-use Rattle.printing.specs.Ascii.{backslash, delete, space}
-use Rattle.filetree.specs.FileTree.{slash}
+use Rattle.printing.specs.Ascii.{backslash, delete, slash, space}
 
 -- the byte is not printed as it stands: it is below the space, the
 -- delete character or the backslash

@@ -6,13 +6,12 @@ use crate::fault::print_reason_of;
 use crate::identity::Identity;
 use crate::listing::Listing;
 use crate::noted::Noted;
-use crate::offsets::Offsets;
 use crate::paths::path_below;
 use crate::progress::{Counted, Progress};
 use crate::system::{Cause, System};
 use benc::{DeviceFault, FromRead, Source};
 use folders::{SeekShelf, Shelf, ShelfFault};
-use opening::Torrent;
+use opening::{File as Listed, Torrent};
 use std::alloc::AllocError;
 use std::fs::{self, File};
 use std::io::{self, ErrorKind, Seek, SeekFrom};
@@ -284,5 +283,41 @@ impl SeekShelf for Folder<'_> {
             Some((file, name)) => Ok(Some(self.source(file, name, self.progress.read()))),
             None => Ok(None),
         }
+    }
+}
+
+// Where the files of a torrent begin in all its bytes, if they are asked for in the torrent's
+// order.
+#[derive(Drop)]
+struct Offsets<'a> {
+    files: &'a [Listed<'a>],
+    next: usize,
+    passed: u64,
+}
+
+impl<'a> Offsets<'a> {
+    // The offsets of all files of this torrent.
+    fn new(torrent: &'a Torrent<'a>) -> Offsets<'a> {
+        Offsets {
+            files: torrent.files(),
+            next: 0,
+            passed: 0,
+        }
+    }
+
+    // How many bytes the files before the one with this path have, whether they were asked for or
+    // not. It counts on from the file that was asked for last.
+    fn before(&mut self, path: &[&str]) -> u64 {
+        let files = self.files;
+        'files: for at in self.next..files.len() {
+            let file = &files[at];
+            if file.path.parts().as_slice() == path {
+                self.next = at;
+                return self.passed;
+            }
+            self.passed = self.passed.saturating_add(file.length);
+        }
+        self.next = files.len();
+        self.passed
     }
 }

@@ -12,6 +12,7 @@ use session::{NodeMap, Session, Verdict};
 use wire::{Direction, Frame, Message};
 
 /// The frame, without the zeros behind the end of a file if these are cut away.
+#[inline(always)]
 pub(crate) fn frame_as<'a>(
     torrent: &Torrent<'_>,
     frame: (Direction, Frame<'a>),
@@ -32,6 +33,7 @@ pub(crate) fn frame_as<'a>(
 }
 
 /// Gives the frame's message to the session: what is made of the frame.
+#[inline(always)]
 pub(crate) fn respond<N: NodeMap>(
     session: &mut Session<'_, N>,
     form: Option<u8>,
@@ -58,6 +60,7 @@ pub(crate) fn respond<N: NodeMap>(
 }
 
 // The session's verdict on a message: in form 2 what we ask for is noted.
+#[inline(always)]
 fn take_message<N: NodeMap>(
     session: &mut Session<'_, N>,
     form: Option<u8>,

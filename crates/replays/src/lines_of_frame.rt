@@ -12,6 +12,7 @@ use session::{BlockRefusal, Blocks, Verdict};
 
 /// Writes the lines of the frame of this number.
 #[tactic(auto, unfolding(crate::specs::ReplayRows::lines_as))]
+#[inline(always)]
 pub(crate) fn write_frame<L: LineSink>(
     report: &mut L,
     number: u64,
@@ -27,6 +28,7 @@ pub(crate) fn write_frame<L: LineSink>(
 }
 
 // The line of the frame of this number, which is no message of blocks.
+#[inline(always)]
 fn line_of_frame(number: u64, frame: &FrameReport) -> Line<'static>
     requires { IsOneLine frame.now }
     ensures { row_of result ≡ report_row number frame.now }

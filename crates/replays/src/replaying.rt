@@ -212,6 +212,7 @@ fn replay_frames<N: NodeMap, K: Telling, R: Source, L: LineSink, B: Answering>(
 
 // Tells the next frame, after this many: what is to be answered to it; or how the record ended if
 // there is none, or that its lines broke off.
+#[inline(always)]
 fn next_reply<N: NodeMap, K: Telling, R: Source, L: LineSink>(
     session: &mut Session<'_, N>,
     keeper: &mut K,

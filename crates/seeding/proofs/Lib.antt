@@ -1,4 +1,9 @@
 pub mod FedLeaves
+pub mod GivenFiles
+pub mod GivenLeaves
+pub mod HeldReads
+pub mod HeldSeeds
+pub mod HeldTogether
 pub mod LeafReads
 pub mod Seeds
 pub mod Trees

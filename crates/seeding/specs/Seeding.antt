@@ -1,7 +1,7 @@
 -- What seeding a session from a shelf does: to each file of its torrent once, in order. `shelf`
 -- stands for what the shelf's type says of its shelves, and `seen` for what its files say.
-use Rattle.std.specs.Prelude.{◌≡◌, ◌≢◌, ◌⊎◌, ℕ, ◌++◌, Bool, true, false, List, [], ◌∷◌, take, slice_get, codes, Option, Some, None, is_some, Result, Ok}
-use Rattle.std.specs.Prelude.{Err}
+use Rattle.std.specs.Prelude.{◌≡◌, ◌≢◌, ◌⊎◌, ℕ, ◌+◌, ◌<◌, ◌≤◌, ◌++◌, Bool, true, false, List, [], ◌∷◌, length, take, drop, slice_get, codes}
+use Rattle.std.specs.Prelude.{Option, Some, None, is_some, Result, Ok, Err}
 use Rattle.benc.specs.Device.{SourceSeen, SinkSeen, Sent, Broke, SentAndFlushed}
 use Rattle.benc.specs.declared.device.DeviceFault.{DeviceFault}
 use Rattle.chains.specs.Chain.{Chain}
@@ -37,6 +37,19 @@ Finds known e (Some leaves) faults = (faults ≡ 0) × (bytes : List ℕ) × Agr
     × FitsTree e bytes × (leaves ≡ layer_of bytes 0)
 Finds known e None faults = (faults ≡ 1)
     ⊎ ((faults ≡ 0) × (content : Option (List ℕ)) × Agrees known content × DoesNotFit e content)
+
+-- this is no content of that length
+abbrev pub IsNotOfLength : ℕ → Option (List ℕ) → Type 0
+IsNotOfLength len content = (bytes : List ℕ) → content ≡ Some bytes → length bytes ≢ len
+
+-- What was found at a path of which this is known, with this many faults: a content of the stated
+-- length; or another content or none, or a fault.
+abbrev pub FindsContent : Option (Option (List ℕ)) → ℕ → Option (List ℕ) → ℕ → Type 0
+FindsContent known len (Some bytes) faults =
+    (faults ≡ 0) × Agrees known (Some bytes) × (length bytes ≡ len)
+FindsContent known len None faults = (faults ≡ 1)
+    ⊎ ((faults ≡ 0) × (content : Option (List ℕ)) × Agrees known content
+    × IsNotOfLength len content)
 
 -- what stands at a path of which this is known fits the tree
 abbrev pub HasFitting : Option (Option (List ℕ)) → TreeEntry → Type 0
@@ -77,6 +90,10 @@ abbrev pub seed_lines : (FileEntry → Bool → List ℕ) → List FileEntry →
 seed_lines line [] seeded = []
 seed_lines line (f ∷ fs) [] = []
 seed_lines line (f ∷ fs) (this ∷ seeded) = line f this ++ seed_lines line fs seeded
+
+-- a file is small: it has at most eight blocks
+abbrev pub IsSmall : FileEntry → Type 0
+IsSmall f = f.length ≤ 131072
 
 -- a shelf and a session
 abbrev pub shelf_and_session : {S : Type 0} → S → SessionSeen → S × SessionSeen
@@ -132,6 +149,37 @@ module _ {S F : Type 0} (shelf : Ghosts S F) (seen : F → SourceSeen) where
     pub fits : HasFitting ((shelf.contents old.0).under f.path) tree
     pub stays : new.1 ≡ old.1
 
+  -- ---- files that are read together
+
+  -- A file was read before it was seeded from: a path was opened once, and what was opened was read
+  -- and handed back. It has this content, of the stated length; or another or none, or a read or
+  -- the opening failed.
+  pub record LooksInto (s : S) (f : FileEntry) (content : Option (List ℕ)) (s' : S) : Type 0 where
+    pub visited : OpensToSeed s f.path f.length (is_some content) s'
+    pub faults_in_it : ℕ
+    pub counted : shelf.faults s' ≡ more (shelf.faults s) faults_in_it
+    pub finds : FindsContent ((shelf.contents s).under f.path) f.length content faults_in_it
+    pub stays : shelf.contents s' ≡ shelf.contents s
+
+  -- the same by the file's tree; an empty file has none, and is not opened
+  abbrev pub LooksByTree : S → FileEntry → Option ℕ → Option (List ℕ) → S → Type 0
+  LooksByTree s f None content s' = (content ≡ None) × (s' ≡ s)
+  LooksByTree s f (Some n) content s' = LooksInto s f content s'
+
+  -- the same of a small file
+  pub record LooksAhead (s : S) (f : FileEntry) (content : Option (List ℕ)) (s' : S) : Type 0 where
+    pub small : IsSmall f
+    pub looks : LooksByTree s f f.tree content s'
+
+  -- The files that are read together with this one, which has this number, were read too: small
+  -- ones that come next, in order, if it is small itself. No other was.
+  pub record LooksBehind (files : List FileEntry) (number : ℕ) (f : FileEntry) (s s' : S) : Type 0
+    where
+      pub contents : List (Option (List ℕ))
+      pub few : length contents < 64
+      pub small : (contents ≡ []) ⊎ IsSmall f
+      pub run : Chain LooksAhead s (take (length contents) (drop (number + 1) files)) contents s'
+
   -- ---- all files
 
   -- each file was looked for, and these were seeded
@@ -152,7 +200,8 @@ module _ {S F : Type 0} (shelf : Ghosts S F) (seen : F → SourceSeen) where
     pub run : SeedsAll old old.1.torrent.files each new
     pub sent : SentAndFlushed report report' (seed_lines line old.1.torrent.files each)
 
-  -- memory was refused for a file, after the lines of those before it
+  -- memory was refused for a file, after the lines of those before it; those that are read together
+  -- with it were read too
   pub record IsOutOfMemory (line : FileEntry → Bool → List ℕ) (old new : S × SessionSeen)
       (report report' : SinkSeen) : Type 0 where
     pub each : List Bool
@@ -161,10 +210,13 @@ module _ {S F : Type 0} (shelf : Ghosts S F) (seen : F → SourceSeen) where
     pub file_is : slice_get old.1.torrent.files count ≡ Some file
     pub mid : S × SessionSeen
     pub run : SeedsAll old (take count old.1.torrent.files) each mid
-    pub stops : StopsAtFile mid file new
+    pub after : S
+    pub stops : StopsAtFile mid file (shelf_and_session after new.1)
+    pub behind : LooksBehind old.1.torrent.files count file after new.0
     pub sent : Sent report report' (seed_lines line (take count old.1.torrent.files) each)
 
-  -- the line of a file broke off, after those before it
+  -- the line of a file broke off, after those before it; those that are read together with it were
+  -- read too, and the session was not given them
   pub record IsCutInSeedLine (line : FileEntry → Bool → List ℕ) (old new : S × SessionSeen)
       (report report' : SinkSeen) : Type 0 where
     pub each : List Bool
@@ -174,7 +226,9 @@ module _ {S F : Type 0} (shelf : Ghosts S F) (seen : F → SourceSeen) where
     pub seeded : Bool
     pub between : S × SessionSeen
     pub run : SeedsAll old (take count old.1.torrent.files) each between
-    pub last : SeedStep between file seeded new
+    pub after : S
+    pub last : SeedStep between file seeded (shelf_and_session after new.1)
+    pub behind : LooksBehind old.1.torrent.files count file after new.0
     pub mid : SinkSeen
     pub sent : Sent report mid (seed_lines line (take count old.1.torrent.files) each)
     pub broke : Broke mid report' (line file seeded)

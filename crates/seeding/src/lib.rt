@@ -1,8 +1,12 @@
 //! Seeding: a session learns the leaves of the files that a shelf holds.
 #![tactic(auto)]
 
+mod ahead;
+mod giving;
+mod held;
 mod leaves;
 mod seeding;
+mod together;
 
 pub use lines::OutFault as SeedFault;
-pub use seeding::{seed, seed_onto};
+pub use seeding::{seed, seed_onto, seed_onto_at_pace};

@@ -7,13 +7,16 @@ ghost use Rattle.folders.specs.Shelf.{more};
 ghost use Rattle.folders.specs.Verdicts.{IsFileOf};
 ghost use Rattle.seeding.specs.Leaves.{found_of};
 ghost use Rattle.seeding.specs.Seeding.{Fills, Finds, HasFitting, OpensToFind, SeedStep, Seeds, SeedsAs, SeedsFiles, SeedsTree, StopsAtFile, seed_line_as, shelf_and_session};
+ghost use Rattle.seeding.specs.Together.{IsHeldFrom, SeedsNext, StopsNext};
 
+use crate::giving::seed_held;
 use crate::leaves::{Grown, TreeReader};
+use crate::together::{HeldFiles, look_ahead};
 use benc::{DeviceFault, Sink};
-use folders::{ReadFault, Shelf, visit};
+use folders::{Pace, ReadFault, Shelf, Unhurried, room_for_files, visit};
 use hashtree::NoMemory;
 use lines::{Line, LineSink, OutFault as SeedFault, say};
-use opening::{File, TreeInfo};
+use opening::{File, Torrent, TreeInfo};
 use partial_tree::GrownTree;
 use pieces::PieceBuffer;
 use session::{NodeMap, Session};
@@ -26,14 +29,17 @@ use std::alloc::Global;
 ///
 /// Each file that is not empty is opened once, read once, to its end and no further if it is whole
 /// and else one byte past its stated length at most, and handed back; the shelf's count of failures
-/// grows by one for each that was unreadable.
+/// grows by one for each that was unreadable. Small files that come next, of eight blocks at most,
+/// are read one after the other before the first of them is seeded from. Memory for that is taken
+/// first; where it is refused, each file is read alone.
 ///
 /// # Errors
 ///
 /// After a fault the files before it stay filled, and their lines were written: `NoMemory` if
 /// memory for the leaves of a file was refused, which has its stated length and root and is not
 /// filled, and `Write` if the report failed, in the line of a file that may be filled, or at the
-/// flush.
+/// flush. The small files that are read together with that file were read too; no later one was,
+/// and the session has nothing of them.
 pub fn seed<N: NodeMap, S: Shelf, W: Sink>(
     alloc: Global,
     session: &mut Session<'_, N>,
@@ -63,7 +69,27 @@ pub fn seed_onto<N: NodeMap, S: Shelf, L: LineSink>(
         (shelf_and_session shelf.old session.old) (shelf_and_session shelf.new session.new)
         (L.seen report.old) (L.seen report.new) result }
 {
-    seed_files(alloc, session, shelf, report)?;
+    seed_onto_at_pace(alloc, session, shelf, &mut Unhurried, report)
+}
+
+/// The same, but fewer files are read together if the pace says that the lines that wait are due.
+/// What is said does not depend on it.
+///
+/// # Errors
+///
+/// As for `seed`.
+pub fn seed_onto_at_pace<N: NodeMap, S: Shelf, P: Pace, L: LineSink>(
+    alloc: Global,
+    session: &mut Session<'_, N>,
+    shelf: &mut S,
+    pace: &mut P,
+    report: &mut L,
+) -> Result<(), SeedFault>
+    ensures { SeedsAs S.Shelf S.File.seen (seed_line_as L.spelled)
+        (shelf_and_session shelf.old session.old) (shelf_and_session shelf.new session.new)
+        (L.seen report.old) (L.seen report.new) result }
+{
+    seed_files(alloc, session, shelf, pace, report)?;
     report.finish()?;
     Ok(())
 }
@@ -71,10 +97,11 @@ pub fn seed_onto<N: NodeMap, S: Shelf, L: LineSink>(
 // Seeds from each file in turn, and writes its line.
 // It has a block in its frame, so it is not inlined.
 #[inline(never)]
-fn seed_files<N: NodeMap, S: Shelf, L: LineSink>(
+fn seed_files<N: NodeMap, S: Shelf, P: Pace, L: LineSink>(
     alloc: Global,
     session: &mut Session<'_, N>,
     shelf: &mut S,
+    pace: &mut P,
     report: &mut L,
 ) -> Result<(), SeedFault>
     ensures { SeedsFiles S.Shelf S.File.seen (seed_line_as L.spelled)
@@ -84,11 +111,70 @@ fn seed_files<N: NodeMap, S: Shelf, L: LineSink>(
     let torrent = session.torrent();
     let entries = torrent.files();
     let mut buffer = PieceBuffer::of_blocks(alloc);
-    'files: for file in entries {
-        let seeded = seed_file(alloc, session, shelf, file, buffer.as_mut_slice())?;
-        write_line_of(report, file, seeded)?;
+    let mut room = room_for_files(alloc, torrent.files().len());
+    let mut held = HeldFiles::none();
+    'files: for number in 0..entries.len() {
+        look_if_none(shelf, torrent, number, &mut held, &mut room, pace);
+        let seeded = seed_next(
+            alloc,
+            session,
+            shelf,
+            number,
+            &mut held,
+            buffer.as_mut_slice(),
+        )?;
+        write_line_of(report, &entries[number], seeded)?;
     }
     Ok(())
+}
+
+// Visits the small files that come next, from this one on, if nothing is held of it.
+fn look_if_none<S: Shelf, P: Pace>(
+    shelf: &mut S,
+    torrent: &Torrent<'_>,
+    number: usize,
+    held: &mut HeldFiles,
+    room: &mut Vec<u8>,
+    pace: &mut P,
+)
+    requires { number ≤ length torrent.now.files }
+    ensures { (s : S) → IsHeldFrom S.Shelf S.File.seen torrent.now.files number s held.old shelf.old
+        → IsHeldFrom S.Shelf S.File.seen torrent.now.files number s held.new shelf.new }
+{
+    if held.files.is_empty() {
+        *held = look_ahead(shelf, torrent, number, room, pace);
+    }
+}
+
+// Seeds from the file with this number, of which something may be held: whether it was seeded.
+fn seed_next<N: NodeMap, S: Shelf>(
+    alloc: Global,
+    session: &mut Session<'_, N>,
+    shelf: &mut S,
+    number: usize,
+    held: &mut HeldFiles,
+    buffer: &mut [u8],
+) -> Result<bool, NoMemory>
+    requires some { 0 < length buffer.old }
+    requires there { number < length session.old.torrent.files }
+    requires held { (s : S) × IsHeldFrom S.Shelf S.File.seen session.old.torrent.files number s
+        held.old shelf.old }
+    ensures seeds { IfOk result (λ seeded. (s : S)
+        → IsHeldFrom S.Shelf S.File.seen session.old.torrent.files number s held.old shelf.old
+        → SeedsNext S.Shelf S.File.seen session.old.torrent.files number
+        (shelf_and_session s session.old) seeded held.new
+        (shelf_and_session shelf.new session.new)) }
+    ensures no_memory { OnErr result ((s : S)
+        → IsHeldFrom S.Shelf S.File.seen session.old.torrent.files number s held.old shelf.old
+        → StopsNext S.Shelf S.File.seen session.old.torrent.files number
+        (shelf_and_session s session.old) (shelf_and_session shelf.new session.new)) }
+    ensures torrent { session.new.torrent ≡ session.old.torrent }
+{
+    let file = &session.torrent().files()[number];
+    match held.files.take() {
+        Some(one) => seed_held(alloc, session, file, one, &held.blocks),
+        None => seed_file(alloc, session, shelf, file, buffer),
+    }
 }
 
 // Seeds from one file: whether it was seeded.
@@ -190,8 +276,12 @@ fn tree_or_none<N: NodeMap>(read: Grown<N>) -> Result<Option<GrownTree<N>>, NoMe
     }
 }
 
-// Gives a tree the nodes of a whole one: whether they were accepted.
-fn take_over<N: NodeMap>(session: &mut Session<'_, N>, tree: usize, grown: GrownTree<N>) -> bool
+/// Gives a tree the nodes of a whole one: whether they were accepted.
+pub(crate) fn take_over<N: NodeMap>(
+    session: &mut Session<'_, N>,
+    tree: usize,
+    grown: GrownTree<N>,
+) -> bool
     requires inside { tree < length session.old.torrent.trees }
     requires length { (e : TreeEntry) → slice_get session.old.torrent.trees tree ≡ Some e
         → grown.length ≡ e.length }

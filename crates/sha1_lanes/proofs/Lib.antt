@@ -1,3 +1,4 @@
 mod Blocks
-mod Zeros
+mod Endings
+pub mod Zeros
 mod Sums

@@ -2,7 +2,7 @@
 use Rattle.std.proofs.Common.{◌≡◌, ℕ, ◌+◌, ◌-◌, ◌*◌, ◌<◌, ◌≤◌, List, [], ◌∷◌, ◌++◌, zero, suc, length, take, drop}
 use Rattle.std.proofs.Common.{replicate, slice_index, refl, sym, ap, ◌∙◌, arith, length-append, length-drop}
 use borrow.Rule.Slice.PartMut.{put_mid, post_of}
-use Rattle.std.proofs.lemmas.List.{get_or-append-add, get_or_append_left, get_or-drop, get_or-take, length-replicate, length-take, length-take-le}
+use Rattle.std.proofs.lemmas.List.{get_or-append-add, get_or_append_left, length-replicate, length-take, length-take-le}
 use Rattle.lanes.proofs.Messages.{word_of_bytes}
 use Rattle.sha1.specs.Sha1.{word_at}
 use Rattle.sha1_lanes.specs.Batches.{filled_at, message_at}
@@ -35,12 +35,17 @@ zero_word m z at k le lt =
 pub message_within : (bytes : List ℕ) (start size : ℕ) → length (message_at bytes start size) ≤ size
 message_within bytes start size = omega (arith, length-take size (drop start bytes))
 
+-- the length of a message that is all in the buffer
+pub length-message_at : (bytes : List ℕ) (start size : ℕ) → start + size ≤ length bytes
+    → length (message_at bytes start size) ≡ size
+length-message_at bytes start size fits = length-take-le size (drop start bytes) (omega (arith, length-drop start bytes))
+
 -- the length of a message that is filled up
 pub length-filled_at : (bytes : List ℕ) (start size whole : ℕ) → start + size ≤ length bytes → size ≤ whole
     → length (filled_at bytes start size whole) ≡ whole
 length-filled_at bytes start size whole fits le =
     let m : List ℕ = message_at bytes start size in
-    let own : length m ≡ size = length-take-le size (drop start bytes) (omega (arith, length-drop start bytes)) in
+    let own : length m ≡ size = length-message_at bytes start size fits in
     let zeros : List ℕ = replicate (whole - size) 0 in
     let count : length zeros ≡ whole - size = length-replicate (whole - size) 0 in
     let both : length (m ++ zeros) ≡ length m + length zeros = length-append m zeros in

@@ -3,6 +3,7 @@ use Rattle.std.specs.Prelude.{◌≡◌, ℕ, ◌-◌, ◌/◌, ◌%◌, ◌^◌
 use Rattle.lanes.specs.Lanes.{word_in}
 use Rattle.sha1.specs.Sha1.{hash_after}
 use Rattle.sha1_lanes.specs.declared.batch.Batch.{Batch}
+use Rattle.sha1_lanes.specs.declared.values.Values.{Values}
 
 -- the message of this size at this byte of a buffer
 abbrev pub message_at : List ℕ → ℕ → ℕ → List ℕ
@@ -17,13 +18,17 @@ abbrev pub state_in : ℕ → List (List ℕ) → List ℕ
 state_in j x = word_in x 0 j ∷ word_in x 1 j ∷ word_in x 2 j ∷ word_in x 3 j ∷ word_in x 4 j ∷ []
 
 -- the hash value of message j
-abbrev pub value_in : ℕ → Batch → List ℕ
+abbrev pub value_in : ℕ → Values → List ℕ
 value_in j s =
     slice_index s.a j ∷ slice_index s.b j ∷ slice_index s.c j
     ∷ slice_index s.d j ∷ slice_index s.e j ∷ []
+
+-- the hash value after a message of whole blocks, before its padding
+abbrev pub value_of : List ℕ → List ℕ
+value_of m = hash_after m (length m / 64)
 
 -- this much of message j, whole blocks, was taken in
 pub record HasTaken (s : Batch) (j : ℕ) (m : List ℕ) : Type 0 where
   pub length_is : s.length ≡ length m % 2 ^ 64
   pub whole : length m % 64 ≡ 0
-  pub value_is : value_in j s ≡ hash_after m (length m / 64)
+  pub value_is : value_in j s.values ≡ value_of m

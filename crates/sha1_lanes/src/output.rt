@@ -35,9 +35,9 @@ fn words_of(state: &State, message: usize) -> [u32; 5]
     ]
 }
 
-// The digest of one message.
+/// The digest of one message.
 #[inline(always)]
-fn digest_of(state: &State, message: usize) -> [u8; 20]
+pub(crate) fn digest_of(state: &State, message: usize) -> [u8; 20]
     requires { message < LANES }
     ensures { result ≡ digest_bytes (state_in message state.now) 5 }
 {

@@ -95,6 +95,7 @@ impl<'r, R: Source> RecordReader<'r, R> {
 
     /// Reads the next frame, and answers whether there is one: `false` is the end of the record.
     /// The frame is then `frame()`. It is `next` in two steps, of which only the second borrows.
+    #[inline(always)]
     pub fn advance(&mut self) -> Result<bool, FrameFault>
         ensures { AdvancesInRecord R.seen self.old result self.new }
     {
@@ -124,6 +125,7 @@ impl<'r, R: Source> RecordReader<'r, R> {
 
     /// The frame that `advance` read last, with its direction. It borrows the reader's own buffer.
     /// Condition: the last call of `advance` answered `true`.
+    #[inline(always)]
     pub fn frame(&self) -> (Direction, Frame<'_>)
         requires held { (d : Directed (List ℕ)) × HoldsDirected self.now d }
         ensures { (d : Directed (List ℕ)) → HoldsDirected self.now d → MeansDirected d result }

@@ -201,7 +201,7 @@ fn files_are_those_of_the_torrent() {
     assert_eq!(session.pieces(), Ok(2));
     assert_eq!(session.is_hybrid(), Ok(true));
     assert_eq!(session.name(), Ok("pair".into()));
-    assert_eq!(btcheck::version(), [0, 2, 0]);
+    assert_eq!(btcheck::version(), [1, 0, 0]);
 }
 
 #[test]

@@ -1,6 +1,7 @@
 use Rattle.std.proofs.Common.{◌≡◌, ◌<◌, ◌+◌, ◌∷◌, ℕ, Bor, List, Some, ap, arith, drop, get_or, length, map, rules, slice_get, subst, sym, take_all, ◌∙◌, ◌^◌}
 use Rattle.std.proofs.Common.{inl, inr, refl}
 use Rattle.std.proofs.lemmas.List.{length-map}
+use Rattle.std.proofs.lemmas.Result.{err_from_is_err_and}
 use Rattle.std.proofs.lemmas.Bool.{cases_lt}
 use Rattle.std.specs.String.{string_bytes}
 use Rattle.drafts.specs.Outline.{empty_outline}
@@ -17,6 +18,8 @@ use Rattle.assembling.proofs.Assembled.{all_gathered, files_from, held_at, one_f
 use Rattle.assembling.proofs.Drafts.{next_added}
 use Rattle.assembling.proofs.Fronts.{item_of, same_item}
 use Rattle.assembling.proofs.Refusing.{refused_content, too_long}
+use Rattle.assembling.specs.Unsaid.{behind}
+use Rattle.assembling.proofs.Unsaid.{named_before, passed_more, passes_as}
 use Rattle.assembling.proofs.assembling.add_all.Goals as goal
 
 pub files-preserved : goal.files-preserved
@@ -34,6 +37,20 @@ files-preserved c =
       places = search rules;
       piece_length = search rules;
       hybrid = search rules;
+      places_are = search rules;
+      passing =
+          let fs = map listed l.files.items in
+          let f = listed file in
+          let at : slice_get fs i ≡ Some f = item_of listed l.files.items i file lt ∙ ap (λ x. Some (listed x)) (sym is) in
+          let kind = ap (λ (q : Listing). q.hybrid) c.files.invariant.listing in
+          passed_more d.piece_length l.hybrid d.total d.parts fs c.files.before c.saturating_add-before.result (drop i fs) (drop (i + 1) fs)
+          (behind c.args.parts) (behind c.files.parts) (behind c.rows_of.new.parts)
+          (length-map c.args.parts.rows.items (λ x. x.now) ∙ sym c.files.invariant.rows ∙ sym (length-map c.files.parts.rows.items (λ x. x.now)))
+          c.files.invariant.passing
+          (passes_as d.piece_length c.files.listing.hybrid l.hybrid d.total d.parts c.files.before (capped c.files.before (hashed f.bytes))
+          c.saturating_add-before.result (f ∷ drop (i + 1) fs) (drop i fs) (drop (i + 1) fs) (behind c.files.parts) (behind c.rows_of.new.parts) kind
+          (sym (files_from fs i f at)) (sym (c.saturating_add-before.ensures ∙ ap (capped c.files.before) c.hashed.ensures))
+          (c.in_ok-rows.ensures.passes f (drop (i + 1) fs) refl));
       so_far = next_added (empty_outline (string_bytes l.name) l.piece_length l.hybrid) c.files.draft c.add_file.new.draft l.files.items i file lt
           c.files.invariant.so_far
           (subst (λ y. IsWithListed c.files.draft c.add_file.new.draft (listed y)) is c.in-Ok-add_file.ensures.added);
@@ -57,6 +74,24 @@ files-preserved c =
           (says_as under d.piece_length l.piece_length c.files.listing.hybrid l.hybrid d.total (total_of fs) (length texts')
           (capped c.files.before (hashed f.bytes)) (drop (i + 1) fs) (drop (i + 1) fs) texts' c.requires.shared kind c.requires.total refl taken.later) so;
     }
+
+pub returns-in_err-rows-clause-reason : goal.returns-in_err-rows-clause-reason
+returns-in_err-rows-clause-reason c =
+    let l = c.args.listing in
+    let d = c.args.division.now in
+    let i = c.files.number in
+    let file = c.index-file.result.now in
+    let is : file ≡ get_or l.files.items i file = c.index-file.ensures ∙ ap (λ (q : Listing). get_or q.files.items i file) c.files.invariant.listing in
+    let lt : i < length l.files.items = omega (arith, c.files-test.true, c.files.invariant.end) in
+    let fs = map listed l.files.items in
+    let f = listed file in
+    let at : slice_get fs i ≡ Some f = item_of listed l.files.items i file lt ∙ ap (λ x. Some (listed x)) (sym is) in
+    let kind = ap (λ (q : Listing). q.hybrid) c.files.invariant.listing in
+    let p = err_from_is_err_and c.from_residual.result c.from_residual.ensures.1 in
+    named_before d.piece_length c.files.listing.hybrid l.hybrid d.total d.parts fs c.files.before (f ∷ drop (i + 1) fs) (drop i fs) c.args.parts
+    c.files.parts _ p.0 c.from_residual.result p.1 p.2 kind (sym (files_from fs i f at)) c.files.invariant.places_are
+    (length-map c.args.parts.rows.items (λ x. x.now) ∙ sym c.files.invariant.rows ∙ sym (length-map c.files.parts.rows.items (λ x. x.now)))
+    c.files.invariant.passing (c.in_err-rows.ensures.reason f (drop (i + 1) fs) refl)
 
 pub returns-clause-draft : goal.returns-clause-draft
 returns-clause-draft c =

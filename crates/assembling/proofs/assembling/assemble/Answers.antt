@@ -1,6 +1,12 @@
-use Rattle.std.proofs.Common.{Bor, List, map, ℕ}
+use Rattle.std.proofs.Common.{Bor, List, map, ℕ, ◌≡◌, ◌<◌, arith, length, refl, rules, sym, subst, slice_get, Some}
+use Rattle.std.specs.Prelude.{Err, IfErr}
+use Rattle.std.proofs.lemmas.Option.{slice_get_read}
 use Rattle.std.proofs.lemmas.Result.{err_from_is_err_and}
-use Rattle.assembling.proofs.Results.{added_all, front_stop, passed_on, pieces_stop, rows_stop}
+use Rattle.part_texts.specs.Divisions.{total_of}
+use Rattle.part_texts.specs.Listings.{listed}
+use Rattle.assembling.specs.Outcome.{IsAssembled}
+use Rattle.assembling.specs.Unsaid.{AreLong, NamesUnsaid, behind}
+use Rattle.assembling.proofs.Results.{added_all, divided_as, front_stop, passed_on, pieces_stop, rows_stop, unread_stop}
 use Rattle.assembling.proofs.assembling.assemble.Goals as goal
 
 pub returns-in_err-parts : goal.returns-in_err-parts
@@ -12,7 +18,13 @@ returns-in_err-parts c =
 pub returns-in-Err : goal.returns-in-Err
 returns-in-Err c =
     let texts = map (λ (x : Bor (List ℕ)). x.now) c.args.texts.now in
-    rows_stop texts c.in_ok-parts.parts c.in_ok-parts.ensures.parts _ c.unread.ensures
+    let p = c.in_ok-parts.parts in
+    let are = c.in_ok-parts.ensures.parts in
+    let place = c.index-place.result.now in
+    let low : 0 < length p.places.items = omega (arith, are.count, are.all.some) in
+    let at : slice_get p.places.items 0 ≡ Some place = slice_get_read p.places.items (length p.places.items) 0 place refl low c.index-place.ensures in
+    subst (λ e. IsAssembled texts (Err e)) (sym c.unread.ensures.is)
+    (unread_stop texts p place c.in-Err.fault are at (λ l can is. c.in-Err.ensures l can is))
 
 pub returns-in_default : goal.returns-in_default
 returns-in_default c =
@@ -23,12 +35,30 @@ returns-in_default c =
 pub returns-in_err-test_sizes : goal.returns-in_err-test_sizes
 returns-in_err-test_sizes c =
     let texts = map (λ (x : Bor (List ℕ)). x.now) c.args.texts.now in
-    let p = err_from_is_err_and c.from_residual-in_err-test_sizes.result c.from_residual-in_err-test_sizes.ensures.1 in
-    passed_on texts _ p.0 c.from_residual-in_err-test_sizes.result p.1 p.2
-    (rows_stop texts c.in_ok-parts.parts c.in_ok-parts.ensures.parts _ c.in_err-test_sizes.ensures.fault)
+    let p = c.in_ok-parts.parts in
+    let l = c.in-Ok.listing in
+    let d = c.of-division.result in
+    let pieces : d.piece_length ≡ l.piece_length = search rules in
+    let total : d.total ≡ total_of (map listed l.files.items) = search rules in
+    let parts : d.parts ≡ length p.rows.items = search rules in
+    let e = err_from_is_err_and c.from_residual-in_err-test_sizes.result c.from_residual-in_err-test_sizes.ensures.1 in
+    passed_on texts _ e.0 c.from_residual-in_err-test_sizes.result e.1 e.2
+    (rows_stop texts p l c.in_ok-parts.ensures.parts c.in-Ok.ensures _ c.in_err-test_sizes.ensures.fault
+    (divided_as (λ k t n. NamesUnsaid k l.hybrid t n 0 (map listed l.files.items) p c.in_err-test_sizes.field-0.0) d.piece_length l.piece_length d.total
+    (total_of (map listed l.files.items)) d.parts (length p.rows.items) pieces total parts c.in_err-test_sizes.ensures.reason))
 
 pub returns : goal.returns
 returns c =
     let texts = map (λ (x : Bor (List ℕ)). x.now) c.args.texts.now in
-    added_all texts c.in_ok-parts.parts c.in-Ok.listing c.add_all.result c.in_ok-parts.ensures.parts c.in-Ok.ensures c.add_all.ensures.draft
-    c.add_all.ensures.no_write c.add_all.ensures.fault c.add_all.ensures.gathers
+    let p = c.in_ok-parts.parts in
+    let l = c.in-Ok.listing in
+    let d = c.of-division.result in
+    let pieces : d.piece_length ≡ l.piece_length = search rules in
+    let total : d.total ≡ total_of (map listed l.files.items) = search rules in
+    let parts : d.parts ≡ length p.rows.items = search rules in
+    let long = divided_as (λ k t n. AreLong k l.hybrid t n (map listed l.files.items) (behind p)) d.piece_length l.piece_length d.total
+    (total_of (map listed l.files.items)) d.parts (length p.rows.items) pieces total parts c.in_ok-test_sizes.ensures.sizes in
+    let named = divided_as (λ k t n. IfErr c.add_all.result (NamesUnsaid k l.hybrid t n 0 (map listed l.files.items) p)) d.piece_length l.piece_length d.total
+    (total_of (map listed l.files.items)) d.parts (length p.rows.items) pieces total parts c.add_all.ensures.reason in
+    added_all texts p l c.add_all.result c.in_ok-parts.ensures.parts c.in-Ok.ensures long c.add_all.ensures.draft c.add_all.ensures.no_write
+    c.add_all.ensures.fault named c.add_all.ensures.gathers

@@ -1,7 +1,7 @@
 //! Files of a shelf in memory that are opened at a place.
 
 use super::{MemShelf, find};
-use crate::seek_shelf::SeekShelf;
+use crate::shelf::SeekShelf;
 use benc::DeviceFault;
 use benc::memory::MemSource;
 

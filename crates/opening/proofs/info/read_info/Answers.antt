@@ -1,4 +1,4 @@
-use Rattle.std.proofs.Common.{◌++◌}
+use Rattle.std.proofs.Common.{◌++◌, rules}
 use Rattle.benc.specs.View.{view}
 use Rattle.opening.specs.Refusals.{version_rows, present_rows, kind_rows}
 use Rattle.opening.specs.Steps.{AreOfKind}
@@ -11,3 +11,9 @@ returns c =
     passes_behind (version_rows i ++ present_rows i) (kind_rows i) (AreOfKind i) c.all_of_kind.result
     (none_both (version_rows i) (present_rows i) c.in_ok-version.ensures.0 c.in_ok-present.ensures.0)
     (c.all_of_kind.ensures i c.in_ok-present.ensures.1)
+
+pub returns-in_err-version : goal.returns-in_err-version
+returns-in_err-version c = search rules
+
+pub returns-in_err-present : goal.returns-in_err-present
+returns-in_err-present c = search rules

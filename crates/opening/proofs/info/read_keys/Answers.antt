@@ -1,4 +1,4 @@
-use Rattle.std.proofs.Common.{◌≡◌, ◌++◌, sym, subst, codes}
+use Rattle.std.proofs.Common.{◌≡◌, ◌++◌, sym, subst, codes, rules}
 use Rattle.std.proofs.lemmas.Result.{err_from_is_err_and}
 use Rattle.benc.specs.Value.{Bencode}
 use Rattle.benc.specs.View.{view}
@@ -28,3 +28,9 @@ returns-in_err-layers c =
     let known : NoneHolds (info_rows (info_in v)) = subst (λ (i : Bencode). NoneHolds (info_rows i)) is c.in_ok-tree.ensures.0 in
     rw (p.1, p.2) (first_behind (top_rows v ++ info_rows (info_in v)) (layers_rows v) r (none_both (top_rows v) (info_rows (info_in v)) c.in_ok-info.ensures.0
     known) c.in_err-layers.ensures)
+
+pub returns-in_err-info : goal.returns-in_err-info
+returns-in_err-info c = search rules
+
+pub returns : goal.returns
+returns c = search rules

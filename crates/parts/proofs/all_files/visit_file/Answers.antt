@@ -6,7 +6,7 @@ use Rattle.opening.specs.Description.{Description, FileEntry}
 use Rattle.folders.specs.Visits.{VisitsFor}
 use Rattle.parts.specs.Parts.{piece_count}
 use Rattle.parts.specs.PieceReads.{ReadsPieces}
-use Rattle.parts.specs.declared.span.Span.{Span}
+use Rattle.parts.specs.declared.places.Span.{Span}
 use Rattle.parts.proofs.FoundFiles.{small_pieces}
 use Rattle.parts.proofs.Visited.{found_there, whole_finds_it, whole_visits_it}
 use Rattle.parts.proofs.WholeFiles.{IsWholeSpan, whole_shape, whole_unreadable}
@@ -26,7 +26,7 @@ visit-visited-requires-clause-ready g c =
     record {
       file = c.requires.file;
       span = whole_shape t f _ (all_of t f c.piece_count-count.result c.piece_count-count.ensures);
-      clear = subst (λ (v : Vec ℕ Global). AreClear v.items) (sym c.taken.ensures) c.clear_bits.ensures.clear;
+      clear = subst (λ (v : Vec ℕ Global). AreClear v.items) (sym c.taken.ensures.taken) c.clear_bits.ensures.clear;
     }
 
 pub of_whole-requires : goal.of_whole-requires

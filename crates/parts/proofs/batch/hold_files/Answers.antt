@@ -47,3 +47,27 @@ files-preserved g c =
           c.keep.ensures.windows;
       stays = c.hold_file-visited.ensures.stays ∙ was.stays;
     }
+
+pub returns-then-is_due-clause-holds : goal.returns-then-is_due-clause-holds
+returns-then-is_due-clause-holds g c =
+    let t = c.args.torrent.now in
+    let f = file_entry c.index-entries-number.result in
+    let there = file_there t c.files-entries.result.now c.files.number c.index-entries-number.result c.files-entries.ensures c.files-test.true
+    c.index-entries-number.is in
+    let was = c.files.invariant in
+    let fits : c.files.used + c.index-entries-number.result.length < length c.files.room.items = search rules in (
+      c.files.used + c.index-entries-number.result.length,
+      omega (arith, fits, c.hold_file-visited.ensures.count),
+      holds_more g.S.Shelf g.S.File.Source.seen t c.args.from c.args.shelf.now c.files.shelf c.hold_file-visited.new.shelf c.files.held c.keep.new.self
+          c.files.room.items c.hold_file-visited.new.room.items c.files.used c.files.number f c.hold_file-visited.result was.holds was.place there
+          c.hold_file-visited.ensures.promises c.hold_file-visited.ensures.kept c.keep.ensures.count c.keep.ensures.before c.keep.ensures.last
+          c.keep.ensures.windows,
+    )
+
+pub returns-then-is_due-clause-within : goal.returns-then-is_due-clause-within
+returns-then-is_due-clause-within g c =
+    let was = c.files.invariant in
+    let fits : c.files.used + c.index-entries-number.result.length < length c.files.room.items = search rules in
+    c.keep.ensures.within c.args.torrent.now (length c.hold_file-visited.new.room.items)
+    (subst (AreWithin c.args.torrent.now c.files.held.windows) (sym c.hold_file-visited.ensures.count) was.within)
+    (omega (arith, fits, c.hold_file-visited.ensures.count))

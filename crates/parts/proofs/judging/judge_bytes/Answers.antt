@@ -3,7 +3,7 @@ use Rattle.std.proofs.lemmas.List.{nil_from_length}
 use Rattle.opening.specs.Description.{Description, FileEntry}
 use Rattle.opening.specs.Seen.{file_entry}
 use Rattle.parts.specs.Parts.{piece_count}
-use Rattle.parts.specs.declared.span.Span.{Span}
+use Rattle.parts.specs.declared.places.Span.{Span}
 use Rattle.parts.proofs.FoundFiles.{small_pieces}
 use Rattle.parts.proofs.Judged.{judged_row}
 use Rattle.parts.proofs.WholeFiles.{IsWholeSpan, whole_shape}

@@ -100,7 +100,7 @@ judge-judged-requires-clause-fresh g c =
     let room = row_room t file.0 f s c.cuts.result.feed c.recall_sound.ensures file.1 c.requires.piece c.requires.span.inside c.cuts.ensures.begins
     c.cuts.ensures.stands c.cuts.ensures.part in
     fresh_row feed c.unwrap.result c.compared_layer-layer.result c.hashes.result.now c.of_row.ensures
-    (subst (λ (v : Vec ℕ Global). AreClear v.items) (sym c.taken.ensures) c.requires.clear) (subst (HasCutRoom c.cuts.result.feed) (sym shape) room)
+    (subst (λ (v : Vec ℕ Global). AreClear v.items) (sym c.taken.ensures.taken) c.requires.clear) (subst (HasCutRoom c.cuts.result.feed) (sym shape) room)
 
 pub returns-in_default-2-clause-judged : goal.returns-in_default-2-clause-judged
 returns-in_default-2-clause-judged g c =

@@ -59,7 +59,7 @@ returns-in_err-say_runs g c =
     (span_first words t r f s v bits old new p.0 is on
     (runs_broke words.run t f v bits s.from s.to (words.report.file v f) (IsGoodIfIn t r f) old mid new (span_row t r f s bits is c.requires.room)
     (span_asks t r f s is)
-    (sym c.may_have_runs.ensures ∙ c.if-may_have_runs.true) c.in_ok-say_verdict.ensures c.in_err-say_runs.ensures))
+    (sym c.has_runs.ensures ∙ c.if-has_runs.true) c.in_ok-say_verdict.ensures c.in_err-say_runs.ensures))
 
 pub returns-in_ok-say_runs : goal.returns-in_ok-say_runs
 returns-in_ok-say_runs g c =
@@ -78,4 +78,4 @@ returns-in_ok-say_runs g c =
     let ran = c.in_ok-say_runs.ensures in
     span_told words t r f s v bits old new is on
     (front_and_runs words.run t f v bits s.from s.to (words.report.file v f) (IsGoodIfIn t r f) old mid new ran.0 (span_row t r f s bits is c.requires.room)
-    (span_asks t r f s is) (sym c.may_have_runs.ensures ∙ c.if-may_have_runs.true) c.in_ok-say_verdict.ensures ran.1 ran.2)
+    (span_asks t r f s is) (sym c.has_runs.ensures ∙ c.if-has_runs.true) c.in_ok-say_verdict.ensures ran.1 ran.2)

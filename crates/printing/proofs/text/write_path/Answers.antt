@@ -1,7 +1,7 @@
 use Rattle.std.proofs.Common.{◌≡◌, ℕ, List, ◌+◌, ◌<◌, [], ◌∷◌, get_or, length, ◌++◌, drop, map, refl, sym, ap, ◌∙◌, arith}
 use Rattle.std.proofs.lemmas.Result.{err_from_is_err_and}
 use Rattle.benc.proofs.Out.{Wrote-part}
-use Rattle.filetree.specs.FileTree.{slash}
+use Rattle.printing.specs.Ascii.{slash}
 use Rattle.printing.specs.Text.{escaped, path_text}
 use Rattle.printing.proofs.Escapes.{path_text-cons, tail_text}
 use Rattle.printing.proofs.Parts.{item_next, sent_fault, sent_next}

@@ -1,9 +1,9 @@
-use Rattle.std.proofs.Common.{ℕ, List, Some, is_some, set, sym, ap, ◌∙◌, subst}
+use Rattle.std.proofs.Common.{ℕ, List, Some, is_some, set, refl, sym, ap, ◌∙◌, subst}
 use Rattle.std.proofs.lemmas.Bool.{false≢true}
 use Rattle.node_maps.specs.declared.page.Page.{Page}
 use Rattle.node_maps.specs.Rising.{IsNumberAt, IsGapFor, page_numbered}
 use Rattle.node_maps.proofs.Rising.{stands, set-found, found_gap}
-use Rattle.node_maps.proofs.Pages.{put-is, put-changed, changed-self}
+use Rattle.node_maps.proofs.Pages.{put-changed, changed-self}
 use Rattle.node_maps.proofs.page_index.PageListPageIndex.put.Goals as goal
 
 pub returns-in-Ok-clause-here : goal.returns-in-Ok-clause-here
@@ -17,7 +17,7 @@ returns-in-Ok-clause-here c =
     put-changed c.args.place c.args.hash c.args.mark c.args.number (page_numbered ns ps) (page_numbered ns (set ps c.in-Ok.at w)) p w
     (stands ns ps s.rising s.beside c.args.number c.in-Ok.at is p c.index_mut-page.ensures.value)
     (set-found ns ps s.rising s.beside c.args.number c.in-Ok.at is w)
-    (put-is c.args.place c.args.hash c.args.mark p w c.requires.place c.put.ensures)
+    (record { there = refl; here = c.put.ensures.here; others = c.put.ensures.others })
 
 pub returns-in-Ok-clause-others : goal.returns-in-Ok-clause-others
 returns-in-Ok-clause-others c =

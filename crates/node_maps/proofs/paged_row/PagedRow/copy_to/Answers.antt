@@ -32,10 +32,10 @@ parts-preserved c =
           part.ensures.number part.ensures.first part.ensures.inside (sym w.in-Some.ensures) in
           record {
             copied = ap (λ v. v.items) w.out-is ∙ w.copy_to.ensures.copied
-                ∙ ap (λ xs. xs ++ hashes_from (hash_in w.in-Some.page.now.cells.items) part.result.first part.result.count) c.parts.invariant.copied
+                ∙ ap (λ xs. xs ++ hashes_from (hash_in w.in-Some.page.now.kept.items) part.result.first part.result.count) c.parts.invariant.copied
                 ∙ append_assoc c.args.out.now.items (hashes_from f c.args.from c.parts.done) _
                 ∙ ap (λ xs. c.args.out.now.items ++ xs)
-                (ap (λ xs. hashes_from f c.args.from c.parts.done ++ xs) (hashes-alike (hash_in w.in-Some.page.now.cells.items) f part.result.first at
+                (ap (λ xs. hashes_from f c.args.from c.parts.done ++ xs) (hashes-alike (hash_in w.in-Some.page.now.kept.items) f part.result.first at
                 part.result.count alike)
                 ∙ sym (hashes-join f c.args.from c.parts.done part.result.count));
             len = omega (arith, ap vec_len w.out-is, w.copy_to.ensures.len, c.parts.invariant.len);

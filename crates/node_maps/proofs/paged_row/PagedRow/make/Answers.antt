@@ -24,7 +24,7 @@ invariant_of-self-2 c =
       in_use = c.add.ensures.in_use row.in_use;
       counted = counted-more f g c.args.number row.count c.in_ok-page.page row.counted none c.in_ok-add.ensures.added c.requires;
       spare = subst (AreSpare g) (sym (c.push_reserved.ensures.items ∙ ap (λ xs. xs ++ c.args.number ∷ []) c.reserve_one.ensures.items))
-          (added-spare f g c.args.number c.in_ok-page.page none c.in_ok-add.ensures.added c.in_ok-page.ensures.cells row.fresh.items row.spare);
+          (added-spare f g c.args.number c.in_ok-page.page none c.in_ok-add.ensures.added c.in_ok-page.ensures row.fresh.items row.spare);
     }
 
 pub returns-clause-cells : goal.returns-clause-cells
@@ -33,7 +33,7 @@ returns-clause-cells c =
     let row = c.args.self.now in
     let f = on_rows row.pages in
     let none : f c.args.number ≡ None = absent c.page.result (f c.args.number) c.page.ensures (sym c.is_some.ensures ∙ c.if-is_some.false) in
-    added-cells f (on_rows c.add.new.self) c.args.number c.in_ok-page.page none c.in_ok-add.ensures.added c.in_ok-page.ensures.cells
+    added-cells f (on_rows c.add.new.self) c.args.number c.in_ok-page.page none c.in_ok-add.ensures.added c.in_ok-page.ensures
 
 pub returns-clause-keeps : goal.returns-clause-keeps
 unfolding pages_of
@@ -50,7 +50,7 @@ returns-clause-grown c =
     let row = c.args.self.now in
     let f = on_rows row.pages in
     let none : f c.args.number ≡ None = absent c.page.result (f c.args.number) c.page.ensures (sym c.is_some.ensures ∙ c.if-is_some.false) in
-    added-grown f (on_rows c.add.new.self) c.args.number c.in_ok-page.page none c.in_ok-add.ensures.added c.in_ok-page.ensures.cells row.fresh.items row.count
+    added-grown f (on_rows c.add.new.self) c.args.number c.in_ok-page.page none c.in_ok-add.ensures.added c.in_ok-page.ensures row.fresh.items row.count
     c.push_reserved.new.self.items (c.push_reserved.ensures.items ∙ ap (λ xs. xs ++ c.args.number ∷ []) c.reserve_one.ensures.items)
 
 pub returns-in_err-add-clause-cells : goal.returns-in_err-add-clause-cells

@@ -1,4 +1,4 @@
-use Rattle.std.proofs.Common.{◌≡◌, [], ◌∷◌, ◌++◌, length, Some, None, cond, refl, sym, ap, subst, ◌∙◌, inl, arith}
+use Rattle.std.proofs.Common.{◌≡◌, [], ◌∷◌, ◌++◌, length, Some, None, cond, refl, sym, ap, subst, ◌∙◌, inl, arith, rules}
 use Rattle.std.specs.Prelude.{slice_get}
 use Rattle.std.specs.BTreeMap as tree
 use Rattle.std.specs.Cmp.Lexicographic.{slice_cmp}
@@ -69,3 +69,36 @@ returns-in_ok-push-in-None-clause-there c =
     subst (λ ts. IsRootAt ts c.args.root c.args.length) (sym after)
     (root_is_at (items ++ one ∷ []) c.args.root (length items) c.args.length one (place_push_new items one c.args.root none refl)
     (pushed_last items one (length items) refl) refl)
+
+pub invariant_of-self : goal.invariant_of-self
+invariant_of-self c = search rules
+
+pub returns-in_err-reserve-in-None-clause-added : goal.returns-in_err-reserve-in-None-clause-added
+returns-in_err-reserve-in-None-clause-added c = search rules
+
+pub returns-in_err-reserve-in-None-clause-there : goal.returns-in_err-reserve-in-None-clause-there
+returns-in_err-reserve-in-None-clause-there c = search rules
+
+pub invariant_of-self-in_err-insert-in-None : goal.invariant_of-self-in_err-insert-in-None
+invariant_of-self-in_err-insert-in-None c = search rules
+
+pub returns-in_err-insert-in-None-clause-added : goal.returns-in_err-insert-in-None-clause-added
+returns-in_err-insert-in-None-clause-added c = search rules
+
+pub returns-in_err-insert-in-None-clause-there : goal.returns-in_err-insert-in-None-clause-there
+returns-in_err-insert-in-None-clause-there c = search rules
+
+pub invariant_of-self-in_err-push-in-None : goal.invariant_of-self-in_err-push-in-None
+invariant_of-self-in_err-push-in-None c = search rules
+
+pub returns-in_err-push-in-None-clause-added : goal.returns-in_err-push-in-None-clause-added
+returns-in_err-push-in-None-clause-added c = search rules
+
+pub returns-in_err-push-in-None-clause-there : goal.returns-in_err-push-in-None-clause-there
+returns-in_err-push-in-None-clause-there c = search rules
+
+pub returns-else-index-length-clause-added : goal.returns-else-index-length-clause-added
+returns-else-index-length-clause-added c = search rules
+
+pub returns-in_ok-push-in-None-clause-added : goal.returns-in_ok-push-in-None-clause-added
+returns-in_ok-push-in-None-clause-added c = search rules

@@ -51,7 +51,7 @@ returns-in_err-say_runs-in-LineAndRuns-clause-tells g c =
     (whole_first words t lines f v bits old new p.0
     (runs_broke words.run t f v bits 0 (piece_count t f) (wanted_as words.report lines v f) (HasGoodPiece t f) old mid new (whole_row t f bits room)
     (whole_asks t f)
-    (sym c.may_have_runs.ensures ∙ c.if-may_have_runs.true) c.in_ok-say_wanted-in-LineAndRuns.ensures ran)))
+    (sym c.has_runs.ensures ∙ c.if-has_runs.true) c.in_ok-say_wanted-in-LineAndRuns.ensures ran)))
 
 pub returns-in_ok-say_runs-in-LineAndRuns-clause-tells : goal.returns-in_ok-say_runs-in-LineAndRuns-clause-tells
 returns-in_ok-say_runs-in-LineAndRuns-clause-tells g c =
@@ -71,4 +71,4 @@ returns-in_ok-say_runs-in-LineAndRuns-clause-tells g c =
     (whole_told words t lines f v bits old new
     (front_and_runs words.run t f v bits 0 (piece_count t f) (wanted_as words.report lines v f) (HasGoodPiece t f) old mid new ran.0
     (whole_row t f bits room) (whole_asks t f)
-    (sym c.may_have_runs.ensures ∙ c.if-may_have_runs.true) c.in_ok-say_wanted-in-LineAndRuns.ensures ran.1 ran.2))
+    (sym c.has_runs.ensures ∙ c.if-has_runs.true) c.in_ok-say_wanted-in-LineAndRuns.ensures ran.1 ran.2))

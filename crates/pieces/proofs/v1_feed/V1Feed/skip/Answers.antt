@@ -8,5 +8,5 @@ returns c = λ bytes counted.
     record {
       same_total = refl;
       given_is = given;
-      content = λ pieces n content fed. fed_skipped c.args.self.now _ pieces n content bytes fed.at c.requires.bad given refl refl refl refl;
+      content = λ pieces n content fed. fed_skipped c.args.self.now _ pieces n content bytes fed c.requires.bad given refl refl refl refl;
     }

@@ -1,30 +1,21 @@
-use Rattle.std.proofs.Common.{refl, subst, sym, length, arith, ◌∙◌}
-use Rattle.std.proofs.lemmas.List.{length-take-le, take_all}
-use Rattle.pieces.specs.Feeding.{FeedsStream}
-use Rattle.pieces.proofs.Comparing.{none_from}
-use Rattle.pieces.proofs.Fed.{given_stopped}
+use Rattle.std.proofs.Common.{drop, refl, sym, arith}
+use Rattle.std.proofs.lemmas.List.{length-take-le}
+use Rattle.pieces.proofs.FedStages.{taken_out}
 use Rattle.pieces.proofs.v1_feed.V1Feed.take_part.Goals as goal
 
-pub returns-then-is_some-clause-feeds : goal.returns-then-is_some-clause-feeds
-returns-then-is_some-clause-feeds c =
-    let bytes = c.args.bytes.now in
-    let room = c.make_room.ensures in
-    let skipped = c.skip.ensures bytes refl in
-    let all : FeedsStream c.args.self.now bytes c.skip.new.self = record {
-      same_total = skipped.same_total ∙ room.total;
-      given_is = omega (arith, skipped.given_is, room.given);
-      content = λ pieces n content fed.
-          skipped.content pieces n content (given_stopped c.make_room.new.self pieces n content (room.content pieces n content fed) (sym c.if-is_some.ensures));
-    } in
-    subst (λ part. FeedsStream c.args.self.now part c.skip.new.self) (sym (take_all (length bytes) bytes (omega arith))) all
+pub take_staged-requires-clause-in_step : goal.take_staged-requires-clause-in_step
+take_staged-requires-clause-in_step c = c.args.self.now.in_step c.in-Some.stages (sym c.in-Some.ensures.value)
 
-pub returns-clause-feeds : goal.returns-clause-feeds
-returns-clause-feeds c =
-    let room = c.make_room.ensures in
-    let filled = c.fill.ensures in
+pub returns-in-Some-clause-feeds : goal.returns-in-Some-clause-feeds
+returns-in-Some-clause-feeds c =
+    let fed = c.take_staged.ensures in
     record {
-      same_total = filled.total ∙ room.total;
-      given_is = omega (arith, filled.given, room.given, length-take-le c.fill.result c.args.bytes.now filled.bound);
-      content = λ pieces n content fed.
-          filled.content pieces n content (room.content pieces n content fed) (none_from c.make_room.new.self.bad (sym c.if-is_some.ensures));
+      same_total = fed.total;
+      given_is = omega (arith, fed.given, length-take-le c.take_staged.result c.args.bytes.now fed.bound);
+      content = λ pieces n content given.
+          fed.content pieces n content
+          (taken_out c.args.self.now _ c.in-Some.stages pieces n content (sym c.in-Some.ensures.value) refl refl refl refl refl given);
     }
+
+pub returns-in-Some-clause-next : goal.returns-in-Some-clause-next
+returns-in-Some-clause-next c = λ _. c.new.ensures c.take_staged.new.self.cutter.piece_length (drop c.take_staged.result c.args.bytes.now)

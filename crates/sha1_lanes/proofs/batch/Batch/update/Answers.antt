@@ -29,7 +29,7 @@ returns c j lt m held =
     let both : length (m ++ more) ≡ length m + length more = length-append m more in
     let all : length m / 64 + c.blocks-2.block ≡ length (m ++ more) / 64 = omega (arith, held.whole) in
     record {
-      length_is = omega (arith, held.length_is, c.keep.ensures.length);
+      length_is = omega (arith, held.length_is);
       whole = omega (arith, held.whole);
-      value_is = c.keep.ensures.values j lt ∙ c.blocks-2.invariant j lt m held ∙ ap (hash_after (m ++ more)) all;
+      value_is = c.of-self.ensures j lt ∙ c.blocks-2.invariant j lt m held ∙ ap (hash_after (m ++ more)) all;
     }

@@ -1,0 +1,256 @@
+//! The adding of all listed files: small ones that follow one another are read one after the other,
+//! and hashed together.
+ghost use Rattle.std.specs.Prelude.{◌≡◌, ℕ, ◌+◌, ◌-◌, ◌<◌, ◌≤◌, IfSome, IsOk, List, OnSome, length, map};
+ghost use Rattle.std.specs.String.{string_bytes};
+ghost use Rattle.std.specs.Vec.{vec_capacity};
+ghost use Rattle.folders.specs.Shelf.{path_bytes};
+ghost use Rattle.gathering.specs.Adding.{AddsAt, AddsBatch, AddsFound, AddsLast, AddsRow, AreBatch, IsBatchWithin, IsFound};
+ghost use Rattle.gathering.specs.Batches.{AreHashed, ArePlaced, IsOfKind, IsSound, contents_of};
+ghost use Rattle.gathering.specs.Reading.{Finds};
+ghost use Rattle.gathering.specs.Steps.{AddsAll, AreWithin, ReadsBatch};
+
+use crate::batch::Batch;
+use crate::file_fault::FileFault;
+use crate::hashing::FileHashes;
+use crate::kind::TorrentKind;
+use crate::visiting::{Visited, visit_file};
+use drafts::Draft;
+use folders::{Lengths, Shelf};
+use hashtree::recall_hashes;
+use std::alloc::Global;
+
+/// Why not all files were added: the number of the path at which it stopped, and what happened.
+#[derive(Drop)]
+pub(crate) struct StoppedAt {
+    pub(crate) number: usize,
+    pub(crate) fault: FileFault,
+}
+
+// What a draft is given of a file, or why it gets nothing.
+type Found = Result<FileHashes, FileFault>;
+
+/// Adds the files under these paths. The list has room for the components of each.
+// It has a block in its frame, so it is not inlined.
+#[inline(never)]
+pub(crate) fn add_files<'p, S: Shelf, L: Lengths>(
+    alloc: Global,
+    shelf: &mut S,
+    lengths: &mut L,
+    draft: &mut Draft,
+    paths: &'p [Vec<String>],
+    mut parts: Vec<&'p str>,
+    kind: &TorrentKind,
+) -> Result<(), StoppedAt>
+    requires room { AreWithin (map path_bytes paths.now) (vec_capacity parts) }
+    requires piece_length { draft.old.piece_length ≡ kind.now.piece_length }
+    requires hybrid { draft.old.hybrid ≡ kind.now.hybrid }
+    ensures adds { AddsAll S.Shelf S.File.seen draft.old shelf.old (map path_bytes paths.now)
+        draft.new shelf.new result }
+    ensures stays { S.contents shelf.new ≡ S.contents shelf.old }
+{
+    let mut buffer = kind.buffer(alloc);
+    let mut batch = Batch::new(alloc, kind, paths.len());
+    let mut number = 0;
+    'batches: while number < paths.len() {
+        let buffer = buffer.as_mut_slice();
+        let last = match read_batch(
+            shelf, lengths, paths, number, &mut parts, &mut batch, buffer,
+        ) {
+            Ok(last) => last,
+            Err(stop) => return Err(stop),
+        };
+        number = match add_batch(draft, paths, number, &mut parts, &mut batch, last, kind) {
+            Ok(next) => next,
+            Err(stop) => return Err(stop),
+        };
+    }
+    Ok(())
+}
+
+// Reads the files under the paths from this one on, until the batch is full, or one is hashed
+// alone, which is answered. Conditions: there is a path, and room for the components of each.
+fn read_batch<'p, S: Shelf, L: Lengths>(
+    shelf: &mut S,
+    lengths: &mut L,
+    paths: &'p [Vec<String>],
+    from: usize,
+    parts: &mut Vec<&'p str>,
+    batch: &mut Batch<'_>,
+    buffer: &mut [u8],
+) -> Result<Option<Found>, StoppedAt>
+    requires some { 0 < length buffer.old }
+    requires there { from < length paths.now }
+    requires room { AreWithin (map path_bytes paths.now) (vec_capacity parts.old) }
+    requires placed { ArePlaced batch.old }
+    ensures reads { ReadsBatch S.Shelf S.File.seen shelf.old (map path_bytes paths.now) from
+        batch.new shelf.new result }
+    ensures sound { IsOk result → IsSound batch.new }
+    ensures kind { IsOk result
+        → IsOfKind batch.old.kind.now.piece_length batch.old.kind.now.hybrid batch.new }
+    ensures buffer { length buffer.new ≡ length buffer.old }
+    ensures stays { S.contents shelf.new ≡ S.contents shelf.old }
+    ensures capacity { vec_capacity parts.new ≡ vec_capacity parts.old }
+{
+    batch.clear();
+    'files: for number in from..paths.len() {
+        if batch.is_full() {
+            return Ok(None);
+        }
+        put_parts(&paths[number], parts);
+        batch.ask_length(lengths, parts);
+        match visit_file(shelf, parts, batch, buffer) {
+            Ok(Visited::Held) => {}
+            Ok(Visited::Alone(found)) => return Ok(Some(found)),
+            Err(fault) => return Err(StoppedAt { number, fault }),
+        }
+    }
+    Ok(None)
+}
+
+// Hashes the files that are held, and adds them under the paths from this one on, and then the
+// last one, which was hashed alone. The number of the next path.
+fn add_batch<'p>(
+    draft: &mut Draft,
+    paths: &'p [Vec<String>],
+    from: usize,
+    parts: &mut Vec<&'p str>,
+    batch: &mut Batch<'_>,
+    last: Option<Found>,
+    kind: &TorrentKind,
+) -> Result<usize, StoppedAt>
+    requires piece_length { draft.old.piece_length ≡ kind.now.piece_length }
+    requires hybrid { draft.old.hybrid ≡ kind.now.hybrid }
+    requires kind { IsOfKind draft.old.piece_length draft.old.hybrid batch.old }
+    requires sound { IsSound batch.old }
+    requires from { from ≤ length paths.now }
+    requires within { IsBatchWithin draft.old.piece_length draft.old.hybrid (contents_of batch.old)
+        last (length paths.now - from) }
+    requires room { AreWithin (map path_bytes paths.now) (vec_capacity parts.old) }
+    ensures adds { (contents : List (List ℕ)) → AreBatch draft.old.piece_length draft.old.hybrid
+        (contents_of batch.old) last contents
+        → AddsBatch draft.old (map path_bytes paths.now) from contents draft.new result }
+    ensures placed { ArePlaced batch.new }
+    ensures kind { IsOfKind draft.old.piece_length draft.old.hybrid batch.new }
+    ensures capacity { vec_capacity parts.new ≡ vec_capacity parts.old }
+{
+    batch.hash();
+    if let Err(stop) = add_held(draft, paths, from, parts, batch, kind) {
+        return Err(stop);
+    }
+    add_last(draft, paths, from + batch.len(), parts, last, kind)
+}
+
+// Adds the last file of a batch under the path of this number, if it was hashed alone. The number
+// of the next path.
+fn add_last<'p>(
+    draft: &mut Draft,
+    paths: &'p [Vec<String>],
+    number: usize,
+    parts: &mut Vec<&'p str>,
+    last: Option<Found>,
+    kind: &TorrentKind,
+) -> Result<usize, StoppedAt>
+    requires piece_length { draft.old.piece_length ≡ kind.now.piece_length }
+    requires hybrid { draft.old.hybrid ≡ kind.now.hybrid }
+    requires there { OnSome last (number < length paths.now) }
+    requires found { IfSome last (IsFound draft.old) }
+    requires room { AreWithin (map path_bytes paths.now) (vec_capacity parts.old) }
+    ensures adds { AddsLast draft.old (map path_bytes paths.now) number last draft.new result }
+    ensures capacity { vec_capacity parts.new ≡ vec_capacity parts.old }
+{
+    match last {
+        None => Ok(number),
+        Some(found) => match add_at(draft, paths, number, parts, found, kind) {
+            Ok(()) => Ok(number + 1),
+            Err(stop) => Err(stop),
+        },
+    }
+}
+
+// Adds the files that are held, under the paths from this one on. Conditions: they are hashed, and
+// there are as many paths.
+fn add_held<'p>(
+    draft: &mut Draft,
+    paths: &'p [Vec<String>],
+    from: usize,
+    parts: &mut Vec<&'p str>,
+    batch: &Batch<'_>,
+    kind: &TorrentKind,
+) -> Result<(), StoppedAt>
+    requires piece_length { draft.old.piece_length ≡ kind.now.piece_length }
+    requires hybrid { draft.old.hybrid ≡ kind.now.hybrid }
+    requires kind { IsOfKind draft.old.piece_length draft.old.hybrid batch.now }
+    requires placed { ArePlaced batch.now }
+    requires hashed { AreHashed batch.now }
+    requires there { from + length (contents_of batch.now) ≤ length paths.now }
+    requires room { AreWithin (map path_bytes paths.now) (vec_capacity parts.old) }
+    ensures adds { AddsRow draft.old (map path_bytes paths.now) from (contents_of batch.now)
+        draft.new result }
+    ensures capacity { vec_capacity parts.new ≡ vec_capacity parts.old }
+{
+    'held: for k in 0..batch.len() {
+        if let Err(stop) = add_at(draft, paths, from + k, parts, batch.found(k), kind) {
+            return Err(stop);
+        }
+    }
+    Ok(())
+}
+
+// Adds the file under the path of this number, of which this was found.
+fn add_at<'p>(
+    draft: &mut Draft,
+    paths: &'p [Vec<String>],
+    number: usize,
+    parts: &mut Vec<&'p str>,
+    found: Found,
+    kind: &TorrentKind,
+) -> Result<(), StoppedAt>
+    requires piece_length { draft.old.piece_length ≡ kind.now.piece_length }
+    requires hybrid { draft.old.hybrid ≡ kind.now.hybrid }
+    requires there { number < length paths.now }
+    requires found { IsFound draft.old found }
+    requires room { AreWithin (map path_bytes paths.now) (vec_capacity parts.old) }
+    ensures adds { (content : List ℕ) → Finds draft.old.piece_length draft.old.hybrid content found
+        → AddsAt draft.old (map path_bytes paths.now) number content draft.new result }
+    ensures capacity { vec_capacity parts.new ≡ vec_capacity parts.old }
+{
+    put_parts(&paths[number], parts);
+    match add_found(draft, parts, found, kind) {
+        Ok(()) => Ok(()),
+        Err(fault) => Err(StoppedAt { number, fault }),
+    }
+}
+
+// Adds a file under this path, of which this was found.
+fn add_found(
+    draft: &mut Draft,
+    path: &[&str],
+    found: Found,
+    kind: &TorrentKind,
+) -> Result<(), FileFault>
+    requires piece_length { draft.old.piece_length ≡ kind.now.piece_length }
+    requires found { IsFound draft.old found }
+    ensures { (content : List ℕ) → Finds draft.old.piece_length draft.old.hybrid content found
+        → AddsFound draft.old (map (λ s. s.now) path.now) content draft.new result }
+{
+    let hashes = match found {
+        Ok(hashes) => hashes,
+        Err(fault) => return Err(fault),
+    };
+    kind.recall_legal();
+    recall_hashes(&hashes.layer);
+    draft.add(path, hashes.length, hashes.root, &hashes.layer, &hashes.v1)?;
+    Ok(())
+}
+
+// Puts the components of a path into a list that has room for them, in place of what it has.
+fn put_parts<'p>(path: &'p [String], parts: &mut Vec<&'p str>)
+    requires room { length path.now ≤ vec_capacity parts.old }
+    ensures parts { map (λ s. s.now) parts.new.items ≡ map string_bytes path.now }
+    ensures no_memory { vec_capacity parts.new ≡ vec_capacity parts.old }
+{
+    parts.clear();
+    'parts: for part in path {
+        parts.push_reserved(part.as_str());
+    }
+}

@@ -1,9 +1,0 @@
-use Rattle.lanes.specs.declared.words.TheConstants.{LANES}
-use Rattle.std.proofs.Common.{◌≡◌, ℕ, ◌<◌, ◌+◌, ◌*◌, length}
-use Rattle.lanes.specs.Lanes.{word_at}
-use Rattle.lanes.specs.Lanes.{word_in}
-use Rattle.lanes.proofs.reading.block_at.Given as goal
-
-abbrev pub invariant-words : goal.invariant-words
-invariant-words l = (length l.words ≡ 16)
-    × ((j k : ℕ) → j < LANES → k < l.k → word_in l.words k j ≡ word_at l.messages (j * l.size + (l.at + 4 * k)))

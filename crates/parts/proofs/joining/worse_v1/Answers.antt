@@ -1,5 +1,0 @@
-use Rattle.std.proofs.Common.{rules}
-use Rattle.parts.proofs.joining.worse_v1.Goals as goal
-
-pub returns-in-Bad-Bad : goal.returns-in-Bad-Bad
-returns-in-Bad-Bad c = search rules
