@@ -70,18 +70,17 @@ def cut_off(count, *arguments):
 
 def arrivals(*arguments, begin):
     """Runs the program with a terminal for standard output, and calls `begin` as it starts. Gives the status, and each line
-    that it printed, with the seconds from the start until it came."""
+    that it printed, with the time by `time.monotonic` when it came."""
     ours, theirs = pty.openpty()
     tty.setraw(theirs)
     program = subprocess.Popen([BTCHECK, *arguments], stdin=subprocess.DEVNULL, stdout=theirs, stderr=subprocess.DEVNULL)
-    start = time.monotonic()
     begin()
     os.close(theirs)
     text, lines = b"", []
     while part := read_or_end(ours):
         text += part
         whole = text.count(b"\n")
-        lines += [(line.decode(), time.monotonic() - start) for line in text.split(b"\n")[len(lines):whole]]
+        lines += [(line.decode(), time.monotonic()) for line in text.split(b"\n")[len(lines):whole]]
     os.close(ours)
     return program.wait(timeout=60), lines
 

@@ -2,6 +2,7 @@
 import os
 import subprocess
 import sys
+import time
 
 from support import LeftOut, folder, write
 from terminal import arrivals
@@ -9,7 +10,10 @@ from torrents import torrent_of
 
 SECONDS = 0.4
 
-# Holds leases on the files that it is given, so that who opens one waits, and gives one back after each pause.
+# How often a run is tried: one that has to wait for a processor is late by that.
+TRIES = 3
+
+# Holds leases on the files that it is given, so that who opens one waits; gives one back after each pause, and prints when.
 HOLDER = f"""
 import fcntl, os, signal, sys, time
 signal.signal(signal.SIGIO, signal.SIG_IGN)
@@ -24,6 +28,7 @@ print("held", flush=True)
 sys.stdin.readline()
 for file in files:
     time.sleep({SECONDS})
+    print(time.monotonic())
     fcntl.fcntl(file, fcntl.F_SETLEASE, fcntl.F_UNLCK)
 """
 
@@ -41,15 +46,27 @@ def slowly(paths):
     return holder, begin
 
 
-def expect_prompt(place, files, words, *arguments):
-    """The line of each file comes within a second of when it could be read, though later files are slow."""
+def lateness(place, files, words, *arguments):
+    """The lines that do not come before the third file behind theirs can be read, of a run that reads these files one by
+    one as they are given back."""
+    start = time.monotonic()
     holder, begin = slowly([f"{place}/files/{name}" for name, _ in files[1:]])
     status, lines = arrivals(*arguments, begin=begin)
-    holder.communicate(timeout=60)
+    readable = [start, *(float(line) for line in holder.communicate(timeout=60)[0].split())]
     assert status == 0, (status, lines)
     assert [line for line, _ in lines[:len(files)]] == [f"{words} {name}" for name, _ in files], lines
-    for at, (line, seconds) in enumerate(lines[:len(files)]):
-        assert SECONDS * at - 0.1 < seconds < SECONDS * at + 1, (line, seconds)
+    assert all(came > since for (_, came), since in zip(lines, readable)), (lines, readable)
+    return [(line, came - start) for (line, came), later in zip(lines, readable[3:]) if came > later]
+
+
+def expect_prompt(*run):
+    """Each line comes soon, though later files are slow: in one run of some at least."""
+    late = []
+    for _ in range(TRIES):
+        late.append(lateness(*run))
+        if not late[-1]:
+            return
+    raise AssertionError(late)
 
 
 FILES = [(f"f{at}", bytes([at]) * 20000) for at in range(7)]
