@@ -97,8 +97,10 @@ class Archive:
             write(f"{self.place}/content/{name}/{name}", {"changed": b"abd", "short": b"ab"}.get(name, b"abc"))
 
     def start(self, code):
+        """Begins a run, as from a terminal. A shell that runs the tests in the background has them ignore interrupts."""
         return subprocess.Popen(["sh", "-c", code], cwd=self.place, env=self.environment, stdout=subprocess.PIPE,
-                                stderr=subprocess.PIPE, text=True, start_new_session=True)
+                                stderr=subprocess.PIPE, text=True, start_new_session=True,
+                                preexec_fn=lambda: signal.signal(signal.SIGINT, signal.SIG_DFL))
 
     def run(self, code):
         """The status, and the lines of standard output in order."""
