@@ -24,7 +24,7 @@ from ._values import (
     Answered, Ask, Blocks, File, HeldBlocks, KeepAlive, Rejected, RejectNoted, Run, Settled, Skipped, Stored, Verdict,
 )
 
-__version__ = "1.0.0.dev0"
+__version__ = "1.0.0"
 
 __all__ = [
     "BLOCK", "HASH", "version", "create", "Root", "Session", "Holdings", "Check", "Pieces", "Draft", "DraftFile", "Ask",

@@ -1,6 +1,6 @@
 //! What help says.
 
-pub(crate) const VERSION: &str = "1.0.0~dev (proved with logic dac8208d650f15bf)";
+pub(crate) const VERSION: &str = "1.0.0 (proved with logic dac8208d650f15bf)";
 
 pub(crate) const ABOUT: &str =
     "Checks BitTorrent version 2: torrents, folders and messages of peers";
