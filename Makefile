@@ -1,6 +1,7 @@
 # make                 proves every crate that the program needs, says how far it is, and builds build/btcheck for the
 #                      processor of this machine: x86-64-v3 where it has AVX2, else x86-64-v2; with the C library inside,
 #                      if there are a C compiler and an archive of that library
+# make help            prints this
 # make CPU=x86-64-v2   builds for that kind of processor, over the same proofs; a program says so on a lesser one
 # make check           runs what the merge gate runs: proofs, must-fail edits, all tests
 # make run             builds it and prints the length and the root of README.md
@@ -11,7 +12,7 @@
 # make lib             proves the C library and builds build/lib/libbtcheck.a and libbtcheck.so.1 (docs/LIBRARY.md)
 # make install         puts the program and `btcheck-many`, their manual pages and completions, the documents, the
 #                      examples, the sources of the bindings and the relay `tools/record` below PREFIX (and DESTDIR); and
-#                      the library, if `make lib` made it
+#                      the library, if `make lib` made it. `btcheck-many` has its modules in share/btcheck
 # make uninstall       removes them
 # make static          links what was proved with a static C library: build/static/btcheck, one file that needs no
 #                      library, for any machine (x86-64-v2)
@@ -47,7 +48,7 @@ endef
 # What these goals need, looked for before anything is proved. (`make` itself needs no more than the kit and Python 3.)
 GOALS := $(or $(MAKECMDGOALS),all)
 OF_C := $(filter lib static both dist deb,$(GOALS))
-NEEDED := $(if $(filter-out clean uninstall,$(GOALS)),python3) $(if $(OF_C),$(CC) $(LD) $(AR) objcopy)
+NEEDED := $(if $(filter-out clean help uninstall,$(GOALS)),python3) $(if $(OF_C),$(CC) $(LD) $(AR) objcopy)
 NEEDED += $(if $(filter deb,$(GOALS)),dpkg-deb strip)
 LACKING := $(foreach it,$(NEEDED),$(if $(shell command -v $(it)),,$(it)))
 LACKING += $(if $(filter python3,$(NEEDED)),$(if $(shell python3 -c 'import concurrent.futures, hashlib; print(1)'),,all-of-python3))
@@ -102,11 +103,19 @@ test-all: build/$(KIND)/btcheck build/memory_tests build/device_tests build/piec
 run: build/btcheck
 	@build/btcheck root README.md
 
-# The kit's compiler builds a program without a proof in a folder of its own, runs it with checks, and removes it.
+# What stands at the top of this file.
+help:
+	@sed -n '/^$$/q; s/^# \{0,1\}//p' Makefile
+
+# The kit's compiler builds a program without a proof in a folder of its own, runs it with checks, and removes it. What it
+# says itself is shown if it fails.
 try:
 	$(need_toolchain)
 	@echo "the program without any proof: some two minutes" >&2
-	@cd crates/btcheck && $(RT) try --data README.md=../../README.md -- root README.md
+	@mkdir -p build
+	@cd crates/btcheck && $(RT) try --data README.md=../../README.md -- root README.md 2>../../build/try.log || \
+	  { cat ../../build/try.log >&2; exit 1; }
+	@echo "it ran, and nothing is proved of it: 'make run' proves it first"
 
 bench: build/btcheck
 	CPU=$(KIND) bench/run
@@ -121,6 +130,7 @@ FOR_FISH = $(BELOW)/share/fish/vendor_completions.d/btcheck.fish"
 DOCUMENTS = $(BELOW)/share/doc/btcheck"
 RELAY = $(BELOW)/share/doc/btcheck/tools/record"
 MANY = $(BELOW)/bin/btcheck-many"
+MANY_MODULES = $(BELOW)/share/btcheck/many"
 MANY_MANUAL = $(BELOW)/share/man/man1/btcheck-many.1"
 MANY_FOR_BASH = $(BELOW)/share/bash-completion/completions/btcheck-many"
 MANY_FOR_ZSH = $(BELOW)/share/zsh/site-functions/_btcheck-many"
@@ -139,6 +149,7 @@ install: $(BUILT)
 	install -D -m 644 completions/_btcheck $(FOR_ZSH)
 	install -D -m 644 completions/btcheck.fish $(FOR_FISH)
 	install -D -m 755 tools/btcheck-many $(MANY)
+	install -D -m 644 -t $(MANY_MODULES) tools/many/*.py
 	install -D -m 644 man/btcheck-many.1 $(MANY_MANUAL)
 	install -D -m 644 completions/btcheck-many.bash $(MANY_FOR_BASH)
 	install -D -m 644 completions/_btcheck-many $(MANY_FOR_ZSH)
@@ -150,7 +161,8 @@ install: $(BUILT)
 uninstall:
 	rm -f $(PROGRAM) $(MANUAL) $(FOR_BASH) $(FOR_ZSH) $(FOR_FISH)
 	rm -f $(MANY) $(MANY_MANUAL) $(MANY_FOR_BASH) $(MANY_FOR_ZSH) $(MANY_FOR_FISH)
-	rm -rf $(DOCUMENTS)
+	rm -rf $(DOCUMENTS) $(MANY_MODULES)
+	-rmdir $(BELOW)/share/btcheck" 2>/dev/null
 
 static: build/static/btcheck
 
@@ -196,4 +208,4 @@ clean:
 
 FORCE:
 
-.PHONY: all check run test test-all try bench install uninstall static both dist deb clean FORCE
+.PHONY: all check help run test test-all try bench install uninstall static both dist deb clean FORCE

@@ -3,13 +3,22 @@
 LIB := build/lib
 ARCHIVE := crates/btcheck_c/out/libbtcheck_c.a
 LIB_VERSION = $(shell sed -n 's/.*VERSION: &str = "\([0-9.]*\).*/\1/p' crates/command_line/src/help.rt)
-WITH_VERSION = sed 's/@VERSION@/$(LIB_VERSION)/'
+
+# Where the libraries are installed below PREFIX: lib, or lib/x86_64-linux-gnu as Debian has it. UP leads back to PREFIX.
+LIBDIR = lib
+UP = $(shell echo $(LIBDIR) | sed 's|[^/]*|..|g')
+FILLED = sed 's/@VERSION@/$(LIB_VERSION)/; s|@UP@|$(UP)|'
+LIBRARIES = $(BELOW)/$(LIBDIR)
+
+# Each call of the header, whose manual page is that of all.
+CALLS = $(shell sed -nE 's/^(static inline )?(btcheck_status|void|uint32_t|const char \*) ?(btcheck_[a-z0-9_]+).*/\3/p' bindings/c/btcheck.h)
 
 # Where the loader of the C library looks first on a processor that has all of x86-64-v3 (ld.so(8), "Hardware
 # capabilities"), below each folder of libraries.
 V3 := glibc-hwcaps/x86-64-v3
 
 lib: $(addprefix $(LIB)/,libbtcheck.a libbtcheck.so.1 $(V3)/libbtcheck.a $(V3)/libbtcheck.so.1)
+	@echo "$(LIB)/libbtcheck.a and $(LIB)/libbtcheck.so.1 are ready: docs/LIBRARY.md says how they are used"
 
 $(ARCHIVE): $(SOURCES)
 	$(need_toolchain)
@@ -47,26 +56,28 @@ install: $(if $(wildcard $(LIB)/libbtcheck.so.1),install-lib)
 
 install-lib:
 	install -D -m 644 -t $(BELOW)/include" bindings/c/btcheck.h bindings/cpp/btcheck.hpp
-	install -D -m 644 -t $(BELOW)/lib" $(LIB)/libbtcheck.a
-	install -D -m 755 -t $(BELOW)/lib" $(LIB)/libbtcheck.so.1
-	install -D -m 644 -t $(BELOW)/lib/$(V3)" $(LIB)/$(V3)/libbtcheck.a
-	install -D -m 755 -t $(BELOW)/lib/$(V3)" $(LIB)/$(V3)/libbtcheck.so.1
-	ln -sf libbtcheck.so.1 $(BELOW)/lib/libbtcheck.so"
-	install -d $(BELOW)/lib/pkgconfig" $(BELOW)/lib/cmake/btcheck"
-	$(WITH_VERSION) bindings/c/btcheck.pc.in > $(BELOW)/lib/pkgconfig/btcheck.pc"
-	$(WITH_VERSION) bindings/c/btcheck-config-version.cmake.in > $(BELOW)/lib/cmake/btcheck/btcheck-config-version.cmake"
-	install -m 644 -t $(BELOW)/lib/cmake/btcheck" bindings/c/btcheck-config.cmake
+	install -D -m 644 -t $(LIBRARIES)" $(LIB)/libbtcheck.a
+	install -D -m 755 -t $(LIBRARIES)" $(LIB)/libbtcheck.so.1
+	install -D -m 644 -t $(LIBRARIES)/$(V3)" $(LIB)/$(V3)/libbtcheck.a
+	install -D -m 755 -t $(LIBRARIES)/$(V3)" $(LIB)/$(V3)/libbtcheck.so.1
+	ln -sf libbtcheck.so.1 $(LIBRARIES)/libbtcheck.so"
+	install -d $(LIBRARIES)/pkgconfig" $(LIBRARIES)/cmake/btcheck"
+	$(FILLED) bindings/c/btcheck.pc.in > $(LIBRARIES)/pkgconfig/btcheck.pc"
+	for file in btcheck-config btcheck-config-version; do \
+		$(FILLED) bindings/c/$$file.cmake.in > $(LIBRARIES)/cmake/btcheck/"$$file.cmake; done
 	install -D -m 644 -t $(BELOW)/share/man/man3" man/libbtcheck.3
+	for call in $(CALLS); do ln -sf libbtcheck.3 $(BELOW)/share/man/man3/"$$call.3; done
 	@test -n "$(DESTDIR)" || echo "run 'ldconfig' as root before a program that is linked with libbtcheck.so.1; below another \
-folder than /usr and /usr/local it needs LD_LIBRARY_PATH=$(PREFIX)/lib"
+folder than /usr and /usr/local it needs LD_LIBRARY_PATH=$(PREFIX)/$(LIBDIR)"
 
 uninstall: uninstall-lib
 
 uninstall-lib:
 	rm -f $(BELOW)/include/btcheck.h" $(BELOW)/include/btcheck.hpp"
-	rm -f $(BELOW)/lib/libbtcheck.a" $(BELOW)/lib/libbtcheck.so.1" $(BELOW)/lib/libbtcheck.so"
-	rm -f $(BELOW)/lib/$(V3)/libbtcheck.a" $(BELOW)/lib/$(V3)/libbtcheck.so.1"
-	rm -f $(BELOW)/lib/pkgconfig/btcheck.pc" $(BELOW)/share/man/man3/libbtcheck.3"
-	rm -rf $(BELOW)/lib/cmake/btcheck"
+	rm -f $(LIBRARIES)/libbtcheck.a" $(LIBRARIES)/libbtcheck.so.1" $(LIBRARIES)/libbtcheck.so"
+	rm -f $(LIBRARIES)/$(V3)/libbtcheck.a" $(LIBRARIES)/$(V3)/libbtcheck.so.1"
+	rm -f $(LIBRARIES)/pkgconfig/btcheck.pc" $(BELOW)/share/man/man3/libbtcheck.3"
+	for call in $(CALLS); do rm -f $(BELOW)/share/man/man3/"$$call.3; done
+	rm -rf $(LIBRARIES)/cmake/btcheck"
 
 .PHONY: lib install-lib uninstall-lib

@@ -1,6 +1,6 @@
 """Many torrents at once, as docs/MANY.md has it: `xargs` with four checks at a time beside one at a time, on folders of
 one file each; the time of the clock counts. Then `btcheck-many archive` once over small torrents, five times as many as
---files says: what each costs beside its digests, on one machine by `xargs`, and a twentieth of them by GNU parallel, as
+--files says: what each costs beside its digests, on one machine, and a twentieth of them by GNU parallel, as
 with more machines."""
 import os
 import shutil
@@ -57,8 +57,8 @@ def archive(folder, count, *options):
                                   f"{folder}/content", f"{folder}/reports"])
     with os.scandir(f"{folder}/reports") as found:
         sizes = [entry.stat().st_size for entry in found if entry.name.endswith(".report")]
-    by = "GNU parallel" if options else "xargs"
-    print(f"btcheck-many archive of {count} small torrents by {by}: {wall:.0f} s on {os.cpu_count()} processors, "
+    by = " by GNU parallel" if options else ""
+    print(f"btcheck-many archive of {count} small torrents{by}: {wall:.0f} s on {os.cpu_count()} processors, "
           f"{1000 * processor / count:.1f} ms of processor time a torrent; reports of {sum(sizes)} bytes")
     return [] if len(sizes) == count else [f"{count - len(sizes)} of {count} small torrents have no report"]
 

@@ -2,6 +2,7 @@
 
 _btcheck_many() {
     local text=${COMP_WORDS[COMP_CWORD]} before=${COMP_WORDS[COMP_CWORD - 1]} options=''
+    local checks='-q --quiet --bad --json --extra --summary'
     COMPREPLY=()
     if [ "$COMP_CWORD" -eq 1 ]; then
         mapfile -t COMPREPLY < <(compgen -W 'check create archive slurm --help --version' -- "$text")
@@ -12,10 +13,13 @@ _btcheck_many() {
         --keep) mapfile -t COMPREPLY < <(compgen -d -- "$text") ;;
         *)
             case ${COMP_WORDS[1]} in
-                check) options='-j --jobs --parts --hosts --keep --help' ;;
-                create) options='-j --jobs --parts --hosts --keep --name --piece-length --hybrid --exclude --help' ;;
-                archive) options='-j --jobs --hosts --help' ;;
-                slurm) options='--parts --keep --submit --help' ;;
+                check) options="-j --jobs --parts --hosts --keep --anew $checks --help" ;;
+                create)
+                    options='-j --jobs --parts --hosts --keep --anew --name --piece-length --file --hybrid --exclude'
+                    options+=' --follow-symlinks --skip-special --no-clobber --help'
+                    ;;
+                archive) options="-j --jobs --hosts --anew $checks --help" ;;
+                slurm) options='--parts --keep --anew --submit --help' ;;
             esac
             case $text in
                 -*) mapfile -t COMPREPLY < <(compgen -W "$options" -- "$text"); return ;;

@@ -9,10 +9,13 @@ _btcheck_command() {
         show) options+=' --long -j --json --reasons' kinds=(torrent) ;;
         check) options+=' -q --quiet --bad --extra --summary --part -j --json --reasons' kinds=(torrent folder) ;;
         join) options+=' -j --json --reasons' kinds=(torrent file) last=more ;;
-        create) options+=' --name --piece-length --hybrid --exclude --no-clobber --part --reasons' kinds=(folder file) ;;
+        create)
+            options+=' --file --name --piece-length --hybrid --exclude --follow-symlinks --skip-special --no-clobber --part --reasons'
+            kinds=(folder file)
+            ;;
         assemble) options+=' --reasons' kinds=(file file) last=more ;;
         convert) options+=' --reasons' kinds=(file file) ;;
-        replay) options+=' --info-only --seed -o --answers --padded --pieces -j --json --reasons' kinds=(torrent file) ;;
+        replay) options+=' --info-only --seed -o --answers --padded --pieces --summary -j --json --reasons' kinds=(torrent file) ;;
         help) options='' kinds=(command) ;;
         *) options='' kinds=() ;;
     esac
@@ -22,7 +25,7 @@ _btcheck_command() {
 _btcheck_value() {
     case $1 in
         --seed) kind=folder ;;
-        -o | --answers) kind=file ;;
+        -o | --answers | --file) kind=file ;;
         --name | --piece-length | --exclude | --part) kind=text ;;
         *) kind='' ;;
     esac

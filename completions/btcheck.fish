@@ -44,7 +44,7 @@ complete -c btcheck -n '__fish_seen_subcommand_from root show check join replay'
 complete -c btcheck -n '__fish_seen_subcommand_from root show check join create assemble convert replay' -l reasons \
     -d 'Print the reasons of the system'
 
-complete -c btcheck -n $none -a create -d 'Make a torrent of all files in a folder'
+complete -c btcheck -n $none -a create -d 'Make a torrent of all files in a folder, or of one file'
 complete -c btcheck -n '__fish_seen_subcommand_from create; and test (__btcheck_arguments) -eq 0' \
     -a '(__fish_complete_directories)'
 complete -c btcheck -n '__fish_seen_subcommand_from create; and test (__btcheck_arguments) -eq 1' -F
@@ -53,6 +53,9 @@ complete -c btcheck -n '__fish_seen_subcommand_from create' -l piece-length -x -
 complete -c btcheck -n '__fish_seen_subcommand_from create' -l hybrid -d 'Make a hybrid'
 complete -c btcheck -n '__fish_seen_subcommand_from create' -l no-clobber -d 'Do not write a file that is there'
 complete -c btcheck -n '__fish_seen_subcommand_from create' -l exclude -x -d 'Leave out what matches'
+complete -c btcheck -n '__fish_seen_subcommand_from create' -l file -r -d 'Make it of this file'
+complete -c btcheck -n '__fish_seen_subcommand_from create' -l follow-symlinks -d 'Take what links lead to'
+complete -c btcheck -n '__fish_seen_subcommand_from create' -l skip-special -d 'Leave out what is neither file nor folder'
 
 complete -c btcheck -n '__fish_seen_subcommand_from create' -l part -x -d 'Hash one part alone, as 1/4'
 
@@ -73,6 +76,7 @@ complete -c btcheck -n '__fish_seen_subcommand_from replay' -s o -l answers -r -
     -d 'Write the answers to hash requests'
 complete -c btcheck -n '__fish_seen_subcommand_from replay' -l padded -d 'Take last blocks with zeros behind them'
 complete -c btcheck -n '__fish_seen_subcommand_from replay' -l pieces -d 'Hold blocks until their piece is whole'
+complete -c btcheck -n '__fish_seen_subcommand_from replay' -l summary -d 'Print how much is verified'
 
 complete -c btcheck -n $none -a help -d 'Print help on a command'
 complete -c btcheck -n "__fish_seen_subcommand_from help; and test (__btcheck_arguments) -eq 0" \

@@ -2,7 +2,7 @@
 held, and the lines of a record. It follows docs/FORMATS.md, and no code of the program."""
 import opening_model
 import record_model
-from session_model import Session
+from session_model import Session, end_pads
 from trees import BLOCK, sha256
 
 BOUND = 1 << 20  # blocks that `replay` holds at most
@@ -154,6 +154,8 @@ class Holding:
             self.forget(key)
             return [["false", blocks[0], blocks[-1]]]
         known.update(claims)
+        if blocks[-1] + 1 == tree["whole"].leaf_count:
+            known.update(end_pads(tree["whole"]))
         self.mark(key[0], held)
         runs = merged([["proved", block, block] for block in sorted(held)])
         self.forget(key)

@@ -61,6 +61,7 @@ def keys():
 def c_library():
     """Prototypes, numbers, constants, and the fields of structs."""
     text = re.sub(r"/\*.*?\*/", "", text_of(HEADER), flags=re.S)
+    text = re.sub(r"const (btcheck_(?:session|holdings|draft) \*)", r"\1", text)  # (what is only read may become const)
     for prototype in re.findall(r"^(?:static inline )?([\w ]+[ *]btcheck_\w+\([^;{]*\))(?: \{|;)", text, re.M):
         yield "call " + " ".join(prototype.split())
     yield from (f"number {name} = {value}" for name, value in re.findall(r"^  (BTCHECK_\w+) = (\d+)", text, re.M))

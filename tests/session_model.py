@@ -2,6 +2,19 @@
 import messages
 from trees import BLOCK, Tree, blocks_of, sha256
 
+RANGE = 512  # the places of a range that a session asks for at most
+
+
+def end_pads(whole):
+    """The pads beside a file's end: on each layer below the root those in one aligned range of 512 places with the node
+    over the last block. They become known with the file's last piece."""
+    pads = {}
+    for level in range(whole.height):
+        last = whole.leaf_count - 1 >> level
+        end = min((last // RANGE + 1) * RANGE, 2 ** (whole.height - level))
+        pads.update({(level, place): whole.layers[level][place] for place in range(last + 1, end)})
+    return pads
+
 
 class Session:
     """What is known of each tree, as a plain map from places; all checks are made on a copy."""
@@ -121,13 +134,13 @@ class Session:
         if (0, block) in tree["known"]:
             return None
         height = tree["whole"].height
-        length = min(512, 2 ** height)
+        length = min(RANGE, 2 ** height)
         return root, 0, block // length * length, length, height - 1
 
     def gaps(self, root):
         """How many aligned ranges of leaves, as long as an ask of `want`, are not all known."""
         tree = self.trees[root]
-        length = min(512, 2 ** tree["whole"].height)
+        length = min(RANGE, 2 ** tree["whole"].height)
         return len({at // length for at in range(tree["whole"].leaf_count) if (0, at) not in tree["known"]})
 
     def seed(self, contents):

@@ -68,6 +68,9 @@ REFUSED = [
     ["convert", "a", "b", "--padded"],
     ["replay", "a", "b", "--pieces", "--pieces"],
     ["replay", "a", "b", "--pieces=yes"],
+    ["replay", "a", "b", "--summary", "--summary"],
+    ["replay", "a", "b", "--summary=yes"],
+    ["convert", "a", "b", "--summary"],
     ["convert", "a", "b", "--pieces"],
     ["replay", "a", "b", "--seed"],
     ["replay", "a", "b", "--seed", "c", "--seed", "d"],
@@ -90,7 +93,15 @@ REFUSED = [
     ["create", "a", "b", "--name", "x", "--piece-length", "16384", "--exclude", "[z-a]"],
     ["create", "a", "b", "--name", "x", "--piece-length", "16384", "--exclude", "a\\"],
     ["create", "a", "b", "--exclude", "x", "--piece-length", "16384"],
+    ["create", "--file", "a", "--name", "x", "--piece-length", "16384"],
+    ["create", "a", "b", "--file", "c", "--name", "x", "--piece-length", "16384"],
+    ["create", "--file", "a", "b", "c", "--name", "x", "--piece-length", "16384"],
+    ["create", "--file", "a", "--file", "b", "c", "--name", "x", "--piece-length", "16384"],
+    ["create", "a", "b", "--name", "x", "--piece-length", "16384", "--follow-symlinks=yes"],
+    ["create", "a", "b", "--name", "x", "--piece-length", "16384", "--skip-special", "--skip-special"],
     ["check", "a", "b", "--exclude", "x"],
+    ["check", "a", "b", "--follow-symlinks"],
+    ["root", "--file", "a"],
     ["convert", "a"],
     ["convert", "a", "b", "c"],
     ["convert", "a", "b", "--hybrid"],
@@ -104,23 +115,35 @@ def test_refused_arguments():
         assert done.stderr.startswith(b"error: "), (arguments, done.stderr)
 
 
-def test_what_is_said_of_a_piece_length_that_is_none():
-    done = run("create", "a", "b", "--name", "x", "--piece-length", "16 KiB")
+def expect_refused_value(done, value, option, command):
+    """The error names the value and the option, and shows how that command is used."""
     expect(done, 2, b"", None)
-    assert done.stderr.startswith(b"error: invalid value for '--piece-length <K>'"), done.stderr
+    text = done.stderr.decode()
+    quoted = value.replace('"', '\\"')
+    assert text.startswith(f"error: invalid value \"{quoted}\" for '{option}': it is not "), (value, text)
+    assert f"\nUsage: btcheck {command} " in text and text.endswith("\n\nFor more information, try '--help'.\n"), (value, text)
+
+
+def test_what_is_said_of_a_piece_length_that_is_none():
+    for text in ["16 KiB", "1q", "", "1T", 'a"b']:
+        for more in ([], ["--part", "1/2"], ["--part", "2/1"]):
+            done = run("create", "a", "b", "--name", "x", "--piece-length", text, *more)
+            expect_refused_value(done, text, "--piece-length <K>", "create")
+    for part in PARTS:
+        done = run("create", "a", "b", "--name", "x", "--piece-length", "1M", f"--part={part}")
+        expect_refused_value(done, part, "--part <I/N>", "create")
 
 
 def test_what_is_said_of_a_part_that_is_refused():
     """What the option has in its place is not opened: neither the torrent nor the folder is there."""
     for part in PARTS:
-        done = run("check", "a", "b", f"--part={part}")
-        expect(done, 2, b"", None)
-        assert done.stderr.startswith(b"error: invalid value for '--part <I/N>'"), (part, done.stderr)
+        expect_refused_value(run("check", "a", "b", f"--part={part}"), part, "--part <I/N>", "check")
     for option in NOT_OF_PARTS:
         for arguments in (["--part", "1/2", option], [option, "--part", "1/2"], [option, "--part", "2/1"]):
             done = run("check", "a", "b", *arguments)
             expect(done, 2, b"", None)
             assert done.stderr.startswith(b"error: the argument '--part <I/N>' cannot be used with"), (arguments, done)
+            assert b"\nUsage: btcheck check " in done.stderr, (arguments, done)
     for part in ("1/1", "+1/+2", "01/02", "18446744073709551615/18446744073709551615"):
         for more in ([], ["--bad"]):
             expect(run("check", "a", "b", "--part", part, *more), 2, b"", "fault: cannot read a\n")

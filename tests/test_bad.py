@@ -13,6 +13,7 @@ from test_parts import instructions
 from test_progress import torrent_of_zeros, zeros
 from torrents import torrent_of
 
+NAMED = re.compile(r"(?:bad [0-9]+|wrong length) (.*)")
 RUN = re.compile(r"bad pieces (\d+) (\d+) bytes (\d+)-(\d+)")
 PIECE = 16384
 
@@ -77,6 +78,15 @@ def without_v1(text):
     return [line for line in text.decode().split("\n")[:-1] if not line.startswith("v1 ")]
 
 
+def owners(lines):
+    """The path of the file that each line is of: a run of bad pieces stands behind the line of its file."""
+    path = None
+    for line in lines:
+        named = NAMED.fullmatch(line)
+        path = named[1] if named else path
+        yield path
+
+
 def expect_bad(torrent, place, contents, states, piece_length):
     """The program prints what the model does, and with --quiet and --json the same."""
     content = laid_out(f"{place}/content", contents, states)
@@ -94,7 +104,9 @@ def expect_bad(torrent, place, contents, states, piece_length):
     said = [json.loads(line) for line in objects.stdout.decode().split("\n")[:-1]]
     wanted = [dict(zip(["first", "last", "from", "to"], map(int, RUN.fullmatch(line).groups())), kind="bad pieces")
               for line in lines if RUN.match(line)]
+    paths = [escaped(one.pop("path")) for one in said if one["kind"] == "bad pieces"]
     assert [one for one in said if one["kind"] == "bad pieces"] == wanted, objects
+    assert paths == [owner for line, owner in zip(lines, owners(lines)) if RUN.match(line)], objects
     assert len(said) == done.stdout.count(b"\n")
     return lines
 

@@ -20,6 +20,10 @@ while [ $# -gt 0 ]; do
     shift
 done
 echo "$name $kind $jobs" >> "$here/calls"
+if [ -n "$kind" ] && [ -e "$here/waits" ]; then
+    sleep 0.5; echo "so far: 0 of 2 functions checked; the verdict comes last"; sleep 0.5; echo "checked $name::main, 1 of 2"; sleep 0.5
+    echo "checked $name::help, 2 of 2"; sleep 0.5
+fi
 if [ "$name" = "$(cat "$here/fails")" ] || [ "$kind" = x86-64-v4 ]; then echo "fn $name: not proved"; exit 1; fi
 if [ -n "$kind" ]; then echo "$kind" > "$to"; else mkdir -p "$to" && { echo "$name"; cat "$here/differs"; } > "$to/format"; fi
 """
@@ -89,6 +93,23 @@ def test_make_says_how_far_it_is():
         assert [call.split()[0] for call in calls] == ["hashtree"] and not os.path.exists(f"{copy.place}/build/btcheck"), calls
 
 
+def test_make_says_how_far_its_last_step_is():
+    """What is read, how many functions are checked, and that the code is made, of the program and of the library."""
+    need("make")
+    with folder() as place:
+        copy = Copy(place)
+        kit = f"{copy.place}/tools/kit.py"
+        write(kit, re.sub(rb"(?m)^TOLD_EVERY = \d+$", b"TOLD_EVERY = 0.1", written(kit)))
+        copy.set("waits", "")
+        write(f"{copy.place}/crates/btcheck_c/src/lib.rt", b"")
+        for goal, name in [("build/x86-64-v2/btcheck", "btcheck"), ("crates/btcheck_c/out/libbtcheck_c.a", "btcheck_c")]:
+            status, told, _ = copy.make(goal)
+            assert status == 0, told
+            steps = re.findall(rf"(?m)^  {name}: (.*); \d+\.\d min so far$", told)
+            assert list(dict.fromkeys(steps)) == ["what it uses is being read", "0 of 2 functions are checked", "1 of 2 functions are checked",
+                                                  "its code is being made"], told
+
+
 def test_make_proves_what_changed():
     """A library is proved again if one of its files changed, and then each that stands on it, and no other."""
     need("make")
@@ -156,3 +177,27 @@ def test_make_says_what_is_missing_first():
             assert status != 0 and not calls and "no-compiler no-linker" in told and "apt install" in told, (goal, told)
         status, told, _ = copy.make("CC=no-compiler", "LD=no-linker")
         assert status == 0 and told.splitlines()[-1].startswith("build/btcheck is ready: try"), told
+
+
+def test_make_help():
+    """It names what can be asked for, and needs nothing."""
+    need("make")
+    with folder() as place:
+        status, told, _ = Copy(place).make("-s", "help", "RT=no-such-command")
+        goals = {goal for text in ("Makefile", "library.mk") for line in re.findall(r"(?m)^\.PHONY: (.*)$", written(f"{TOP}/{text}").decode())
+                 for goal in line.split()}
+        assert status == 0 and told.startswith("make  "), told
+        lacking = [goal for goal in goals - {"FORCE", "all", "install-lib", "uninstall-lib"} if not re.search(rf"(?m)^make {goal} ", told)]
+        assert not lacking, lacking
+
+
+def test_make_try_ends_with_a_plain_line():
+    """What the toolchain says of its run is shown only if that fails."""
+    need("make")
+    with folder() as place:
+        copy = Copy(place)
+        for end, status_of in [("exit 0", 0), ("exit 3", 2)]:
+            copy.set("rt", f"#!/bin/sh\necho ran; echo races >&2; {end}\n")
+            status, told, _ = copy.make("try")
+            assert status == status_of and ("races" in told) == (status != 0) and "ran\n" in told, told
+            assert told.endswith("'make run' proves it first\n") == (status == 0), told

@@ -22,7 +22,7 @@ def quietly(command, **options):
 
 def sizes_in_c():
     """The sizes of the header's structs."""
-    structs = ["btcheck_" + it for it in ("root", "session", "ask", "file", "blocks", "verdict", "check", "holdings", "run", "held", "draft", "draft_file")]
+    structs = ["btcheck_" + it for it in ("root", "session", "ask", "file", "blocks", "verdict", "check", "holdings", "run", "held", "draft", "draft_file", "piece", "piece_range", "taken")]
     with folder() as place:
         said = ", ".join(f"sizeof({it})" for it in structs)
         shown = " ".join("%zu" for _ in structs)

@@ -24,7 +24,7 @@ def test_find_package_where_lib_is_a_link():
         os.makedirs(f"{place}/usr/include")
         os.symlink("usr/lib", f"{place}/lib")
         shutil.copy(f"{TOP}/bindings/c/btcheck.h", f"{place}/usr/include")
-        shutil.copy(f"{TOP}/bindings/c/btcheck-config.cmake", files)
+        write(f"{files}/btcheck-config.cmake", written(f"{TOP}/bindings/c/btcheck-config.cmake.in").replace(b"@UP@", b".."))
         of_version = written(f"{TOP}/bindings/c/btcheck-config-version.cmake.in")
         write(f"{files}/btcheck-config-version.cmake", of_version.replace(b"@VERSION@", b"1.0.0"))
         os.mkdir(f"{place}/first")

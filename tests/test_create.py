@@ -107,7 +107,7 @@ def test_globs():
                 assert written(out) == torrent_of(wanted, "x", 16384, False), glob
             else:
                 expect(done, 1, "refused 13 NoFiles\n")
-                assert written(out) == b"", glob
+                assert not os.path.exists(out) or written(out), glob
         new, several = ["--name", "x", "--piece-length", "16384"], ["--exclude", "*.torrent", "--exclude", "a", "--exclude=b"]
         for _ in range(2):
             expect(run("create", content, f"{content}/x.torrent", *new, *several), 0)
@@ -117,7 +117,7 @@ def test_globs():
         expect(run("create", content, f"{content}/.i", *new, *several), 2, b"", f"fault: cannot write {content}/.i\n")
         assert written(f"{content}/.i") == before
         os.symlink("a", f"{content}/link")
-        expect(run("create", content, out, *new, "--exclude", "link"), 2, b"", "fault: not a file or folder: link\n")
+        expect(run("create", content, out, *new), 2, b"", "fault: not a file or folder: link\n")
         expect(run("create", f"{place}/missing", out, *new, "--exclude", "["), 2, b"", None)
 
 
@@ -331,6 +331,19 @@ def test_no_files():
         write(f"{content}/empty/file", b"")
         for hybrid in (False, True):
             expect_created(content, out, {"empty/file": b""}, "x", 16384, hybrid)
+
+
+def test_a_torrent_of_nothing_leaves_the_old_one():
+    """If everything is left out, OUT is not opened; nor is it made."""
+    with folder() as place:
+        content, out = make_folder(f"{place}/content", {"a": b"abc", "b/c": b""}), write(f"{place}/out", b"before")
+        for more in (["--piece-length", "16384"], ["--piece-length", "16384", "--hybrid"], ["--piece-length", "auto"]):
+            words = ["--name", "x", *more, "--exclude", "*"]
+            expect_untouched(run("create", content, out, *words), out, 1, "refused 13 NoFiles\n")
+            expect(run("create", content, f"{place}/new", *words, "--no-clobber"), 1, "refused 13 NoFiles\n")
+            with open("/dev/full", "wb") as full:
+                expect_untouched(run("create", content, out, *words, stdout=full), out, 2, None, "fault: cannot write -\n")
+        assert not os.path.exists(f"{place}/new")
 
 
 def make_socket(path):

@@ -4,7 +4,7 @@ import os
 import random
 import re
 
-from support import expect, folder, run, write, written
+from support import BTCHECK, expect, folder, run, write, written
 
 ROUNDS = 300
 
@@ -67,6 +67,12 @@ def test_all_parts_assemble_to_the_torrent():
                 for each in done:
                     expect(each, 1, whole.stdout)
                 seen.add("6")
+                continue
+            if "--exclude" in options and whole.stdout.startswith(b"refused 13 "):
+                for each in done:
+                    expect(each, 1, whole.stdout)
+                assert not any(map(os.path.exists, [f"{place}/whole", *paths]))
+                seen.add("left out")
                 continue
             for each in done:
                 expect(each, 0)
@@ -173,9 +179,157 @@ def test_options_of_parts():
         make(f"{place}/files", {"a": b"x"})
         for part in ("0/2", "3/2", "1", "a/b", "1/0", "-1/2", ""):
             done = run("create", f"{place}/files", f"{place}/out", *OPTIONS, f"--part={part}")
-            assert done.returncode == 2 and re.search(rb"invalid value for '--part <I/N>'", done.stderr), (part, done)
+            assert done.returncode == 2 and re.search(rb"""invalid value ".*" for '--part <I/N>'""", done.stderr), (part, done)
             assert not os.path.exists(f"{place}/out")
         write(f"{place}/out", b"kept")
         done = run("create", f"{place}/files", f"{place}/out", *OPTIONS, "--part", "1/1", "--no-clobber")
         assert done.returncode == 2 and written(f"{place}/out") == b"kept", done
         assert run("assemble", f"{place}/out").returncode == 2
+
+
+def number(value):
+    return value.to_bytes(8, "big")
+
+
+def sized(text):
+    return number(len(text)) + text
+
+
+def listing_of(files, name=b"x", pieces=16384, kind=1, count=None):
+    """What a part lists: each of the files is its path's components and its length in bytes."""
+    return (number(pieces) + number(kind) + sized(name) + number(len(files) if count is None else count)
+        + b"".join(number(length) + number(len(path)) + b"".join(map(sized, path)) for path, length in files))
+
+
+def only_part(listing, rows):
+    """The text of part 1 of 1."""
+    return b"btcheck part of a torrent 1\n" + number(1) + number(1) + sized(listing) + rows
+
+
+A = (b"\x01" * 20_000, [b"a"])
+C = (b"\x02" * 100, [b"d", b"c"])
+
+
+def rows_of(place, content, path):
+    """What the only part of a folder with this file alone says of its pieces."""
+    make(f"{place}/files", {b"/".join(path).decode(): content})
+    (made,), _ = parts_of(place, OPTIONS, 1)
+    return written(made)[len(only_part(listing_of([(path, len(content))]), b"")):]
+
+
+def rows_of_both():
+    with folder() as one, folder() as other:
+        return rows_of(one, *A), rows_of(other, *C)
+
+
+def test_a_listing_is_read_to_the_byte():
+    """Texts whose listing is none, though each is as long as it says."""
+    first, second = rows_of_both()
+    a, c = (A[1], len(A[0])), (C[1], len(C[0]))
+    good = listing_of([a, c])
+    listings = {
+        "kind 2": listing_of([a, c], kind=2),
+        "kind 2^63": listing_of([a, c], kind=1 << 63),
+        "a byte behind": good + b"\0",
+        "a file behind": good + listing_of([a])[33:],
+        "a byte less": good[:-1],
+        "a file more": listing_of([a, c], count=3),
+        "a file less": listing_of([a, c], count=1),
+        "2^64 - 1 files": listing_of([a, c], count=(1 << 64) - 1),
+        "a name that is not UTF-8": listing_of([a, c], name=b"\xff"),
+        "half a character": listing_of([a, c], name="\u00fc".encode()[:1]),
+        "a component that is not UTF-8": listing_of([([b"\xc0\x80"], a[1]), c]),
+        "nothing": b"",
+    }
+    with folder() as place:
+        make(f"{place}/files", {"a": A[0], "d/c": C[0]})
+        expect(run("create", f"{place}/files", f"{place}/whole", *OPTIONS), 0)
+        write(f"{place}/part", only_part(good, first + second))
+        expect(run("assemble", f"{place}/made", f"{place}/part"), 0)
+        assert written(f"{place}/made") == written(f"{place}/whole")
+        line = f"fault: no whole part: {place}/part\n".encode()
+        for why, listing in listings.items():
+            write(f"{place}/part", only_part(listing, first + second))
+            refused(place, [f"{place}/part"], line)
+        # A listing in another order is taken, and the torrent is the same.
+        write(f"{place}/part", only_part(listing_of([c, a]), second + first))
+        expect(run("assemble", f"{place}/made", f"{place}/part"), 0)
+        assert written(f"{place}/made") == written(f"{place}/whole")
+
+
+def test_each_digest_is_there():
+    """A text that is cut before, in or behind a digest, or that has one more."""
+    first, second = rows_of_both()
+    rows = first + second
+    widths = [32, 32, 20, 20, 20, 32, 20, 20]
+    assert len(rows) == sum(widths), len(rows)
+    cuts = {at + more for at in (sum(widths[:n]) for n in range(len(widths))) for more in (0, 1, 19)}
+    with folder() as place:
+        listing = listing_of([(A[1], len(A[0])), (C[1], len(C[0]))])
+        line = f"fault: no whole part: {place}/part\n".encode()
+        for told in [*(rows[:cut] for cut in sorted(cuts)), rows + b"\0", rows + rows[:20]]:
+            write(f"{place}/part", only_part(listing, told))
+            refused(place, [f"{place}/part"], line)
+
+
+def test_the_first_fault_is_answered():
+    """By the fronts, text by text: no part, another number of parts, another folder, and only then the same part twice."""
+    with folder() as place:
+        make(f"{place}/files", {"a": b"x" * 40_000})
+        (one, two), _ = parts_of(place, OPTIONS, 2)
+        expect(run("create", f"{place}/files", f"{place}/three", *OPTIONS, "--part", "1/3"), 0)
+        write(f"{place}/files/b", b"")
+        expect(run("create", f"{place}/files", f"{place}/other", *OPTIONS, "--part", "1/2"), 0)
+        write(f"{place}/none", b"")
+        none, three, other = f"{place}/none", f"{place}/three", f"{place}/other"
+        write(f"{place}/short", written(one)[:-1])
+        for paths, line in [
+            ([one, three, none], f"fault: a part of another number of parts: {three}\n"),
+            ([one, none, three], f"fault: no whole part: {none}\n"),
+            ([one, other], "fault: part 1 is of another folder\n"),
+            ([one, one, none], "fault: part 1 is there twice\n"),
+            ([two, f"{place}/short", two], "fault: part 2 is there twice\n"),
+            ([two, f"{place}/short"], f"fault: no whole part: {place}/short\n"),
+        ]:
+            refused(place, paths, line.encode())
+
+
+def test_the_first_fault_behind_the_fronts_is_answered():
+    """Once all parts are there: no listing, by the first part; then the sizes of the texts, in the order of the parts; and
+    only then the files."""
+    def changed(name, *changes):
+        paths = [f"{place}/{name}{number}" for number in (1, 2, 3)]
+        for path, text in zip(paths, texts):
+            for old, new in changes:
+                assert old in text
+                text = text.replace(old, new, 1)
+            write(path, text)
+        return paths
+
+    with folder() as place:
+        make(f"{place}/files", {"a": b"x" * 60_000, "b": b""})
+        paths, _ = parts_of(place, OPTIONS, 3)
+        texts = [written(path) for path in paths]
+        unlisted = changed("unlisted", (number(16384) + number(1), number(16384) + number(2)))
+        clashing = changed("clashing", (sized(b"b"), sized(b"a")))
+        short = [write(f"{place}/short{number}", text[:-1]) for number, text in enumerate(texts, 1)]
+        for given, blamed in [
+            (unlisted[::-1], unlisted[0]),
+            ([short[2], short[1], paths[0]], short[1]),
+            ([short[2], paths[1], paths[0]], short[2]),
+            ([clashing[0], clashing[1], write(f"{place}/odd", written(clashing[2])[:-1])], f"{place}/odd"),
+        ]:
+            refused(place, given, f"fault: no whole part: {blamed}\n".encode())
+        expect(run("assemble", f"{place}/out", *clashing), 1, b"refused 22 PathClash a\n")
+
+
+def test_a_part_without_an_end_is_refused():
+    """The memory that it may take is bounded, whatever stands in front."""
+    with folder() as place:
+        fronts = [b"", b"btcheck part of a torrent 1\n" + number(1) + number(1) + number(1 << 62)]
+        for front in fronts:
+            write(f"{place}/front", front)
+            done = run("sh", "-c", 'cat "$1/front" /dev/zero | "$0" assemble "$1/out" /dev/stdin', BTCHECK, place,
+                program="/usr/bin/env", memory=8 << 20, timeout=120)
+            expect(done, 2, b"", b"fault: no whole part: /dev/stdin\n")
+            assert not os.path.exists(f"{place}/out")

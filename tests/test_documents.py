@@ -1,4 +1,4 @@
-"""What the documents say: the examples of README.md, and the words that DEFINITIONS.md has to explain."""
+"""What the documents say: the examples of README.md, and the definitions to which its rows unfold."""
 import glob
 import os
 import re
@@ -7,6 +7,7 @@ import subprocess
 
 import contracts
 import definitions
+import unfolding
 import promised as promises
 from support import BTCHECK, TOP, folder
 from test_fuzz import CASES
@@ -44,13 +45,15 @@ def test_the_page_on_tests_counts_hostile_input():
 
 
 def test_the_readme_has_figures_of_the_page_on_speed():
-    """Each row of README's table of figures is one of SPEED's, and README too says that processors without instructions for
-    SHA were measured."""
+    """Each row of README's table of figures is one of SPEED's, and so is each size; and README too says that processors
+    without instructions for SHA were measured."""
     readme, speed = (contracts.text_of(TOP, *path) for path in (("README.md",), ("docs", "SPEED.md")))
     table = readme.split("\n## Speed\n")[1].split("\n## ")[0]
     rows = re.findall(r"^\| (?!What).*\d.* \|$", table, re.M)
     assert len(rows) >= 3 and all(f"{row}\n" in speed for row in rows), rows
     assert all(re.search(r"without\s+instructions\s+for\s+SHA", text) for text in (table, speed))
+    sizes, there = ({*re.findall(r"\b[\d.,]+ MiB", " ".join(text.split()))} for text in (table, speed))
+    assert len(sizes) >= 3 and sizes <= there, sizes - there
 
 
 def count_of(pattern, *paths):
@@ -82,53 +85,132 @@ def test_what_is_promised_is_there():
     assert sorted(listed) == sorted(now), ("run tests/promised.py --write", {*now} ^ {*listed})
 
 
-def test_every_cited_definition_is_explained():
-    assert not definitions.missing(), definitions.missing()
-    found = contracts.text_of(definitions.DOCUMENT).split(definitions.MARK)[1]
-    assert found == "".join(definitions.sections()), "run tests/definitions.py --write"
+# To how many definitions each row of README's 'What is proved' unfolds. These numbers may only fall.
+UNFOLDED = {
+    "Torrent::open": 125, "Session::new": 31, "Session::run": 131, "Session::step": 131, "Session::take_piece": 83,
+    "replay": 266, "check": 48, "gather": 89, "Draft::finish": 164, "assemble": 142,
+}
 
 
-def promised(text, count):
-    """The rows of a table of `count` columns, the last of words: the names of the calls, and the labels of their
-    clauses."""
+def test_the_definitions_of_each_row_are_listed():
+    """DEFINITIONS.md has what the rows of README unfold to, and no row unfolds to more than it did."""
+    found = {call: unfolding.sizes(places) for call, places in unfolding.rows()}
+    print(found)
+    assert found.keys() == UNFOLDED.keys()
+    assert all(found[call][0] <= UNFOLDED[call] for call in found), found
+    text = contracts.text_of(definitions.DOCUMENT).split(definitions.MARK)[1]
+    assert text == "".join(definitions.sections()), "run tests/definitions.py --write"
+
+
+def test_the_readme_names_the_crates_that_are_trusted():
+    """README names each crate of the kit that the program and the C library stand on, but for parts of std."""
+    rows = re.findall(r"^(\w+).*?:(.*)$", contracts.text_of(TOP, "crates.txt"), re.M)
+    depends, left, found = {name: below.split() for name, below in rows}, ["btcheck", "btcheck_c"], set()
+    while left:
+        name = left.pop()
+        if name not in found:
+            found.add(name)
+            left += depends.get(name, [])
+    ours = {name for name in found - depends.keys() if not name.startswith("std_")}
+    trusted = contracts.text_of(TOP, "README.md").split("**Trusted**")[1].split("\n## ")[0]
+    assert len(ours) > 5 and not [name for name in ours if f"`{name}`" not in trusted], ours
+
+
+# To how many definitions the contract of each row's client unfolds. These numbers may only fall.
+OF_CLIENTS = {
+    "open_torrent": 127, "start_session": 34, "take_messages": 134, "take_message": 73, "keep_piece": 54, "report_on": 236,
+    "judge_folder": 49, "draft_folder": 80, "write_torrent": 164, "draft_of_parts": 104,
+}
+
+
+def plain(text):
+    """Words alone, on one line."""
+    return " ".join(text.replace("`", "").split())
+
+
+def clients():
+    """The public functions of `uses`: each with its file, what its `///` says, and all of it."""
+    for path in glob.glob(f"{TOP}/crates/uses/src/*.rt"):
+        for comment, body, name in re.findall(r"((?:^///[^\n]*\n)+)^(pub fn (\w+).*?^\}\n)", contracts.text_of(path), re.M | re.S):
+            yield name, os.path.relpath(path, TOP), plain(comment.replace("///", "")), body
+
+
+def test_each_row_has_its_client():
+    """Each row of README's 'What is proved' names a public function of `uses`, which makes its call, says what the row says,
+    and has a contract. PROVED.md names the file of each."""
+    section = contracts.text_of(TOP, "README.md").split("## What is proved")[1].split("\n## ")[0]
+    rows = [[plain(cell) for cell in line.split("|")[1:-1]] for line in section.split("\n") if line.startswith("|") and "`" in line]
+    there, proved = {name: found for name, *found in clients()}, plain(contracts.text_of(TOP, "docs", "PROVED.md"))
+    exported = contracts.exported("uses")[0]
+    assert len(rows) == len(UNFOLDED) and {row[-1] for row in rows} == OF_CLIENTS.keys(), rows
+    for _, call, _, says, client in rows:
+        path, comment, body = there[client]
+        assert says in comment and "ensures" in body, (client, says, comment)
+        assert re.search(rf"\b{call.split('::')[-1]}\(", body) and client in exported, (client, call)
+        assert f"{client} in {path}" in proved, (client, path)
+        assert 0 < len(unfolding.of_client(client)) <= OF_CLIENTS[client], client
+
+
+def promised(text, count, at=0):
+    """The rows of a table of `count` columns: the names of the calls, in the column `at`, and the labels of their clauses,
+    in the next one."""
     calls = []
     for line in text.split("\n"):
         cells = [set(contracts.WORD.findall(" ".join(re.findall(r"`([^`]*)`", cell)))) for cell in line.split("|")[1:-1]]
         if len(cells) == count:
-            calls = cells[-3] or calls
-            yield calls, cells[-2]
+            calls = cells[at] or calls
+            yield calls, cells[at + 1]
 
 
 def test_the_promises_are_those_of_the_contracts():
-    """Each label that PROVED.md or README.md names is one of those calls, and PROVED.md names each public function with
+    """Each label that CLAUSES.md or README.md names is one of those calls, and CLAUSES.md names each public function with
     a contract: as a call, or outside of its tables."""
     labels = {}
     for _, _, name, found in contracts.promises():
         labels.setdefault(name, set()).update(found)
-    proved, readme = contracts.text_of(TOP, "docs", "PROVED.md"), contracts.text_of(TOP, "README.md").split("What is proved")[1]
+    proved, readme = contracts.text_of(TOP, "docs", "CLAUSES.md"), contracts.text_of(TOP, "README.md").split("What is proved")[1]
     places = [line.split("|")[1] if line.startswith("|") else line for line in proved.split("\n")]
     named = set(contracts.WORD.findall(" ".join(name for place in places for name in re.findall(r"`([^`]*)`", place))))
-    wrong = [(calls, label) for calls, found in [*promised(proved, 3), *promised(readme, 4)] for label in found
+    wrong = [(calls, label) for calls, found in [*promised(proved, 3), *promised(readme, 5, 1)] for label in found
              if not any(label in labels.get(call, ()) for call in calls)]
     assert not wrong, wrong
     assert labels.keys() <= named, sorted(labels.keys() - named)
 
 
 def rows_of(crate, text):
-    """The rows of PROVED.md below the headings that name this crate."""
+    """The rows of CLAUSES.md below the headings that name this crate."""
     sections = [section for section in text.split("\n## ") if f"`{crate}`" in section.split("\n")[0]]
     return [row for section in sections for row in promised(section, 3)]
 
 
 def test_every_clause_is_listed():
-    """PROVED.md names each label of each public function's clauses in the section of its crate, if that names
+    """CLAUSES.md names each label of each public function's clauses in the section of its crate, if that names
     labels."""
-    proved, lacking = contracts.text_of(TOP, "docs", "PROVED.md"), []
+    proved, lacking = contracts.text_of(TOP, "docs", "CLAUSES.md"), []
     for crate, _, name, labels in contracts.promises():
         rows = rows_of(crate, proved)
         found = set().union(*(words for calls, words in rows if name in calls))
         lacking += [(crate, name, label) for label in labels if rows and label and label not in found]
     assert not lacking, lacking
+
+
+def test_definitions_stand_as_they_are_copied():
+    """Each box of PROVED.md names a file of definitions, and each of its paragraphs stands there to the letter."""
+    boxes = re.findall(r"```antt\n-- (\S+)\n(.*?)```", contracts.text_of(TOP, "docs", "PROVED.md"), re.S)
+    wrong = [(path, part) for path, box in boxes for part in box.strip("\n").split("\n\n")
+             if f"\n{part}\n" not in contracts.text_of(TOP, "crates", *path.split("/"))]
+    assert len(boxes) >= 12 and not wrong, wrong
+
+
+def test_names_mean_one_thing():
+    """Each name of a variable in the boxes of PROVED.md is of one type."""
+    text, found = contracts.text_of(TOP, "docs", "PROVED.md"), {}
+    for box in re.findall(r"```antt\n(.*?)```", text, re.S):
+        for names, kind in re.findall(r"\(((?:[\w']+ ?)+) : ((?:[^()]|\([^()]*\))*)\)", box):
+            for name in names.replace("'", "").split():
+                found.setdefault(name, set()).add(" ".join(kind.split()))
+    several = {name: kinds for name, kinds in found.items() if len(kinds) > 1}
+    assert len(found) > 5 and not several, several
 
 
 def documents():
@@ -261,7 +343,7 @@ def test_there_is_one_number():
         "bindings/rust/Cargo.toml": f'version = "{dash}"\n',
         "bindings/rust/btcheck/Cargo.toml": f'version = "{dash}" }}\n',
         "bindings/rust/btcheck/tests/examples.rs": f"btcheck::version(), [{', '.join(parts)}]",
-        "bindings/go/README.md": f"require btcheck v{dash}\n",
+        "bindings/go/README.md": f"/btcheck v{dash}\n",
         "bindings/go/btcheck_test.go": f"Version(), [3]byte{{{', '.join(parts)}}}",
         "bindings/python/pyproject.toml": f'version = "{dot}"\n',
         "bindings/python/btcheck/__init__.py": f'__version__ = "{dot}"\n',

@@ -231,6 +231,25 @@ def test_replay():
             assert seen_h7 > 0, flags
 
 
+def test_summary_of_a_replay():
+    """Where there is no memory to count in, that is the fault, behind the report."""
+    record = messages.KEEP_ALIVE + messages.piece(0, 0, TWO[:16384])
+    with shimmed() as (place, shim):
+        path, record_path = write(f"{place}/torrent", torrent_of([("a", TWO), ("five", FIVE)], 32768)), write(f"{place}/record", record)
+        seen = 0
+        for called, done in refused_in_turn(shim, "replay --summary", "replay", path, record_path, "--summary"):
+            if outcome(done) == NO_MEMORY:
+                continue
+            *_, last = done.stdout.decode().splitlines()
+            if done.stderr == NO_MEMORY[2]:
+                assert done.returncode == 2, (called, outcome(done))
+                seen += last == "end"
+            else:
+                assert done.stderr.startswith(b"summary: "), (called, outcome(done))
+            assert last in ("end", "fault NoMemory"), (called, outcome(done))
+        assert seen > 0
+
+
 def test_answers():
     """An answer whose growth is refused does not go out at all, and ends the report behind its line."""
     tree, files = Tree.of(FIVE), [("five", FIVE)]
@@ -326,7 +345,7 @@ def test_create():
             write(f"{place}/folder/{path}", content)
         out = f"{place}/out"
         cannot = {(2, b"", f"fault: cannot read {path}\n".encode()) for path in contents}
-        for flags in ([], ["--hybrid"], ["--exclude", "[a-c]*.tmp"]):
+        for flags in ([], ["--hybrid"], ["--exclude", "[a-c]*.tmp", "--follow-symlinks"]):
             whole = torrent_of_folder(contents, "x", 32768, "--hybrid" in flags)
             arguments = ["create", f"{place}/folder", out, "--name", "x", "--piece-length", "32768", *flags]
             for called, done in refused_in_turn(shim, " ".join(["create", *flags]), *arguments, out=out):

@@ -56,6 +56,16 @@ def facts(command, line):
     return {"kind": kind, **said}
 
 
+def all_facts(command, lines):
+    """What the lines say. A run of bad pieces is of the file that the line before it names."""
+    found, path = [], None
+    for line in lines:
+        said = facts(command, line)
+        path = said.get("path", path)
+        found.append({**said, "path": path} if said["kind"] == "bad pieces" else said)
+    return found
+
+
 def agree(status, command, *arguments):
     """The objects say what the lines say, and the status is the same."""
     lines, objects = run(command, *arguments), run(command, *arguments, "--json")
@@ -64,7 +74,7 @@ def agree(status, command, *arguments):
     text = lines.stdout.decode()
     said = [json.loads(line) for line in objects.stdout.decode().split("\n")[:-1]]
     assert objects.stdout.endswith(b"\n") or not said
-    assert said == [facts(command, line) for line in text.split("\n")[:-1]], (text, objects.stdout)
+    assert said == all_facts(command, text.split("\n")[:-1]), (text, objects.stdout)
     return {one["kind"] for one in said}
 
 

@@ -19,7 +19,7 @@ LIB = f"{TOP}/build/lib"
 V3 = f"{LIB}/glibc-hwcaps/x86-64-v3"
 HEADER = f"{TOP}/bindings/c/btcheck.h"
 SOURCES = f"{TOP}/tests/library"
-PROGRAMS = ["each_call", "handles", "refused_memory", "replay", "threads"]
+PROGRAMS = ["each_call", "frames", "handles", "refused_memory", "replay", "threads"]
 WARNINGS = ["-Wall", "-Wextra", "-pedantic", "-Werror"]
 OF_MEMORY = ["-Wl,--wrap=malloc,--wrap=realloc"]
 
@@ -54,7 +54,7 @@ def compiled(place, name, *flags, compiler="gcc", standard="c99", library=None):
 
 
 def arguments(place):
-    """What each program but `replay` is run on."""
+    """What each program but `replay` and `frames` is run on."""
     torrent = write(f"{place}/t.torrent", TORRENT)
     return {"handles": [torrent], "each_call": ["0", write(f"{place}/content", CONTENT), torrent], "refused_memory": [torrent, write(f"{place}/hashes", ROOT + b"".join(LEAVES))],
             "threads": [torrent, write(f"{place}/content", CONTENT)]}

@@ -5,7 +5,7 @@ import random
 
 from create_model import torrent_of
 from support import expect, folder, write, written
-from test_create import FILES, create, make_folder, random_tree
+from test_create import FILES, GLOBS, TREE, create, make_folder, random_tree
 from test_library_c import CONTENT, SMALL, expected, module, outcome
 from test_python_module import raised
 from trees import BLOCK
@@ -99,7 +99,7 @@ def test_types_of_drafts():
         for call, *given in [(kinds.Draft, 5, BLOCK), (kinds.Draft, "x", "16384"), (kinds.Draft, "x", BLOCK, 1), (kinds.DraftFile, file),
                              (draft.add, draft, "a"), (draft.add, file, 5), (file.push, "a"), (file.push, 5)]:
             assert raised(call, *given) is TypeError, (call, given)
-        assert raised(kinds.Draft, "x", -1) is OverflowError
+        assert issubclass(raised(kinds.Draft, "x", -1), ValueError)
 
 
 def test_a_file_for_several_drafts():
@@ -113,6 +113,31 @@ def test_a_file_for_several_drafts():
         second.add(file, "a")
         assert second.finish() == torrent_of({"a": CONTENT}, "y", BLOCK, True)
     file.close()
+
+
+def test_globs_and_lengths_of_a_folder():
+    """Python's `create` leaves out what the program's --exclude does, and chooses the piece length that `auto` does."""
+    kinds = module()
+    with folder() as place:
+        contents = {path: path.encode() for path in TREE}
+        content = make_folder(f"{place}/content", contents)
+        for glob, left_out in GLOBS.items():
+            wanted = {path: text for path, text in contents.items() if path not in left_out}
+            if wanted:
+                assert kinds.create(content, "x", BLOCK, exclude=[glob]) == torrent_of(wanted, "x", BLOCK, False), glob
+            else:
+                assert raised(kinds.create, content, "x", BLOCK, False, [glob]) is kinds.TorrentNoFiles, glob
+        kept = {path: text for path, text in contents.items() if path[0] not in "ab" or path in ("a.tmp", "b.txt")}
+        assert kinds.create(content, "x", exclude=["*.torrent", "a", "b"]) == torrent_of(kept, "x", BLOCK, False)
+        for glob in ("", "/", "a\\", "[", "[a", "[z-a]", "[a-", "[]", "[!"):
+            assert raised(kinds.create, content, "x", BLOCK, False, ["a", glob]) is ValueError, glob
+        assert raised(kinds.create, content, "x", BLOCK, False, "a") is TypeError and raised(kinds.create, content, "x", "1M") is TypeError
+        for length, piece_length in ((2048 * BLOCK, BLOCK), (2048 * BLOCK + 1, 2 * BLOCK)):
+            with open(f"{place}/long", "wb") as file:
+                file.truncate(length)
+            alone = make_folder(f"{place}/{length}", {})
+            os.rename(f"{place}/long", f"{alone}/long")
+            assert kinds.create(alone, "x", "auto") == kinds.create(alone, "x", piece_length), length
 
 
 def test_folders_that_are_refused():

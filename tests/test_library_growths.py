@@ -140,9 +140,11 @@ def test_fill():
 
 
 def test_whole_pieces():
-    """A piece for which memory was refused leaves the session as it was; one that is known takes none."""
+    """A piece for which memory was refused leaves the session as it was; one that is known takes none. The last pieces of
+    five and of 33 blocks bring pads."""
     with shimmed(memory_tests()) as (place, shim):
-        for name, content, piece_length in [("five blocks", FIVE, 32768), ("64 blocks", LARGE[:1 << 20], 1 << 18)]:
+        for name, content, piece_length in [("five blocks", FIVE, 32768), ("64 blocks", LARGE[:1 << 20], 1 << 18),
+                                            ("33 blocks", LARGE[:(1 << 19) + 5], 1 << 17)]:
             path = write(f"{place}/torrent", torrent_of([("a", content)], piece_length))
             whole = write(f"{place}/content", content)
             for map_name in ("flat", "paged"):
@@ -214,7 +216,7 @@ def test_replays_told_as_objects():
     _, files, piece_length, frames = next(records())
     with shimmed(memory_tests()) as (place, shim):
         path = write(f"{place}/torrent", torrent_of(files, piece_length))
-        for call, record in [("replay_onto", frames), ("replay_pieces_onto", frames[1:3] + frames[:1] + frames[3:])]:
+        for call, record in [("replay_onto", frames), ("replay_pieces", frames[1:3] + frames[:1] + frames[3:])]:
             record_path = write(f"{place}/record", b"".join(record))
             for map_name in ("flat", "paged"):
                 seen.clear()

@@ -9,7 +9,8 @@ from test_library_c import module
 
 SIZES = {"u8": 1, "u32": 4, "u64": 8}
 STRUCTS = {"Asked": "btcheck_ask", "FileInfo": "btcheck_file", "BlocksInfo": "btcheck_blocks", "VerdictInfo": "btcheck_verdict",
-           "RunInfo": "btcheck_run", "HeldInfo": "btcheck_held", "RefusalInfo": "btcheck_refusal", "CursorInfo": "btcheck_cursor"}
+           "RunInfo": "btcheck_run", "HeldInfo": "btcheck_held", "RefusalInfo": "btcheck_refusal", "CursorInfo": "btcheck_cursor",
+           "PieceInfo": "btcheck_piece", "RangeInfo": "btcheck_piece_range", "TakenInfo": "btcheck_taken"}
 
 
 def text_of(path):
@@ -21,7 +22,8 @@ def proved_structs():
     """Each struct of crates/c_layouts: its fields with offset and size as C lays them out, and its own size."""
     found = {}
     for name, path in (("Asked", "asked"), ("FileInfo", "file_info"), ("BlocksInfo", "blocks_info"), ("VerdictInfo", "verdict_info"),
-                       ("RunInfo", "held_info"), ("HeldInfo", "held_info"), ("RefusalInfo", "refusal_info"), ("CursorInfo", "cursor_info")):
+                       ("RunInfo", "held_info"), ("HeldInfo", "held_info"), ("RefusalInfo", "refusal_info"), ("CursorInfo", "cursor_info"),
+                       ("PieceInfo", "piece_info"), ("RangeInfo", "range_info"), ("TakenInfo", "taken_info")):
         text = text_of(f"crates/c_layouts/src/{path}.rt")
         body = re.search(r"#\[repr\(C\)\]\n(?:#.*\n)*pub struct " + name + r" \{\n(.*?)\n\}", text, re.S)[1]
         fields, end, widest = {}, 0, 1
@@ -40,7 +42,7 @@ def proved_numbers():
     """The constants of crates/c_layouts, by the names that the header gives them."""
     numbers = {}
     for path in ("status", "verdict_info", "refusal_info"):
-        for name, number in re.findall(r"^(?:pub )?const (\w+): u32 = (\d+);", text_of(f"crates/c_layouts/src/{path}.rt"), re.M):
+        for name, number in re.findall(r"^(?:pub(?:\(crate\))? )?const (\w+): u32 = (\d+);", text_of(f"crates/c_layouts/src/{path}.rt"), re.M):
             numbers[name] = int(number)
     return numbers
 

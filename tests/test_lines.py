@@ -48,7 +48,7 @@ def table_of_proofs():
     found, table = definitions(), {}
     for body in rows_of("row_of", found):
         texts = reached(body, found)
-        keys = {key for text in texts for key in re.findall(r'\b(?:number|start|over|name|code|text) \(codes "([^"]+)"\)', text)}
+        keys = {key for text in texts for key in re.findall(r'\b(?:number|start|over|name|code|text|unprinted) \(codes "([^"]+)"\)', text)}
         table.setdefault((kind_of(body, found), "frame" in keys), set()).update(keys)
     # Of what is refused only `create` prints a path, and it prints no objects.
     table["refused", False].discard("path")

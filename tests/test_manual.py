@@ -48,7 +48,8 @@ def test_help_is_read():
     """The reading of the help above is not empty."""
     assert {"root", "show", "check", "create", "replay", "convert", "help"} <= set(Helped().commands)
     assert Helped("check").arguments == ["TORRENT", "DIR"]
-    assert Helped("replay").options == {"-h", "--help", "--info-only", "--seed", "-o", "--answers", "--padded", "--pieces", "-j", "--json", "--reasons"}
+    assert Helped("replay").options == {"-h", "--help", "--info-only", "--seed", "-o", "--answers", "--padded", "--pieces", "--summary", "-j", "--json",
+                                         "--reasons"}
 
 
 def flags(text):
@@ -108,7 +109,7 @@ PRINTED = {
                          "TooDeep"],
     "Refused hashes": ["H1 UnknownRoot", "H2 BadRange", "H3 BadCount", "H4 BadPad", "H5 Unanchored", "H6 Mismatch",
                        "H7 NoMemory", "H8 Unasked"],
-    "Refused blocks": ["P1 BadPlace", "P2 BadSize", "P3 Unproved", "P4 BadBlock"],
+    "Refused blocks": ["P1 BadPlace", "P2 BadSize", "P3 Unproved", "P4 BadBlock", "P5 NoMemory"],
 }
 
 # Texts of the definitions that are no line by themselves: a sign for nothing, letters of refusals, an escape.
@@ -163,7 +164,7 @@ def test_the_table_of_lines_is_explained():
 
 
 def texts_of_the_definitions():
-    """The texts of which the definitions put printed lines together."""
+    """The texts of which definitions beside the table of lines put printed lines together."""
     for crate in ["printing", "torrent_lines", "folders", "seeding", "replays", "commands"]:
         for path in glob.glob(f"{TOP}/crates/{crate}/specs/**/*.antt", recursive=True) + glob.glob(f"{TOP}/crates/{crate}/src/*.rt"):
             for text in re.findall(r'codes "((?:[^"\\]|\\.)*)"', text_of(path)):
@@ -175,7 +176,7 @@ def test_no_printed_line_is_forgotten():
     lines."""
     lines = {fixed(line) for lines in PRINTED.values() for line in lines}
     found = set(texts_of_the_definitions()) - NO_LINES
-    assert len(found) >= 40, found
+    assert len(found) >= 25, found
     for text in found:
         assert {text, f"fault {text}", f"fault: {text}"} & lines, text
     refusals = [refusal for refusal in names_of_refusals() if refusal[1] not in NOT_PRINTED]
@@ -366,6 +367,7 @@ INSTALLED = {
     "share/zsh/site-functions/_btcheck": "completions/_btcheck",
     "share/fish/vendor_completions.d/btcheck.fish": "completions/btcheck.fish",
     "bin/btcheck-many": "tools/btcheck-many",
+    **{f"share/btcheck/many/{name}": f"tools/many/{name}" for name in os.listdir(f"{TOP}/tools/many") if name.endswith(".py")},
     "share/man/man1/btcheck-many.1": "man/btcheck-many.1",
     "share/bash-completion/completions/btcheck-many": "completions/btcheck-many.bash",
     "share/zsh/site-functions/_btcheck-many": "completions/_btcheck-many",

@@ -22,7 +22,9 @@ NOT_GOOD = {
     "version 1": ["refused 3 Missing meta version"],
 }
 FAULTS = {"gone": ["fault: cannot read torrents/gone.torrent", "reason: no such file or folder"]}
-REASONS = {"barred": ["reason: content/barred/barred: it is no regular file"]}
+REASONS = {"barred": ["reason: content/barred/barred: it is no regular file"],
+           "short": ["reason: content/short/short: it has 2 bytes, not 3"],
+           "version 1": ["hint: of version 1 alone: only version 2 and hybrids are read"]}
 
 # In the place of ssh: runs the command here, in an environment that has no more than a login needs. The machine `beta`
 # never answers.

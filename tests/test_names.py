@@ -34,7 +34,7 @@ def calls_of_the_header():
 
 def calls_of_cpp():
     text = text_of("bindings/cpp/btcheck.hpp")
-    found = set(re.findall(r"^inline [\w ]+?(\w+)\(", text, re.M)) - OF_CPP
+    found = set(re.findall(r"^inline [\w:]+ (\w+)\(", text, re.M)) - OF_CPP
     for name, body in re.findall(r"^class (\w+)(?: \w+)?[^;{]* \{\npublic:\n(.*?)\n(?:private:|\};)", text, re.M | re.S):
         heads = re.findall(r"^  (?!using|friend|struct|template)(?:explicit )?(?:[\w:<>,&*]+ )*?[&*]?(\w+)\(", body, re.M)
         found |= {f"{name}.{head}" for head in heads if name in CLASSES}

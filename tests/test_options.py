@@ -42,11 +42,11 @@ def test_short_options():
 
 
 # Texts of a piece length, and what they mean.
-LENGTHS = {"16384": 16384, "16K": 16384, "+64K": 65536, "064K": 65536, "1M": MIB, "1024M": GIB, "1048576K": GIB}
-NO_LENGTHS = ["K", "M", "1k", "1m", "1 M", "1MK", "1KM", "1KK", "K1", "1K1", "1.5M", "-1M", "auto ", "Auto", "1G", "", "0x10K",
-              "18014398509481984K", "17592186044416M", "18446744073709551616"]
+LENGTHS = {"16384": 16384, "16K": 16384, "+64K": 65536, "064K": 65536, "1M": MIB, "1024M": GIB, "1048576K": GIB, "1G": GIB, "+01G": GIB}
+NO_LENGTHS = ["K", "M", "1k", "1m", "1 M", "1MK", "1KM", "1KK", "K1", "1K1", "1.5M", "-1M", "auto ", "Auto", "1g", "1 G", "1GK", "", "0x10K",
+              "18014398509481984K", "17592186044416M", "17179869184G", "18446744073709551616"]
 # These are numbers, but no piece lengths: the folder is refused.
-REFUSED = ["0", "0K", "1K", "15K", "2048M", "18014398509481983K", "17592186044415M", "18446744073709551615"]
+REFUSED = ["0", "0K", "1K", "15K", "2048M", "2G", "17179869183G", "18014398509481983K", "17592186044415M", "18446744073709551615"]
 
 
 def test_piece_lengths_in_units():
@@ -61,7 +61,7 @@ def test_piece_lengths_in_units():
         for text in NO_LENGTHS:
             done = run("create", f"{place}/none", f"{place}/out", "--name", "n", f"--piece-length={text}")
             expect(done, 2, b"", None)
-            assert done.stderr.startswith(b"error: invalid value for '--piece-length <K>'"), (text, done.stderr)
+            assert f"error: invalid value \"{text}\" for '--piece-length <K>'".encode() in done.stderr, (text, done.stderr)
         for text in REFUSED:
             expect(run("create", f"{place}/all", f"{place}/out", "--name", "n", "--piece-length", text), 1, "refused 6 PieceLength\n")
         assert not os.path.exists(f"{place}/out")

@@ -170,6 +170,33 @@ class Four(Case):
         return made.returncode == 0
 
 
+def test_the_first_fault_is_answered():
+    """By the first lines, in the order of the reports: no report, another torrent, another number of parts, and only then
+    the same part twice. Then by the parts: one that is missing, or the report of one that is not whole."""
+    with folder() as place:
+        case = Four(place, None)
+        reports = case.parts(4)
+        texts = [open(path, "rb").read() for path in reports]
+        none = write(f"{place}/none", b"")
+        five = write(f"{place}/five", texts[0].replace(b"/4 ", b"/5 "))
+        other = write(f"{place}/other", texts[0].replace(texts[0].split()[2], b"0" * 64))
+        short = [write(f"{place}/short{number}", text[:-1]) for number, text in enumerate(texts, 1)]
+        one, two, three, four = reports
+        for given, line in [
+            ([one, five, none], f"fault: a report of another number of parts: {five}"),
+            ([one, other], f"fault: a part of another torrent: {other}"),
+            ([one, none, five], f"fault: no whole report of a part: {none}"),
+            ([one, one, none], "fault: part 1 is there twice"),
+            ([short[1], short[1]], "fault: part 2 is there twice"),
+            ([three], "fault: part 1 of 4 is missing"),
+            ([four, one], "fault: part 2 of 4 is missing"),
+            ([four, short[0]], f"fault: no whole report of a part: {short[0]}"),
+            ([short[3], short[1], one], f"fault: no whole report of a part: {short[1]}"),
+            ([short[3], two, one], "fault: part 3 of 4 is missing"),
+        ]:
+            expect(joined(case, *given), 2, b"", f"{line}\n")
+
+
 def test_reports_that_are_refused():
     """With one line on standard error, status 2, and nothing on standard output."""
     with folder() as place:

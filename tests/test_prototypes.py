@@ -5,14 +5,15 @@ from test_names import text_of
 
 # A parameter of the header without its name, and what it is in Python's and in Rust's declarations.
 HANDLES = ("root", "session", "check", "holdings", "draft", "draft_file")
-STRUCTS = {"ask": "Asked", "refusal": "RefusalInfo", "cursor": "CursorInfo", "file": "FileInfo", "blocks": "BlocksInfo", "held": "HeldInfo", "run": "RunInfo", "verdict": "VerdictInfo"}
+STRUCTS = {"ask": "Asked", "refusal": "RefusalInfo", "cursor": "CursorInfo", "file": "FileInfo", "piece": "PieceInfo", "piece_range": "RangeInfo", "blocks": "BlocksInfo", "held": "HeldInfo", "run": "RunInfo", "verdict": "VerdictInfo",
+           "taken": "TakenInfo"}
 TYPES = {
     "uint32_t": ("u32", "u32"), "uint64_t": ("u64", "u64"), "size_t": ("size", "usize"), "bool": ("c.c_bool", "bool"),
     "uint64_t *": ("_to_u64", "*mut u64"), "const uint8_t *": ("c.c_char_p", "*const u8"), "uint8_t *": ("c.c_char_p", "*mut u8"),
     "const uint8_t [32]": ("c.c_char_p", "*const [u8; 32]"), "uint8_t [32]": ("c.c_char_p", "*mut [u8; 32]"),
-    "uint8_t [20]": ("c.c_char_p", "*mut [u8; 20]"), "const uint8_t (*)[32]": ("c.c_char_p", "*const [u8; 32]"),
+    "uint8_t [20]": ("c.c_char_p", "*mut [u8; 20]"), "uint8_t [53]": ("c.c_char_p", "*mut [u8; 53]"), "const uint8_t (*)[32]": ("c.c_char_p", "*const [u8; 32]"),
     "uint8_t (*)[32]": ("c.c_char_p", "*mut [u8; 32]"),
-    **{f"btcheck_{name} *": ("_handle", f"*mut btcheck_{name}") for name in HANDLES},
+    **{f"{const}btcheck_{name} *": ("_handle", f"*mut btcheck_{name}") for name in HANDLES for const in ("", "const ")},
     **{f"btcheck_{name} *": (f"c.POINTER({kind})", f"*mut btcheck_{name}") for name, kind in STRUCTS.items()},
     "const btcheck_ask *": ("c.POINTER(Asked)", "*const btcheck_ask"),
 }
@@ -37,15 +38,15 @@ def prototypes():
 
 
 def test_types_of_python():
-    """Each declared call has the header's types behind its handle."""
+    """Each declared call has the header's types behind its handle, or behind the ask that it is on."""
     text = text_of("bindings/python/btcheck/_library.py")
     declared = {name: re.sub(r"\b_to_ask\b", "c.POINTER(Asked)", given).removeprefix(", ")
                 for name, given in re.findall(r'= _call\("(\w+)"(.*)\)$', text, re.M)}
     wanted = {}
     for name, (kind, given) in prototypes().items():
-        assert given[0].removeprefix("btcheck_").removesuffix(" *") in HANDLES, (name, given)
+        of_handle = given[0].removeprefix("const ").removeprefix("btcheck_").removesuffix(" *") in HANDLES
         types = [TYPES[one][0] for one in given[1:]]
-        wanted[name] = ", ".join(types + (["result=None"] if kind == "void" else []))
+        wanted[name] = ", ".join(types + (["result=None"] if kind == "void" else []) + ([] if of_handle else ["on=" + TYPES[given[0]][0]]))
     assert declared == wanted, [(name, declared.get(name), wanted.get(name)) for name in declared.keys() | wanted
                                 if declared.get(name) != wanted.get(name)]
 
@@ -64,7 +65,8 @@ def test_types_of_rust():
 FIELDS = {
     "bool": ("bool", "c.c_bool"), "void *": ("*mut c_void", "c.c_void_p"), "uint64_t": ("u64", "c.c_uint64"), "uint32_t": ("u32", "c.c_uint32"),
     "uint8_t [32]": ("[u8; 32]", "c.c_ubyte * 32"), "btcheck_status [17]": ("[btcheck_status; BTCHECK_MOST_BLOCKS]", "c.c_uint32 * 17"),
-    "btcheck_blocks": ("btcheck_blocks", "BlocksInfo"), "btcheck_run [17]": ("[btcheck_run; BTCHECK_MOST_BLOCKS]", "RunInfo * 17"),
+    "btcheck_blocks": ("btcheck_blocks", "BlocksInfo"), "btcheck_verdict": ("btcheck_verdict", "VerdictInfo"), "btcheck_ask": ("btcheck_ask", "Asked"),
+    "btcheck_run [17]": ("[btcheck_run; BTCHECK_MOST_BLOCKS]", "RunInfo * 17"),
 }
 
 

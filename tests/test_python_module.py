@@ -1,5 +1,8 @@
 """The Python module over the C library: what it takes and refuses, what it says, and what it exports."""
+import os
 import pickle
+import subprocess
+import sys
 from random import Random
 
 from support import TOP
@@ -29,17 +32,49 @@ def test_wrong_types_are_refused():
                  (session.take_block, "0", 0, b""), (session.take_block, None, 0, b""), (session.take_blocks, 0, 0, [1, 2]),
                  (session.take_piece, 0, None), (session.frame, "7"), (session.take_hashes, ask, ROOT),
                  (session.take_hashes, ask, [1]), (session.take_hashes, 5, []), (session.note, None), (session.want, 0, 1.5),
-                 (session.file, "a"), (root.push, 5), (root.push, "abc"), (check.push, [0]), (kinds.Check, TORRENT, 0),
+                 (session.file, "a"), (session.piece, "a"), (session.map_file, 0, None, 1), (kinds.request_frame, 5), (kinds.reject_frame, None), (session.answer_frame, None), (root.push, 5), (root.push, "abc"), (check.push, [0]), (kinds.Check, TORRENT, 0),
                  (kinds.Check, session, 0, (0, 1)), (kinds.Check, session, 0, range(0, 3, 2)), (kinds.Pieces, None, 0, 0, 1)]
         for call, *given in wrong:
             assert raised(call, *given) is TypeError, (call, given, raised(call, *given))
-        odd = [(session.take_block, -1, 0, b"", OverflowError), (session.take_block, 1 << 32, 0, b"", OverflowError),
-               (session.file, 1 << 64, OverflowError), (session.take_hashes, ask, [b"short"], ValueError),
+        odd = [(session.take_hashes, ask, [b"short"], ValueError),
                (session.take_hashes, (ROOT, 0, 0, 8), [], ValueError), (session.note, (b"", 0, 0, 8, 0), ValueError)]
         for call, *given, kind in odd:
             assert raised(call, *given) is kind, (call, given, raised(call, *given))
+        for name, call, *given in (("index", session.take_block, -1, 0, b""), ("index", session.take_block, 1 << 32, 0, b""),
+                                   ("begin", session.hold, kinds.Holdings(session, 1), 0, 1 << 32, b""), ("file", session.file, 1 << 64),
+                                   ("block", session.want, 0, -1), ("index", session.piece, 1 << 32), ("offset", session.map_file, 0, -1, 1), ("length", kinds.request_frame, (ROOT, 0, 0, -1, 0)),
+                                   ("layer", session.fill, 0, -1, []), ("piece_length", kinds.Draft, "x", -1),
+                                   ("length", session.note, (ROOT, 0, 0, 1 << 32, 0)), ("pieces.stop", kinds.Check, session, 0, range(0, 1 << 64))):
+            try:
+                call(*given)
+            except ValueError as error:
+                assert str(error).startswith(name + " is from 0 to 2**") and isinstance(error, OverflowError), error
+            else:
+                raise AssertionError((name, given))
         assert session.counts(0) == (1, 0)
         assert raised(root.finish) is kinds.NoRoot and raised(check.finish) is kinds.TooShort
+
+
+def test_a_root_of_bytes():
+    """One form in all languages: length and root. And a reject, which is none of the refusals that a client has to catch."""
+    kinds = module()
+    assert kinds.Root.of(SMALL) == (len(SMALL), root_of(SMALL)) and raised(kinds.Root.of, b"") is kinds.NoRoot
+    with kinds.Session(TORRENT, layers=False) as session:
+        ask = kinds.Ask(ROOT, 0, 0, 8, 0)
+        assert session.answer_or_none(ask) is None and raised(session.answer, ask) is kinds.Nothing
+        session.take_hashes(ask, LEAVES)
+        assert session.answer_or_none(ask) == session.answer(ask) == LEAVES
+        blocks = session.take_blocks(0, 0, BLOCKS[0] + BLOCKS[0])
+        assert blocks.statuses is blocks.outcomes and [it and type(it) for it in blocks.statuses] == [None, kinds.P4BadBlock]
+        assert session.info_hash_v1() == (session.info_hashes()[1] if session.is_hybrid() else None)
+
+
+def test_the_library_is_missing():
+    """What is said then names the file, the variable and what to install."""
+    env = {**os.environ, "PYTHONPATH": f"{TOP}/bindings/python", "LIBBTCHECK": "/nowhere/libbtcheck.so.1"}
+    done = subprocess.run([sys.executable, "-c", "import btcheck"], capture_output=True, text=True, env=env)
+    assert done.returncode == 1, done
+    assert all(word in done.stderr for word in ("OSError", "/nowhere/libbtcheck.so.1", "LIBBTCHECK", "libbtcheck1")), done.stderr
 
 
 def test_bytes_of_each_kind_are_taken():

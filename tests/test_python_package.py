@@ -34,6 +34,9 @@ def test_a_wheel_has_all_of_the_module():
         listed = [line.split(",")[0] for line in record.decode().splitlines()]
         assert listed == list(packed), listed
         module = {name for name in os.listdir(f"{TOP}/bindings/python/btcheck") if not name.startswith("__pycache__")}
+        if os.path.exists(f"{TOP}/build/lib/libbtcheck.so.1"):
+            module.add("libbtcheck.so.1")
+            assert packed["btcheck/libbtcheck.so.1"] == content_of(f"{TOP}/build/lib/libbtcheck.so.1")
         assert {name for name in packed if name.startswith("btcheck/")} == {f"btcheck/{name}" for name in module}
 
 

@@ -5,8 +5,10 @@ import shutil
 import subprocess
 import sys
 
+import messages
 from support import INCLUDES, TOP, LeftOut, folder, need, run, write
 from test_library_c import LIB, WARNINGS, made
+from trees import Tree
 
 sys.path.append(f"{TOP}/tools")
 
@@ -29,9 +31,14 @@ int main(void) {
 """
 
 
-def code(language):
-    with open(f"{TOP}/README.md", encoding="utf-8") as file:
-        [found] = re.findall(rf"^```{language}\n(.*?)^```$", file.read(), re.M | re.S)
+def blocks(page, language):
+    with open(f"{TOP}/{page}", encoding="utf-8") as file:
+        return re.findall(rf"^```{language}\n(.*?)^```$", file.read(), re.M | re.S)
+
+
+def is_piece_in(language):
+    """The function `is_piece` of LIBRARY, which has it in C and in Rattle."""
+    [found] = [it for it in blocks("docs/LIBRARY.md", language) if re.search(r"\bis_piece\(", it)]
     return found
 
 
@@ -67,7 +74,7 @@ def test_the_code_in_rattle():
         if not os.path.exists(f"{kit.rlib(library)}/format"):
             raise LeftOut(f"{library} is not proved here: make proves it")
     with folder() as place:
-        program, text = f"{place}/piece", code("rust").replace("use metainfo::Torrent;", "use opening::Torrent;")
+        program, text = f"{place}/piece", is_piece_in("rust").replace("use metainfo::Torrent;", "use opening::Torrent;")
         source = write(f"{place}/main.rt", ("#![tactic(auto)]\n\n" + text + MAIN_IN_RATTLE).encode())
         built = ["--jobs", "1", "--toolchain", f"{kit.KIT}/toolchain", "--cpu=x86-64-v2", "-o", f"{program}.o"]
         for words in (kit.command_over("piece", uses, source, *built), kit.linking(program)):
@@ -81,16 +88,11 @@ def test_the_code_in_c():
     need("gcc")
     made()
     with folder() as place:
-        source = write(f"{place}/piece.c", (code("c") + MAIN).encode())
+        source = write(f"{place}/piece.c", (is_piece_in("c") + MAIN).encode())
         subprocess.run(["gcc", "-std=c99", *WARNINGS, *INCLUDES, source, f"{LIB}/libbtcheck.a", "-o", f"{place}/piece"],
                        check=True)
         done = run(program=f"{place}/piece", cwd=f"{TOP}/examples")
         assert (done.returncode, done.stdout) == (0, b"1 0 0\n"), done
-
-
-def blocks(page, language):
-    with open(f"{TOP}/{page}", encoding="utf-8") as file:
-        return re.findall(rf"^```{language}\n(.*?)^```$", file.read(), re.M | re.S)
 
 
 def test_the_first_program_of_library():
@@ -109,6 +111,42 @@ def test_the_first_program_of_library():
             shutil.copy(f"{TOP}/examples/{torrent}", f"{place}/a.torrent")
             done = run(program=f"{place}/first", cwd=place, input=block)
             assert (done.returncode, done.stdout) == (status, said), (torrent, block, done)
+
+
+MAIN_OF_FRAMES = r"""
+int main(void) {
+  static uint8_t torrent[4096], content[40000];
+  btcheck_session session = BTCHECK_INIT;
+  btcheck_ask wanted;
+  uint64_t file, block;
+  FILE *in = fopen("pair.torrent", "rb"), *of_a = fopen("pair/a", "rb");
+  size_t len = fread(torrent, 1, sizeof torrent, in), size = fread(content, 1, sizeof content, of_a);
+  if (btcheck_session_open(&session, torrent, len, true) != BTCHECK_OK) return 1;
+  if (btcheck_session_want(&session, 0, 1, &wanted) != BTCHECK_OK) return 1;
+  if (!ask(&session, 0, 1, stdout) || !reply(&session, &wanted, stdout)) return 1;
+  if (btcheck_session_take_piece(&session, 0, content, size, &file, &block) != BTCHECK_OK) return 1;
+  if (ask(&session, 0, 1, stdout) || !reply(&session, &wanted, stdout) || !bitfield(&session, stdout)) return 1;
+  return where(&session, 0, 16384), where(&session, 0, 16385), 0;
+}
+"""
+
+
+def test_the_frames_and_places_of_library():
+    """What LIBRARY says of frames, places and the bitfield: run on the torrent of the examples, the bytes are a request, a
+    reject, hashes and a bitfield."""
+    need("gcc")
+    made()
+    found = [it for it in blocks("docs/LIBRARY.md", "c") if "int reply(" in it or "void where(" in it]
+    with folder() as place:
+        source = write(f"{place}/frames.c", ("#include <btcheck.h>\n#include <stdio.h>\n" + "".join(found) + MAIN_OF_FRAMES).encode())
+        subprocess.run(["gcc", "-std=c99", *WARNINGS, *INCLUDES, source, f"{LIB}/libbtcheck.a", "-o", f"{place}/frames"], check=True)
+        done = run(program=f"{place}/frames", cwd=f"{TOP}/examples")
+    with open(f"{TOP}/examples/pair/a", "rb") as file:
+        tree = Tree.of(file.read())
+    asked = (tree.layers[-1][0], 0, 0, 2, 0)
+    wanted = [messages.request(*asked), messages.reject(*asked), messages.hashes(*asked, given=tree.layers[0]), messages.frame(b"\5\x80"),
+              b"piece 0 of 16385 bytes from byte 16384 on; 2 of 2 blocks\n"]
+    assert (done.returncode, done.stdout) == (0, b"".join(wanted)), done
 
 
 def test_the_code_in_cpp():
@@ -133,6 +171,7 @@ int main() {
 
 def test_the_code_in_python():
     made()
+    [code] = blocks("README.md", "python")
     env = {**os.environ, "PYTHONPATH": f"{TOP}/bindings/python", "LIBBTCHECK": f"{LIB}/libbtcheck.so.1"}
-    done = subprocess.run([sys.executable, "-c", code("python")], cwd=f"{TOP}/examples", env=env, stdout=subprocess.PIPE, text=True)
+    done = subprocess.run([sys.executable, "-c", code], cwd=f"{TOP}/examples", env=env, stdout=subprocess.PIPE, text=True)
     assert (done.returncode, done.stdout) == (0, "True\n"), done

@@ -174,8 +174,8 @@ def test_deep_folders_that_are_gathered():
 
 
 def test_no_room_for_many_at_once():
-    """What is kept of a file takes room for that alone: a body that asked for much more at once would be out of memory. No
-    clause speaks of the room of a draft."""
+    """What is kept of a file takes room for that alone: a body that asked for much more at once would be out of memory. Clauses
+    bound the room of single lists; none speaks of the memory of a whole run."""
     with folder() as place:
         os.mkdir(f"{place}/all")
         for number in range(COUNTS[1]):

@@ -1,17 +1,20 @@
-"""The small clients of tests/clients, one for each language: each loads a torrent from two peers, one of them a liar, block by
-block in random order. It verifies every block and refuses each lie."""
+"""The small clients of tests/clients, two for each language. One loads a torrent from two peers, one of them a liar, block by
+block in random order. It verifies every block and refuses each lie. The other one serves the hashes of files that it has, or
+learns all leaves from one that does: Python talks with each of the other languages, both ways."""
 import os
 import random
 import shutil
 import socket
 import struct
+import subprocess
 import sys
 import threading
 
+from session_model import RANGE
 from support import INCLUDES, TOP, folder, need, run, write, written
 from test_clients import quietly
 from test_library_c import LIB, WARNINGS, made
-from torrents import file, info, torrent
+from torrents import file, info, torrent, torrent_of
 from trees import BLOCK, Tree, layer, root_of
 
 SOURCES = f"{TOP}/tests/clients"
@@ -96,53 +99,131 @@ def paths():
     return {**os.environ, "LD_LIBRARY_PATH": LIB, "PYTHONPATH": f"{TOP}/bindings/python", "LIBBTCHECK": f"{LIB}/libbtcheck.so.1"}
 
 
-def test_client_in_c():
+# ---- a program of each language
+
+
+def paths():
+    return {**os.environ, "LD_LIBRARY_PATH": LIB, "PYTHONPATH": f"{TOP}/bindings/python", "LIBBTCHECK": f"{LIB}/libbtcheck.so.1"}
+
+
+def in_c(place, name):
     need("gcc")
     made()
-    with folder() as place:
-        quietly(["gcc", "-std=gnu99", "-O1", *WARNINGS, "-fsanitize=address,undefined", *INCLUDES, f"{SOURCES}/client.c",
-                 f"{LIB}/libbtcheck.a", "-o", f"{place}/client"])
-        each_seed(f"{place}/client")
+    quietly(["gcc", "-std=gnu99", "-O1", *WARNINGS, "-fsanitize=address,undefined", *INCLUDES, f"{SOURCES}/{name}.c",
+             f"{LIB}/libbtcheck.a", "-o", f"{place}/{name}"])
+    return [f"{place}/{name}"], paths()
 
 
-def test_client_in_cpp():
+def in_cpp(place, name):
     need("g++")
     made()
-    with folder() as place:
-        quietly(["g++", "-std=c++17", "-O1", *WARNINGS, "-fsanitize=address,undefined", *INCLUDES, f"{SOURCES}/client.cpp",
-                 f"{LIB}/libbtcheck.a", "-o", f"{place}/client"])
-        each_seed(f"{place}/client")
+    quietly(["g++", "-std=c++17", "-O1", *WARNINGS, "-fsanitize=address,undefined", *INCLUDES, f"{SOURCES}/{name}.cpp",
+             f"{LIB}/libbtcheck.a", "-o", f"{place}/{name}"])
+    return [f"{place}/{name}"], paths()
 
 
-def test_client_in_python():
+def in_python(_, name):
     made()
-    each_seed(sys.executable, f"{SOURCES}/client.py", env=paths())
+    return [sys.executable, f"{SOURCES}/{name}.py"], paths()
 
 
-def test_rust_client():
+def in_rust(place, name):
     """Over the crate, by its path."""
     need("cargo", "gcc")
     made()
-    with folder() as place:
-        os.makedirs(f"{place}/src")
-        shutil.copy(f"{SOURCES}/client.rs", f"{place}/src/main.rs")
-        write(f"{place}/Cargo.toml", f'[package]\nname = "client"\nversion = "0.0.0"\nedition = "2021"\n'
-              f'[dependencies]\nbtcheck = {{ path = "{TOP}/bindings/rust/btcheck" }}\n'.encode())
-        env = {**paths(), "BTCHECK_LIB_DIR": LIB, "CARGO_TARGET_DIR": f"{TOP}/build/rust", "RUSTFLAGS": "-D warnings"}
-        quietly(["cargo", "build", "--offline", "--quiet"], cwd=place, env=env)
-        each_seed(f"{TOP}/build/rust/debug/client", env=env)
+    os.makedirs(f"{place}/src")
+    shutil.copy(f"{SOURCES}/{name}.rs", f"{place}/src/main.rs")
+    write(f"{place}/Cargo.toml", f'[package]\nname = "{name}"\nversion = "0.0.0"\nedition = "2021"\n'
+          f'[dependencies]\nbtcheck = {{ path = "{TOP}/bindings/rust/btcheck" }}\n'.encode())
+    env = {**paths(), "BTCHECK_LIB_DIR": LIB, "CARGO_TARGET_DIR": f"{TOP}/build/rust", "RUSTFLAGS": "-D warnings"}
+    quietly(["cargo", "build", "--offline", "--quiet"], cwd=place, env=env)
+    return [f"{TOP}/build/rust/debug/{name}"], env
 
 
-def test_go_client():
+def in_go(place, name):
     """Over the package, by a `replace` line as bindings/go/README.md has it."""
     need("go", "gcc", "pkg-config", "make")
     made()
+    quietly(["make", "-s", "install-lib", f"DESTDIR={place}", "PREFIX=/usr"], cwd=TOP)
+    os.makedirs(f"{place}/{name}")
+    shutil.copy(f"{SOURCES}/{name}.go", f"{place}/{name}/main.go")
+    write(f"{place}/{name}/go.mod", f"module {name}\n\ngo 1.19\n\nrequire tanagernail.example/btcheck v0.0.0\nreplace tanagernail.example/btcheck => {TOP}/bindings/go\n".encode())
+    env = {**paths(), "PKG_CONFIG_PATH": f"{place}/usr/lib/pkgconfig", "GOCACHE": f"{place}/go", "GOPROXY": "off", "CGO_ENABLED": "1"}
+    quietly(["go", "build", "-o", f"{place}/run"], cwd=f"{place}/{name}", env=env)
+    return [f"{place}/run"], env
+
+
+def loads_in(language):
     with folder() as place:
-        quietly(["make", "-s", "install-lib", f"DESTDIR={place}", "PREFIX=/usr"], cwd=TOP)
-        os.makedirs(f"{place}/client")
-        shutil.copy(f"{SOURCES}/client.go", f"{place}/client/main.go")
-        write(f"{place}/client/go.mod", f"module client\n\ngo 1.19\n\nrequire btcheck v0.0.0\nreplace btcheck => {TOP}/bindings/go\n".encode())
-        env = {**os.environ, "PKG_CONFIG_PATH": f"{place}/usr/lib/pkgconfig", "LD_LIBRARY_PATH": f"{place}/usr/lib",
-               "GOCACHE": f"{place}/go", "GOPROXY": "off", "CGO_ENABLED": "1"}
-        quietly(["go", "build", "-o", f"{place}/run"], cwd=f"{place}/client", env=env)
-        each_seed(f"{place}/run", env=env)
+        (program, *words), env = language(place, "client")
+        each_seed(program, *words, env=env)
+
+
+def test_client_in_c():
+    loads_in(in_c)
+
+
+def test_client_in_cpp():
+    loads_in(in_cpp)
+
+
+def test_client_in_python():
+    loads_in(in_python)
+
+
+def test_rust_client():
+    loads_in(in_rust)
+
+
+def test_go_client():
+    loads_in(in_go)
+
+
+# ---- hashes of files that a client has
+
+# The sizes of the files of a torrent, in blocks, and its piece length: ends of files in, at and behind a range of 512.
+WORLDS = [((1, 2, 3), 2 * BLOCK), ((5, 33), BLOCK), ((65, 9), 4 * BLOCK), ((513,), 4 * BLOCK), ((700, 100), 64 * BLOCK)]
+
+
+def exchanged(server, learner, env):
+    """The server takes all pieces, whole or block by block, and the learner asks it for each leaf: once for each range of a
+    file of more than one block."""
+    with folder() as place:
+        for sizes, piece_length in WORLDS:
+            files = [(f"f{at}", random.Random(size).randbytes((size - 1) * BLOCK + 5)) for at, size in enumerate(sizes)]
+            path = write(f"{place}/torrent", torrent_of(files, piece_length))
+            content = write(f"{place}/content", b"".join(content for _, content in files))
+            asked = sum(-(-size // RANGE) for size in sizes if size > 1)
+            for way in ("pieces", "blocks"):
+                serving = subprocess.Popen([*server, "serve", path, content, way], stdin=subprocess.PIPE, stdout=subprocess.PIPE, env=env)
+                learning = subprocess.Popen([*learner, "learn", path], stdin=serving.stdout, stdout=serving.stdin,
+                                            stderr=subprocess.PIPE, env=env)
+                serving.stdin.close()
+                serving.stdout.close()
+                _, said = learning.communicate(timeout=120)
+                assert (learning.returncode, said.decode()) == (0, f"asked {asked}\n"), (sizes, way, said)
+                assert serving.wait(timeout=120) == 0, (sizes, way)
+
+
+def exchanges_with(language):
+    with folder() as place:
+        program, env = language(place, "exchange")
+        python, _ = in_python(place, "exchange")
+        exchanged(program, python, env)
+        exchanged(python, program, env)
+
+
+def test_exchange_with_c():
+    exchanges_with(in_c)
+
+
+def test_exchange_with_cpp():
+    exchanges_with(in_cpp)
+
+
+def test_exchange_with_rust():
+    exchanges_with(in_rust)
+
+
+def test_exchange_with_go():
+    exchanges_with(in_go)

@@ -211,19 +211,31 @@ def test_dist():
         assert objects | {"./include/btcheck.h", "./lib/pkgconfig/btcheck.pc"} < listed, listed
         for env in ({}, LESSER):
             expect(run("root", "/dev/null", program=f"{below}/bin/btcheck", env=env), 0, "0 -\n")
-        subprocess.run([f"{below}/share/doc/btcheck/tools/record", "--help"], stdout=subprocess.DEVNULL, check=True)
+        for tool in ("share/doc/btcheck/tools/record", "bin/btcheck-many"):
+            subprocess.run([f"{below}/{tool}", "--help"], stdout=subprocess.DEVNULL, check=True)
     make("dist")
     assert written(archive) == first
 
 
+# What a package's folder of its own says is installed there already: all that any of them may depend on to be put in place.
+THERE = b"""Package: python3
+Status: install ok installed
+Architecture: amd64
+Maintainer: nobody <nobody@example.org>
+Version: 3.11
+Description: Python
+
+"""
+
+
 def installed(package, place):
-    """Installs a Debian package in a folder of its own; without the rights for that it is only unpacked there."""
+    """Installs a Debian package in a folder of its own, beside Python; without the rights for that it is only unpacked there."""
     if os.getuid():
         subprocess.run(["dpkg-deb", "-x", package, place], check=True)
         return
     for kind in ("updates", "info"):
         os.makedirs(f"{place}/var/lib/dpkg/{kind}")
-    write(f"{place}/var/lib/dpkg/status", b"")
+    write(f"{place}/var/lib/dpkg/status", THERE)
     subprocess.run(["dpkg", f"--root={place}", "--log=/dev/null", "-i", package], check=True, stdout=subprocess.DEVNULL)
 
 
@@ -255,7 +267,8 @@ def see_program(place):
     there, below = files_of("btcheck", place), f"{place}/btcheck/usr"
     for env in ({}, LESSER):
         expect(run("root", "/dev/null", program=f"{below}/bin/btcheck", env=env), 0, "0 -\n")
-    subprocess.run([f"{below}/share/btcheck/record", "--help"], stdout=subprocess.DEVNULL, check=True)
+    for tool in ("share/btcheck/record", "bin/btcheck-many"):
+        subprocess.run([f"{below}/{tool}", "--help"], stdout=subprocess.DEVNULL, check=True)
     documents = {f"/usr/share/doc/btcheck/{file}" for file in
                  ("README.md", "copyright", "changelog.gz", "changelog.Debian.gz", "docs/RECORDING.md", "examples/pair.torrent")}
     assert documents | {"/usr/bin/btcheck-many", "/usr/share/man/man1/btcheck-many.1.gz",
@@ -270,7 +283,7 @@ def see_library(place):
     """A client is built with the one package and run with the other."""
     for package in ("libbtcheck1", "libbtcheck-dev"):
         subprocess.run(["dpkg-deb", "-x", path_of(package), f"{place}/library"], check=True)
-    below = f"{place}/library/usr"
+    below, there = f"{place}/library/usr", f"{place}/library/usr/lib/x86_64-linux-gnu"
     packed = f"{below}/share/doc/libbtcheck-dev"
     for name in ("examples/keep/keeper.cpp", "bindings/go/btcheck.go", "bindings/rust/btcheck/src/lib.rs", "bindings/rust/btcheck-sys/build.rs",
                  "bindings/python/backend/wheels.py", "bindings/python/btcheck/__init__.py"):
@@ -279,7 +292,7 @@ def see_library(place):
     write(f"{place}/client.c", b"""#include <btcheck.h>
         int main(void) { btcheck_root root = BTCHECK_INIT; btcheck_status status = btcheck_root_new(&root);
                          btcheck_root_free(&root); return status != BTCHECK_OK; }""")
-    paths = {**os.environ, "PKG_CONFIG_PATH": f"{below}/lib/pkgconfig", "LD_LIBRARY_PATH": f"{below}/lib"}
+    paths = {**os.environ, "PKG_CONFIG_PATH": f"{there}/pkgconfig", "LD_LIBRARY_PATH": there}
     flags = subprocess.run(["pkg-config", "--cflags", "--libs", "btcheck"], env=paths, check=True, stdout=subprocess.PIPE, text=True)
     subprocess.run(["gcc", f"{place}/client.c", *flags.stdout.split(), "-o", f"{place}/client"], check=True)
     expect(run(program=f"{place}/client", env=paths), 0)
@@ -289,7 +302,7 @@ def see_module(place):
     """The module finds the library that is unpacked beside it."""
     subprocess.run(["dpkg-deb", "-x", path_of("python3-btcheck"), f"{place}/library"], check=True)
     below = f"{place}/library/usr/lib"
-    paths = {**os.environ, "PYTHONPATH": f"{below}/python3/dist-packages", "LD_LIBRARY_PATH": below}
+    paths = {**os.environ, "PYTHONPATH": f"{below}/python3/dist-packages", "LD_LIBRARY_PATH": f"{below}/x86_64-linux-gnu"}
     done = run("-c", "import btcheck; print(btcheck.__file__, btcheck.__version__.removesuffix('.dev0') == btcheck.version())", program=sys.executable, env=paths)
     expect(done, 0, f"{below}/python3/dist-packages/btcheck/__init__.py True\n")
 

@@ -1,11 +1,15 @@
 """The crates of crates.txt, and how the kit's prover is called on one of them."""
 import os
+import re
 import shutil
 import subprocess
 import sys
+import time
 
 TOP = os.path.dirname(os.path.dirname(os.path.abspath(__file__)))
 KIT = os.path.dirname(os.path.dirname(os.path.realpath(shutil.which(os.environ.get("RT", "rt")) or "rt")))
+# How many seconds pass between two lines on how far a proof is.
+TOLD_EVERY = 30
 LOGIC = ["--antt-project", f"{KIT}/rattle/logic/antt-project.json", "--logic-built", f"{KIT}/logic_built"]
 
 
@@ -55,18 +59,36 @@ def linking(program):
             "-o", program, f"{program}.o", *c_code]
 
 
-def logged(words, name, log):
-    """Runs a command in a crate's folder, with all that it prints in build/proofs/LOG. If it fails, prints the end of that.
-    Gives whether it went well."""
+def logged(words, name, log, tells=False):
+    """Runs a command in a crate's folder, with all that it prints in build/proofs/LOG. If it tells, says from time to time
+    how far it is; if it fails, prints the end of that file. Gives whether it went well."""
     os.makedirs(f"{TOP}/build/proofs", exist_ok=True)
-    path = f"{TOP}/build/proofs/{log}"
-    with open(path, "wb") as out:
-        if not run(words, name, stdout=out, stderr=subprocess.STDOUT).returncode:
-            return True
+    path, since = f"{TOP}/build/proofs/{log}", time.monotonic()
+    with open(path, "wb") as out, subprocess.Popen(words, cwd=f"{TOP}/crates/{name}", stdin=subprocess.DEVNULL, stdout=out,
+                                                   stderr=subprocess.STDOUT) as running:
+        while True:
+            try:
+                status = running.wait(TOLD_EVERY if tells else None)
+                break
+            except subprocess.TimeoutExpired:
+                print(f"  {name}: {how_far(path)}; {(time.monotonic() - since) / 60:.1f} min so far", flush=True)
+    if not status:
+        return True
     with open(path, encoding="utf-8", errors="replace") as file:
         sys.stderr.write("".join(file.readlines()[-20:]))
     print(f"{name} is not proved: {path} says why", file=sys.stderr, flush=True)
     return False
+
+
+def how_far(path):
+    """How far a proof is, by what it prints: each function that was checked, and how many there are. Behind the last comes
+    the code, of which nothing is printed."""
+    with open(path, encoding="utf-8", errors="replace") as file:
+        counts = re.findall(r"(?m)^(?:checked .*,|so far:) (\d+) of (\d+)\b", file.read())
+    done, of = counts[-1] if counts else ("0", "0")
+    if not counts:
+        return "what it uses is being read"
+    return "its code is being made" if done == of else f"{done} of {of} functions are checked"
 
 
 def lanes():

@@ -4,12 +4,14 @@
  * A session of a torrent takes the hashes messages and the blocks that peers
  * send, and says which blocks are the torrent's own. The root of a file is
  * computed from its bytes in parts of any size. docs/LIBRARY.md has a first
- * program; docs/PROVED.md says what is proved of each call.
+ * program; docs/CLAUSES.md says what is proved of each call.
  *
  * Handles. A handle is a small struct of the caller's. Zero bytes are a handle
  * that holds nothing: begin with BTCHECK_INIT. Its fields belong to the
  * library: do not read, change or copy them. A call named ..._free empties a
- * handle; it may be called on an empty one, and twice.
+ * handle; it may be called on an empty one, and twice. A call that takes a
+ * pointer to a const handle only reads what that holds; it may write to the
+ * handle meanwhile and back, so define no handle as const.
  *
  * Threads. Different handles may be used by different threads at once. No call
  * comes in the forked child of a process that has threads. Calls
@@ -23,8 +25,8 @@
  * needs less than 64 KiB of stack.
  *
  * Costs. Nearly all that a call costs is hashing: of a block, of a piece, of the pairs of a hashes
- * message. Only btcheck_session_open takes longer where the torrent is larger, and so do btcheck_draft_finish
- * and btcheck_draft_add where the draft is. Pushes of a root or a
+ * message. Only btcheck_session_open and btcheck_session_bitfield take longer where the torrent is larger, and so
+ * do btcheck_draft_finish and btcheck_draft_add where the draft is. Pushes of a root or a
  * check may be short: a handle keeps their bytes until eight blocks of them are hashed side by side,
  * in 128 KiB of room that the call named ..._new takes. Only a piece whose bit is due is not kept:
  * with btcheck_check_push_bits, pieces of less than 128 KiB are hashed faster in pushes of that much.
@@ -43,20 +45,20 @@
 extern "C" {
 #endif
 
-/* What each call but ..._free and btcheck_version returns. */
+/* What each call returns that may be refused. */
 typedef uint32_t btcheck_status;
 
 enum {
   BTCHECK_OK = 0,
   BTCHECK_WRONG_HANDLE = 1, /* it holds nothing or something else; for new and open: it is full */
   BTCHECK_NO_MEMORY = 2,
-  BTCHECK_TOO_LONG = 3,  /* more than 2^46 bytes, or than the file has; or a body of 2^32 or more */
+  BTCHECK_TOO_LONG = 3,  /* more than 2^46 bytes, or than the file or the frame has; or a body of 2^32 or more */
   BTCHECK_NO_ROOT = 4,   /* an empty file has none */
   BTCHECK_NO_SUCH = 5,   /* no such tree, block or file */
   BTCHECK_NOTHING = 6,   /* nothing to ask for, to answer with or to export, or not marked */
   BTCHECK_TOO_SMALL = 7, /* the caller's room has too few places */
   BTCHECK_BAD_SIZE = 8,  /* a message of id 7, 21, 22 or 23 has a wrong size */
-  BTCHECK_TOO_SHORT = 9, /* bytes of the file are still to come */
+  BTCHECK_TOO_SHORT = 9, /* bytes of the file or of the frame are still to come */
   BTCHECK_BAD_PIECE = 10, /* a piece is not the torrent's, or blocks that were held are not */
   BTCHECK_HELD = 11,      /* of one block alone: its digest is held until the block can be proved */
 
@@ -110,13 +112,13 @@ static inline const char *btcheck_status_text(btcheck_status status) {
       return "The handle holds nothing, or something of another kind; or it is full where it should be empty.";
     case BTCHECK_NO_MEMORY: return "Memory was refused.";
     case BTCHECK_TOO_LONG:
-      return "There are more than 2^46 bytes, more than the file or its pieces have, or 2^32 or more in a body.";
+      return "There are more than 2^46 bytes, more than the file, its pieces or the frame have, or 2^32 or more in a body.";
     case BTCHECK_NO_ROOT: return "An empty file has no root.";
     case BTCHECK_NO_SUCH: return "The torrent has no such tree, block, file or piece.";
     case BTCHECK_NOTHING: return "There is nothing to ask for or to answer with, or the block is not marked.";
     case BTCHECK_TOO_SMALL: return "The room is too small.";
     case BTCHECK_BAD_SIZE: return "A message of id 7, 21, 22 or 23 has a wrong size.";
-    case BTCHECK_TOO_SHORT: return "Bytes of the file or of its pieces are still to come.";
+    case BTCHECK_TOO_SHORT: return "Bytes of the file, of its pieces or of the frame are still to come.";
     case BTCHECK_BAD_PIECE: return "A piece is not the torrent's.";
     case BTCHECK_HELD: return "The block is held until its hash is known.";
     case BTCHECK_TORRENT_TOO_LARGE: return "The torrent file has more than 67,108,864 bytes.";
@@ -157,15 +159,37 @@ static inline const char *btcheck_status_text(btcheck_status status) {
   }
 }
 
-/* The version of this header: a byte for each of its three numbers, here 1.0.0. */
-#define BTCHECK_VERSION 0x010000
+/* The version of this header: a byte for each of its three numbers, here 1.1.0. */
+#define BTCHECK_VERSION 0x010100
 
 /* The version of the library that is linked, in the same form. */
 uint32_t btcheck_version(void);
 
+/* Bytes of a version as text, with the zero byte at its end. */
+#define BTCHECK_VERSION_TEXT 12
+
+/* The version of the library that is linked as text, "1.1.0" say: writes it with its zero byte, and
+   returns where it stands. It is in this header alone. */
+static inline const char *btcheck_version_text(char text[BTCHECK_VERSION_TEXT]) {
+  uint32_t version = btcheck_version();
+  char *end = text;
+  for (int shift = 16; shift >= 0; shift -= 8) {
+    unsigned number = (version >> shift) & 255;
+    if (number > 99) *end++ = (char)('0' + number / 100);
+    if (number > 9) *end++ = (char)('0' + number / 10 % 10);
+    *end++ = (char)('0' + number % 10);
+    *end++ = shift > 0 ? '.' : '\0';
+  }
+  return text;
+}
+
 /* Bytes of a block that is not its file's last, and of a hash. */
 #define BTCHECK_BLOCK 16384
 #define BTCHECK_HASH 32
+
+/* Hashes as calls take them: of 32 bytes each, one behind the other, from a pointer to them of any
+   type, as uint8_t * or uint8_t (*)[32], without a warning. */
+#define BTCHECK_HASHES(hashes) ((const uint8_t(*)[BTCHECK_HASH])(hashes))
 
 /* Handles: of the builder of a root, of a session, of the check of a file, of what is held beside a
    session, of the draft of a torrent, and of a file for one. */
@@ -291,7 +315,7 @@ void btcheck_session_free(btcheck_session *session);
 
 /* How many files and how many trees the torrent has. Trees are its distinct roots, numbered from 0
    in the order of first use. */
-btcheck_status btcheck_session_files(btcheck_session *session, uint64_t *files, uint64_t *trees);
+btcheck_status btcheck_session_files(const btcheck_session *session, uint64_t *files, uint64_t *trees);
 
 /* A file of a torrent. */
 typedef struct btcheck_file {
@@ -302,41 +326,84 @@ typedef struct btcheck_file {
 } btcheck_file;
 
 /* File `number`, from 0, in the order of the torrent. BTCHECK_NO_SUCH: there are fewer. */
-btcheck_status btcheck_session_file(btcheck_session *session, size_t number, btcheck_file *file);
+btcheck_status btcheck_session_file(const btcheck_session *session, size_t number, btcheck_file *file);
 
 /* A file's path at the front of the room, its components joined by `/`, without a zero byte, and how
    many bytes it has. It leads to no place outside the folder in which it is looked up.
    BTCHECK_TOO_SMALL: `length` is how many bytes the room must have, and nothing goes there. */
-btcheck_status btcheck_session_path(btcheck_session *session, size_t number, uint8_t *room,
+btcheck_status btcheck_session_path(const btcheck_session *session, size_t number, uint8_t *room,
                                     size_t size, uint64_t *length);
 
 /* The torrent's name at the front of the room, as _path has a path. It is UTF-8, but may be any text:
    look it up in no folder. */
-btcheck_status btcheck_session_name(btcheck_session *session, uint8_t *room, size_t size,
+btcheck_status btcheck_session_name(const btcheck_session *session, uint8_t *room, size_t size,
                                     uint64_t *length);
 
 /* How many bytes a piece has that is not its file's last. */
-btcheck_status btcheck_session_piece_length(btcheck_session *session, uint64_t *length);
+btcheck_status btcheck_session_piece_length(const btcheck_session *session, uint64_t *length);
 
 /* How many pieces the files have together. Pieces have the numbers from 0 up to, but without,
    `pieces`. */
-btcheck_status btcheck_session_pieces(btcheck_session *session, uint64_t *pieces);
+btcheck_status btcheck_session_pieces(const btcheck_session *session, uint64_t *pieces);
+
+/* A piece of a torrent. */
+typedef struct btcheck_piece {
+  uint64_t length; /* in bytes; a file's last piece may be shorter than the others */
+  uint64_t file;   /* the file in which it lies: each file begins with a piece of its own */
+  uint64_t block;  /* its first block there */
+  uint64_t offset; /* its first byte there */
+} btcheck_piece;
+
+/* Piece `index`, from 0 through all files. BTCHECK_NO_SUCH: there are fewer. */
+btcheck_status btcheck_session_piece(const btcheck_session *session, uint32_t index,
+                                     btcheck_piece *piece);
+
+/* The first piece of file `number`, and how many pieces it has; an empty file has none.
+   BTCHECK_NO_SUCH: there are fewer files. */
+btcheck_status btcheck_session_file_pieces(const btcheck_session *session, size_t number,
+                                           uint64_t *first, uint64_t *count);
+
+/* Bytes of a file as a request has them (BEP 3): the piece, where they begin in it, and how many they
+   are. They may go on in the pieces behind it. */
+typedef struct btcheck_piece_range {
+  uint64_t piece, begin, length;
+} btcheck_piece_range;
+
+/* Where the bytes of file `number` lie from `offset` on: `length` of them, or fewer where the file ends.
+   BTCHECK_NO_SUCH: there is no such file, or it has no byte at the offset. */
+btcheck_status btcheck_session_map_file(const btcheck_session *session, size_t number, uint64_t offset,
+                                        uint64_t length, btcheck_piece_range *range);
 
 /* BTCHECK_OK if the torrent is a hybrid, which clients of version 1 can use too. BTCHECK_NOTHING: it
    is of version 2 alone. */
-btcheck_status btcheck_session_is_hybrid(btcheck_session *session);
+btcheck_status btcheck_session_is_hybrid(const btcheck_session *session);
 
-/* The info-hashes: SHA-256 (BEP 52) and SHA-1 (BEP 3) of the info dictionary. */
-btcheck_status btcheck_session_info_hashes(btcheck_session *session, uint8_t v2[32],
+/* The info-hashes: SHA-256 (BEP 52) and SHA-1 (BEP 3) of the info dictionary. A torrent of version 2
+   alone has the first one: its `v1` is that SHA-1, but no client of version 1 knows the torrent by it.
+   A hybrid has both; btcheck_session_is_hybrid says which it is. */
+btcheck_status btcheck_session_info_hashes(const btcheck_session *session, uint8_t v2[32],
                                            uint8_t v1[20]);
 
 /* How many places of a tree are known, and how many leaves are marked as verified. */
-btcheck_status btcheck_session_counts(btcheck_session *session, size_t tree, uint64_t *known,
+btcheck_status btcheck_session_counts(const btcheck_session *session, size_t tree, uint64_t *known,
                                       uint64_t *marked);
 
 /* BTCHECK_OK if the leaf of a block of a tree is marked as verified. BTCHECK_NOTHING: it is not.
    BTCHECK_NO_SUCH: there is no such tree, or its files have no such block. */
-btcheck_status btcheck_session_is_marked(btcheck_session *session, size_t tree, uint64_t block);
+btcheck_status btcheck_session_is_marked(const btcheck_session *session, size_t tree, uint64_t block);
+
+/* How many blocks of file `number` are marked as verified, and how many it has. Files of one tree have
+   their marks together. BTCHECK_NO_SUCH: there is no such file. */
+btcheck_status btcheck_session_file_counts(const btcheck_session *session, size_t number,
+                                           uint64_t *marked, uint64_t *blocks);
+
+/* The bitfield of the torrent's pieces (BEP 3) at the front of the room, and how many bytes it has: bit
+   0, the highest of the first byte, is that of piece 0. A bit is set if each block of its piece is marked
+   as verified; those past the last piece are clear. It looks at the blocks one after the other, in each
+   piece up to the first that is not marked. BTCHECK_TOO_SMALL: `length` is how many bytes the room must
+   have, and nothing goes there. */
+btcheck_status btcheck_session_bitfield(const btcheck_session *session, uint8_t *room, size_t size,
+                                        uint64_t *length);
 
 /* ---- the check of a file's bytes, or of those of some of its pieces, which the caller reads as it
    likes */
@@ -345,13 +412,13 @@ btcheck_status btcheck_session_is_marked(btcheck_session *session, size_t tree, 
    must stay unchanged until this handle is freed too; the session's may be freed before. No later
    call on the check takes memory. BTCHECK_NO_ROOT: the file is empty. BTCHECK_NO_SUCH: there is no
    such file. */
-btcheck_status btcheck_check_new(btcheck_check *check, btcheck_session *session, size_t number);
+btcheck_status btcheck_check_new(btcheck_check *check, const btcheck_session *session, size_t number);
 
 /* Begins the check of the pieces `from` up to, but without, `to` of a file, from 0 in the file, as
    btcheck_check_new does of all of them. So several threads check one file, each with a handle, and
    a piece is checked by itself. BTCHECK_NO_SUCH: there is no such file, or not 0 <= from < to <= its
    pieces. */
-btcheck_status btcheck_check_new_pieces(btcheck_check *check, btcheck_session *session,
+btcheck_status btcheck_check_new_pieces(btcheck_check *check, const btcheck_session *session,
                                         size_t number, uint64_t from, uint64_t to);
 
 /* The next bytes, in parts of any size. BTCHECK_TOO_LONG: fewer are still to come, and nothing was
@@ -426,7 +493,7 @@ btcheck_status btcheck_session_take_piece(btcheck_session *session, uint32_t ind
    than the longest piece has. Free them before or after the session; use them with sessions of the
    same torrent alone. All memory for what they hold is asked for here, and is not written before
    blocks come. BTCHECK_NO_MEMORY: it was refused. */
-btcheck_status btcheck_holdings_new(btcheck_holdings *holdings, btcheck_session *session,
+btcheck_status btcheck_holdings_new(btcheck_holdings *holdings, const btcheck_session *session,
                                     size_t bound);
 
 void btcheck_holdings_free(btcheck_holdings *holdings);
@@ -462,9 +529,13 @@ btcheck_status btcheck_session_settle(btcheck_session *session, btcheck_holdings
 btcheck_status btcheck_holdings_look_at(btcheck_holdings *holdings, size_t tree);
 
 /* How many blocks are held. */
-btcheck_status btcheck_session_held(btcheck_holdings *holdings, uint64_t *held);
+btcheck_status btcheck_session_held(const btcheck_holdings *holdings, uint64_t *held);
 
-/* ---- whole frames */
+/* ---- whole frames
+
+   A frame is four bytes, the length of its body, highest first, and that body (BEP 3, "peer messages").
+   Calls that take or write a frame mean all of it, the four bytes too; btcheck_session_frame alone takes
+   a body. */
 
 /* What a message was, and what was made of it. */
 enum {
@@ -492,18 +563,43 @@ typedef struct btcheck_verdict {
 btcheck_status btcheck_session_frame(btcheck_session *session, const uint8_t *body, size_t len,
                                      btcheck_verdict *verdict);
 
-/* ---- requests for hashes */
-
 /* The five fields of a hash request (BEP 52). */
 typedef struct btcheck_ask {
   uint8_t root[32];
   uint32_t base, index, length, proof;
 } btcheck_ask;
 
+/* What a whole frame was, and what was made of it. */
+typedef struct btcheck_taken {
+  btcheck_verdict verdict; /* as btcheck_session_frame has it */
+  btcheck_ask ask;         /* of hashes, of a hash request and of a reject: its five fields */
+  btcheck_run dropped[17]; /* of blocks, by hold_frame alone: as btcheck_held has it */
+} btcheck_taken;
+
+/* One whole frame of the peer protocol as it came. Hashes are taken as by take_hashes, but if `asked` as by
+   take_answer, so that they must answer a noted request, which they close: else 208. Blocks are taken as
+   by take_blocks. A request is not answered: `verdict.kind` says whether answer has hashes for `ask`. Only
+   what `verdict.kind` says is written, and all else in the struct stays.
+   BTCHECK_TOO_SHORT: bytes of the frame are still to come. BTCHECK_TOO_LONG: bytes follow it.
+   BTCHECK_BAD_SIZE: a wrong size for its id. 201 to 208, 301 or 302: the message is refused. At each of
+   them nothing is written. */
+btcheck_status btcheck_session_take_frame(btcheck_session *session, const uint8_t *frame, size_t len,
+                                          bool asked, btcheck_taken *taken);
+
+/* As take_frame, but blocks are taken as by hold: the status of one that cannot be proved yet is
+   BTCHECK_HELD, or BTCHECK_NO_MEMORY, and `dropped` is what gave way. Then call settle until it answers
+   BTCHECK_NOTHING: it looks at the pieces of these blocks, or after hashes that were joined at all pieces
+   of their tree. Both together do with each frame what `btcheck replay --pieces` does. */
+btcheck_status btcheck_session_hold_frame(btcheck_session *session, btcheck_holdings *holdings,
+                                          const uint8_t *frame, size_t len, bool asked,
+                                          btcheck_taken *taken);
+
+/* ---- requests for hashes */
+
 /* What to ask for next to learn the leaf of a block of a tree: at most 512 leaves, with
    proof up to the root. BTCHECK_NOTHING: the leaf is known. BTCHECK_NO_SUCH: there is no such
    tree, or its files have no such block. */
-btcheck_status btcheck_session_want(btcheck_session *session, size_t tree, uint64_t block,
+btcheck_status btcheck_session_want(const btcheck_session *session, size_t tree, uint64_t block,
                                     btcheck_ask *ask);
 
 /* Notes that a request with these fields was sent: its ask is open until hashes
@@ -519,12 +615,29 @@ btcheck_status btcheck_session_take_answer(btcheck_session *session, const btche
 /* The hashes that answer a peer's request, at the front of the room, and how many
    they are. BTCHECK_TOO_SMALL: `count` is how many places the room must have.
    BTCHECK_NOTHING: reject the request. BTCHECK_NO_MEMORY: memory was refused. */
-btcheck_status btcheck_session_answer(btcheck_session *session, const btcheck_ask *ask,
+btcheck_status btcheck_session_answer(const btcheck_session *session, const btcheck_ask *ask,
                                       uint8_t (*room)[32], size_t places, uint64_t *count);
 
 /* BTCHECK_OK if answer would give hashes for this request. BTCHECK_NOTHING: it has to be
    rejected. */
-btcheck_status btcheck_session_can_answer(btcheck_session *session, const btcheck_ask *ask);
+btcheck_status btcheck_session_can_answer(const btcheck_session *session, const btcheck_ask *ask);
+
+/* Bytes of the frame of a hash request, and of a hash reject: the four of its length, its id and the
+   five fields. Frames that are written all begin with their length; what follows is the body. */
+#define BTCHECK_ASK_FRAME 53
+
+/* The frame of a hash request with these fields, as want gives them. */
+void btcheck_request_frame(const btcheck_ask *ask, uint8_t frame[53]);
+
+/* The frame of a hash reject: no hashes come for a request with these fields. */
+void btcheck_reject_frame(const btcheck_ask *ask, uint8_t frame[53]);
+
+/* The frame that answers a peer's request, at the front of the room, and how many bytes it has.
+   BTCHECK_OK: it has the hashes that answer would give. BTCHECK_NOTHING: they are not known, and the
+   frame is a reject, which is written too. BTCHECK_TOO_SMALL: `length` is how many bytes the room must
+   have, and nothing goes there. BTCHECK_NO_MEMORY: memory was refused. */
+btcheck_status btcheck_session_answer_frame(const btcheck_session *session, const btcheck_ask *ask,
+                                            uint8_t *room, size_t size, uint64_t *length);
 
 /* ---- what is known, kept between two runs of a program
 
@@ -543,12 +656,12 @@ typedef struct btcheck_cursor {
 /* Writes the leaves that are known first from the cursor on, at most 512 of them in one hashes
    message with its proof up to the root (BEP 52): the whole frame, its four bytes of length and its
    body of id 22, at the front of the room; `length` is how many bytes it has. The cursor then stands
-   behind them. Each body is taken by btcheck_session_frame of any session of the torrent, also one
-   that was opened without layers. From a cursor of zeros on until BTCHECK_NOTHING, each known leaf is
+   behind them. Each frame is taken by btcheck_session_take_frame of any session of the torrent, also
+   one that was opened without layers. From a cursor of zeros on until BTCHECK_NOTHING, each known leaf is
    in a message, but for that of a file of one block, which is its root. BTCHECK_TOO_SMALL: `length`
    is how many bytes the room must have, never more than BTCHECK_MOST_EXPORTED; the cursor stays.
    BTCHECK_NOTHING: no leaf is known from the cursor on. BTCHECK_NO_MEMORY: the cursor stays. */
-btcheck_status btcheck_session_export(btcheck_session *session, btcheck_cursor *cursor,
+btcheck_status btcheck_session_export(const btcheck_session *session, btcheck_cursor *cursor,
                                       uint8_t *room, size_t size, uint64_t *length);
 
 /* Takes a whole layer of a tree, 0 for the leaves, without the pads past the file's end, and writes
@@ -575,7 +688,7 @@ btcheck_status btcheck_draft_new(btcheck_draft *draft, const uint8_t *name, size
 /* A file for the draft, in an empty handle, of which nothing came yet. It can be added to each draft
    of that piece length that is a hybrid as this one is, or is not, and may outlive it.
    BTCHECK_NO_MEMORY. */
-btcheck_status btcheck_draft_file_new(btcheck_draft_file *file, btcheck_draft *draft);
+btcheck_status btcheck_draft_file_new(btcheck_draft_file *file, const btcheck_draft *draft);
 
 /* The file's next bytes, in parts of any size; an empty file needs no push. Parts of 128 KiB are hashed
    faster than shorter ones, and for a hybrid those of eight pieces of at most 4 MiB. For pieces of 8 and
@@ -602,7 +715,7 @@ btcheck_status btcheck_draft_add(btcheck_draft *draft, btcheck_draft_file *file,
    added afterwards. BTCHECK_TOO_SMALL: `length` is how many bytes the room must have, and nothing goes
    there. BTCHECK_TORRENT_NO_FILES: no file was added. BTCHECK_TORRENT_TOO_LARGE: it would have more than
    67,108,864 bytes, so that nobody opens it: take longer pieces. BTCHECK_NO_MEMORY. */
-btcheck_status btcheck_draft_finish(btcheck_draft *draft, uint8_t *room, size_t size,
+btcheck_status btcheck_draft_finish(const btcheck_draft *draft, uint8_t *room, size_t size,
                                     uint64_t *length);
 
 void btcheck_draft_file_free(btcheck_draft_file *file);

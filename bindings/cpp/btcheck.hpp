@@ -1,8 +1,9 @@
 // btcheck.hpp - thin classes over btcheck.h for C++17. Each owns one handle, and frees it.
 //
 // Names are those of btcheck.h. What that says of threads, memory and pointers holds here too. A call that is refused
-// throws Refused with the status, and has changed nothing. An object may be moved, but not assigned to; one that was
-// moved from holds nothing, and its calls are refused with BTCHECK_WRONG_HANDLE.
+// throws Refused with the status, and has changed nothing. An object may be moved and moved into another one, which frees
+// what that held; one that was moved from holds nothing, and its calls are refused with BTCHECK_WRONG_HANDLE. Calls that
+// only read are const, but those on one object must not overlap either.
 #pragma once
 
 #include <btcheck.h>
@@ -11,8 +12,11 @@
 #include <array>
 #include <cstring>
 #include <exception>
+#include <filesystem>
+#include <fstream>
 #include <memory>
 #include <optional>
+#include <stdexcept>
 #include <string>
 #include <type_traits>
 #include <utility>
@@ -24,9 +28,12 @@ using Hash = std::array<uint8_t, BTCHECK_HASH>;
 using Ask = btcheck_ask;
 using Blocks = btcheck_blocks;
 using Verdict = btcheck_verdict;
+using Taken = btcheck_taken;
 using HeldBlocks = btcheck_held;
 using Run = btcheck_run;
 using Cursor = btcheck_cursor;
+using Piece = btcheck_piece;
+using PieceRange = btcheck_piece_range;
 
 // A call was refused, and nothing has changed.
 class Refused : public std::exception {
@@ -105,11 +112,17 @@ template <class Handle, void (*free)(Handle *)> class Owner {
 public:
   Owner() = default;
   Owner(Owner &&other) noexcept : handle_(std::exchange(other.handle_, Handle BTCHECK_INIT)) {}
+  Owner &operator=(Owner &&other) noexcept {
+    if (this == std::addressof(other)) return *this;
+    free(&handle_);
+    handle_ = std::exchange(other.handle_, Handle BTCHECK_INIT);
+    return *this;
+  }
   ~Owner() { free(&handle_); }
-  Handle *operator&() { return &handle_; }
+  Handle *operator&() const { return &handle_; }
 
 private:
-  Handle handle_ = BTCHECK_INIT;
+  mutable Handle handle_ = BTCHECK_INIT; // (a call that only reads writes to it and back)
 };
 
 // A block: which file's, and which of its blocks, from 0.
@@ -125,8 +138,24 @@ struct File {
   Hash root;                    // of an empty file zeros
 };
 
-// Version of the library that is linked, a byte for each of its three numbers.
+// Version of the library that is linked, a byte for each of its three numbers; and as text, "1.1.0" say.
 inline uint32_t version() { return btcheck_version(); }
+inline std::string version_text() {
+  char text[BTCHECK_VERSION_TEXT];
+  return btcheck_version_text(text);
+}
+
+// The whole frame of a hash request, and of a hash reject, with the four bytes of its length.
+inline std::string request_frame(const Ask &ask) {
+  std::string frame(BTCHECK_ASK_FRAME, '\0');
+  btcheck_request_frame(&ask, reinterpret_cast<uint8_t *>(frame.data()));
+  return frame;
+}
+inline std::string reject_frame(const Ask &ask) {
+  std::string frame(BTCHECK_ASK_FRAME, '\0');
+  btcheck_reject_frame(&ask, reinterpret_cast<uint8_t *>(frame.data()));
+  return frame;
+}
 
 // The root of a file, from its bytes in parts of any size.
 class Root {
@@ -137,6 +166,14 @@ public:
   };
 
   Root() { see(btcheck_root_new(&handle_)); }
+
+  // Length and root of these bytes.
+  static Found of(Bytes content) {
+    Root root;
+    root.push(content);
+    return root.finish();
+  }
+
   void push(Bytes part) { see(btcheck_root_push(&handle_, part.data(), part.size())); }
   Found finish() {
     Found found;
@@ -159,13 +196,13 @@ struct Settled {
 // The digests of blocks that cannot be proved yet: at most `bound`, and no fewer than the longest piece has.
 class Holdings {
 public:
-  Holdings(Session &session, size_t bound);
+  Holdings(const Session &session, size_t bound);
 
   // Hashes of this tree were taken: settle looks at its held pieces.
   void look_at(size_t tree) { see(btcheck_holdings_look_at(&handle_, tree)); }
 
   // How many blocks are held.
-  uint64_t held() {
+  uint64_t held() const {
     uint64_t count;
     see(btcheck_session_held(&handle_, &count));
     return count;
@@ -189,29 +226,62 @@ public:
     see(status);
   }
 
-  // Bytes of a piece, and how many pieces all files have together.
-  uint64_t piece_length() { return number(btcheck_session_piece_length); }
-  uint64_t pieces() { return number(btcheck_session_pieces); }
+  // The same of any bytes, those of a vector say, which are copied.
+  template <class Content, class = std::enable_if_t<std::is_convertible_v<const Content &, Bytes> &&
+                                                    !std::is_convertible_v<const Content &, std::string>>>
+  explicit Session(const Content &torrent, bool layers = true) : Session(text_of(torrent), layers) {}
 
-  std::string name() {
+  Session(Session &&) = default;
+  Session &operator=(Session &&other) noexcept {
+    handle_ = std::move(other.handle_); // (what is freed may still look at its own torrent)
+    torrent_ = std::move(other.torrent_);
+    return *this;
+  }
+
+  // Bytes of a piece, and how many pieces all files have together.
+  uint64_t piece_length() const { return number(btcheck_session_piece_length); }
+  uint64_t pieces() const { return number(btcheck_session_pieces); }
+
+  // A piece, numbered from 0 through all files.
+  Piece piece(uint32_t index) const {
+    Piece found;
+    see(btcheck_session_piece(&handle_, index, &found));
+    return found;
+  }
+
+  // The first piece of a file, and how many pieces it has.
+  std::pair<uint64_t, uint64_t> file_pieces(size_t number) const {
+    std::pair<uint64_t, uint64_t> found;
+    see(btcheck_session_file_pieces(&handle_, number, &found.first, &found.second));
+    return found;
+  }
+
+  // Where bytes of a file lie: the piece, where they begin in it, and how many they are.
+  PieceRange map_file(size_t number, uint64_t offset, uint64_t length) const {
+    PieceRange found;
+    see(btcheck_session_map_file(&handle_, number, offset, length, &found));
+    return found;
+  }
+
+  std::string name() const {
     return text([&](uint8_t *room, size_t size, uint64_t *length) {
       return btcheck_session_name(&handle_, room, size, length);
     });
   }
 
-  bool is_hybrid() { return is(btcheck_session_is_hybrid(&handle_)); }
+  bool is_hybrid() const { return is(btcheck_session_is_hybrid(&handle_)); }
 
-  size_t file_count() { return size_t(counts_of_all().first); }
-  size_t tree_count() { return size_t(counts_of_all().second); }
+  size_t file_count() const { return size_t(counts_of_all().first); }
+  size_t tree_count() const { return size_t(counts_of_all().second); }
 
   // The files of the torrent, in its order.
-  std::vector<File> files() {
+  std::vector<File> files() const {
     std::vector<File> found;
     for (size_t number = 0, count = file_count(); number < count; number++) found.push_back(file(number));
     return found;
   }
 
-  File file(size_t number) {
+  File file(size_t number) const {
     btcheck_file info;
     see(btcheck_session_file(&handle_, number, &info));
     File found{path(number), info.length, info.first_piece, {}, {}};
@@ -220,26 +290,48 @@ public:
     return found;
   }
 
-  std::string path(size_t number) {
+  std::string path(size_t number) const {
     return text([&](uint8_t *room, size_t size, uint64_t *length) {
       return btcheck_session_path(&handle_, number, room, size, length);
     });
   }
 
-  std::pair<Hash, std::array<uint8_t, 20>> info_hashes() {
+  // Info-hashes of version 2 and of version 1. A torrent that is no hybrid is known by the first one alone.
+  std::pair<Hash, std::array<uint8_t, 20>> info_hashes() const {
     std::pair<Hash, std::array<uint8_t, 20>> found;
     see(btcheck_session_info_hashes(&handle_, found.first.data(), found.second.data()));
     return found;
   }
 
+  // The info-hash by which clients of version 1 know a hybrid; nothing of another torrent.
+  std::optional<std::array<uint8_t, 20>> info_hash_v1() const {
+    if (!is_hybrid()) return {};
+    return info_hashes().second;
+  }
+
   // How many places of a tree are known, and how many leaves are marked as verified.
-  std::pair<uint64_t, uint64_t> counts(size_t tree) {
+  std::pair<uint64_t, uint64_t> counts(size_t tree) const {
     std::pair<uint64_t, uint64_t> found;
     see(btcheck_session_counts(&handle_, tree, &found.first, &found.second));
     return found;
   }
 
-  bool is_marked(size_t tree, uint64_t block) { return is(btcheck_session_is_marked(&handle_, tree, block)); }
+  bool is_marked(size_t tree, uint64_t block) const { return is(btcheck_session_is_marked(&handle_, tree, block)); }
+
+  // How many blocks of a file are marked as verified, and how many it has.
+  std::pair<uint64_t, uint64_t> file_counts(size_t number) const {
+    std::pair<uint64_t, uint64_t> found;
+    see(btcheck_session_file_counts(&handle_, number, &found.first, &found.second));
+    return found;
+  }
+
+  // The bitfield of the pieces whose blocks are all marked (BEP 3).
+  Bits bitfield() const {
+    std::string bits = text([&](uint8_t *room, size_t size, uint64_t *length) {
+      return btcheck_session_bitfield(&handle_, room, size, length);
+    });
+    return {bits.begin(), bits.end()};
+  }
 
   // How many places are newly known.
   uint64_t take_hashes(const Ask &ask, const std::vector<Hash> &hashes) {
@@ -290,8 +382,24 @@ public:
     return verdict;
   }
 
+  // One whole frame as it came, its four bytes of length and its body. Of the verdict and of the five fields only what
+  // its kind names is set. If `asked`, hashes must answer a noted request, as by take_answer.
+  Taken take_frame(Bytes frame, bool asked = false) {
+    Taken taken{};
+    see(btcheck_session_take_frame(&handle_, frame.data(), frame.size(), asked, &taken));
+    return taken;
+  }
+
+  // As take_frame, but a block that cannot be proved yet is held. Call settle afterwards: it looks at the pieces of these
+  // blocks, or, after hashes that were joined, at all pieces of their tree.
+  Taken hold_frame(Holdings &holdings, Bytes frame, bool asked = false) {
+    Taken taken{};
+    see(btcheck_session_hold_frame(&handle_, &holdings.handle_, frame.data(), frame.size(), asked, &taken));
+    return taken;
+  }
+
   // What to ask for to learn the leaf of a block; nothing if it is known.
-  std::optional<Ask> want(size_t tree, uint64_t block) {
+  std::optional<Ask> want(size_t tree, uint64_t block) const {
     Ask ask;
     if (!is(btcheck_session_want(&handle_, tree, block, &ask))) return {};
     return ask;
@@ -306,7 +414,7 @@ public:
   }
 
   // The hashes that answer a peer's request; nothing if it has to be rejected.
-  std::optional<std::vector<Hash>> answer(const Ask &ask) {
+  std::optional<std::vector<Hash>> answer(const Ask &ask) const {
     std::vector<Hash> room(1);
     for (;;) {
       uint64_t count;
@@ -317,10 +425,19 @@ public:
     }
   }
 
+  // The whole frame that answers a peer's request, with the four bytes of its length: of the hashes, or of a reject if
+  // they are not known.
+  std::string answer_frame(const Ask &ask) const {
+    return text([&](uint8_t *room, size_t size, uint64_t *length) {
+      btcheck_status status = btcheck_session_answer_frame(&handle_, &ask, room, size, length);
+      return status == BTCHECK_NOTHING ? btcheck_status(BTCHECK_OK) : status;
+    });
+  }
+
   // The leaves that are known first from the cursor on, as the whole frame of a hashes message, and moves the cursor
-  // behind them; nothing if no leaf is known. Begin with `Cursor{}`. `frame` of any session of the torrent takes it
-  // without its first four bytes.
-  std::optional<std::string> export_leaves(Cursor &cursor) {
+  // behind them; nothing if no leaf is known. Begin with `Cursor{}`. `take_frame` of any session of the torrent
+  // takes it.
+  std::optional<std::string> export_leaves(Cursor &cursor) const {
     std::string room(BTCHECK_MOST_EXPORTED, '\0');
     uint64_t length;
     if (!is(btcheck_session_export(&handle_, &cursor, reinterpret_cast<uint8_t *>(room.data()), room.size(), &length)))
@@ -336,27 +453,29 @@ public:
     return places;
   }
 
-  bool can_answer(const Ask &ask) { return is(btcheck_session_can_answer(&handle_, &ask)); }
+  bool can_answer(const Ask &ask) const { return is(btcheck_session_can_answer(&handle_, &ask)); }
 
 private:
   friend class Check;
   friend class Holdings;
 
-  uint64_t number(btcheck_status (*call)(btcheck_session *, uint64_t *)) {
+  uint64_t number(btcheck_status (*call)(const btcheck_session *, uint64_t *)) const {
     uint64_t found;
     see(call(&handle_, &found));
     return found;
   }
 
-  std::pair<uint64_t, uint64_t> counts_of_all() {
+  std::pair<uint64_t, uint64_t> counts_of_all() const {
     std::pair<uint64_t, uint64_t> found;
     see(btcheck_session_files(&handle_, &found.first, &found.second));
     return found;
   }
 
+  static std::string text_of(Bytes bytes) { return {reinterpret_cast<const char *>(bytes.data()), bytes.size()}; }
+
   static const uint8_t (*rows(const std::vector<Hash> &hashes))[32] {
     static const Hash none{};
-    return reinterpret_cast<const uint8_t(*)[32]>(hashes.empty() ? none.data() : hashes[0].data());
+    return BTCHECK_HASHES(hashes.empty() ? none.data() : hashes[0].data());
   }
   static uint8_t (*rows(std::vector<Hash> &hashes))[32] { return reinterpret_cast<uint8_t(*)[32]>(hashes[0].data()); }
 
@@ -364,7 +483,7 @@ private:
   Owner<btcheck_session, btcheck_session_free> handle_;
 };
 
-inline Holdings::Holdings(Session &session, size_t bound) {
+inline Holdings::Holdings(const Session &session, size_t bound) {
   see(btcheck_holdings_new(&handle_, &session.handle_, bound));
 }
 
@@ -372,11 +491,18 @@ inline Holdings::Holdings(Session &session, size_t bound) {
 // may outlive its session: several threads check one file, each with its own.
 class Check {
 public:
-  Check(Session &session, size_t file) : torrent_(session.torrent_) {
+  Check(const Session &session, size_t file) : torrent_(session.torrent_) {
     see(btcheck_check_new(&handle_, &session.handle_, file));
   }
-  Check(Session &session, size_t file, uint64_t from, uint64_t to) : torrent_(session.torrent_) {
+  Check(const Session &session, size_t file, uint64_t from, uint64_t to) : torrent_(session.torrent_) {
     see(btcheck_check_new_pieces(&handle_, &session.handle_, file, from, to));
+  }
+
+  Check(Check &&) = default;
+  Check &operator=(Check &&other) noexcept {
+    handle_ = std::move(other.handle_); // (what is freed may still look at its own torrent)
+    torrent_ = std::move(other.torrent_);
+    return *this;
   }
 
   void push(Bytes part) { see(btcheck_check_push(&handle_, part.data(), part.size())); }
@@ -421,7 +547,7 @@ class Draft;
 // A file for a draft, whose bytes come in parts of any size. Different files may come in different threads.
 class DraftFile {
 public:
-  explicit DraftFile(Draft &draft);
+  explicit DraftFile(const Draft &draft);
 
   void push(Bytes part) { see(btcheck_draft_file_push(&handle_, part.data(), part.size())); }
 
@@ -444,7 +570,7 @@ public:
   }
 
   // The torrent file: the one that `btcheck create` writes for a folder with these files.
-  std::string finish() {
+  std::string finish() const {
     return text([&](uint8_t *room, size_t size, uint64_t *length) {
       return btcheck_draft_finish(&handle_, room, size, length);
     });
@@ -455,6 +581,28 @@ private:
   Owner<btcheck_draft, btcheck_draft_free> handle_;
 };
 
-inline DraftFile::DraftFile(Draft &draft) { see(btcheck_draft_file_new(&handle_, &draft.handle_)); }
+inline DraftFile::DraftFile(const Draft &draft) { see(btcheck_draft_file_new(&handle_, &draft.handle_)); }
+
+// The torrent of all files below a folder, hidden ones too: the bytes that `btcheck create` writes. What is neither a file
+// nor a folder, a symlink too, is refused with std::invalid_argument; what cannot be read, with std::filesystem's error or
+// std::ios_base::failure. Else it throws what Draft throws.
+inline std::string create(const std::filesystem::path &folder, Bytes name, uint64_t piece_length, bool hybrid = false) {
+  Draft draft(name, piece_length, hybrid);
+  DraftFile file(draft);
+  std::vector<char> part(size_t{1} << 20);
+  for (const auto &entry : std::filesystem::recursive_directory_iterator(folder)) {
+    std::filesystem::file_status found = entry.symlink_status();
+    if (std::filesystem::is_directory(found)) continue;
+    std::string path = entry.path().lexically_relative(folder).generic_string();
+    if (!std::filesystem::is_regular_file(found)) throw std::invalid_argument("not a file or folder: " + path);
+    std::ifstream content(entry.path(), std::ios::binary);
+    content.exceptions(std::ios::badbit);
+    if (!content) throw std::ios_base::failure("cannot read " + path);
+    while (content.read(part.data(), std::streamsize(part.size())), content.gcount() > 0)
+      file.push(Bytes(part.data(), size_t(content.gcount())));
+    draft.add(file, path);
+  }
+  return draft.finish();
+}
 
 } // namespace btcheck

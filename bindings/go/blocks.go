@@ -11,6 +11,11 @@ type Blocks struct {
 	Results     []error
 }
 
+// Statuses are the results, by the name that they have in all languages.
+func (blocks Blocks) Statuses() []error {
+	return blocks.Results
+}
+
 // TakeBlock takes one block of a piece message (BEP 3), and gives which file's and which of its blocks it is, from 0.
 func (session *Session) TakeBlock(index, begin uint32, block []byte) (file, number uint64, err error) {
 	var inFile, at C.uint64_t

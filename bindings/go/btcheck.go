@@ -10,7 +10,10 @@ package btcheck
 */
 import "C"
 
-import "unsafe"
+import (
+	"fmt"
+	"unsafe"
+)
 
 // BlockLength is the bytes of a block that is not its file's last.
 const BlockLength = C.BTCHECK_BLOCK
@@ -22,6 +25,12 @@ type Hash [C.BTCHECK_HASH]byte
 func Version() [3]byte {
 	version := C.btcheck_version()
 	return [3]byte{byte(version >> 16), byte(version >> 8), byte(version)}
+}
+
+// VersionText gives the same as text, "1.1.0" say.
+func VersionText() string {
+	version := Version()
+	return fmt.Sprintf("%d.%d.%d", version[0], version[1], version[2])
 }
 
 // What an empty slice is passed as, since no pointer may be null.

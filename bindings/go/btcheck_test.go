@@ -186,7 +186,7 @@ func TestFiles(t *testing.T) {
 	see(t, []any{files[1].Path, files[1].FirstPiece}, []any{"c", 1})
 	v2, v1, err := session.InfoHashes()
 	see(t, fmt.Sprintf("%x %x %v", v2[:2], v1[:2], err), "4d9a f1a7 <nil>")
-	see(t, Version(), [3]byte{1, 0, 0})
+	see(t, Version(), [3]byte{1, 1, 0})
 	trees, err := session.TreeCount()
 	see(t, []any{trees, err}, []any{2, nil})
 	_, err = session.File(2)
@@ -228,6 +228,84 @@ func TestWant(t *testing.T) {
 	see(t, err, NoSuch)
 }
 
+// Where pieces and bytes lie, what is whole, and the frames of requests and answers.
+func TestPlaces(t *testing.T) {
+	session, content := opened(t), example(t, "pair/a")
+	defer session.Close()
+	piece, err := session.Piece(1)
+	see(t, []any{piece, err}, []any{Piece{Length: 3, File: 1}, nil})
+	_, err = session.Piece(2)
+	see(t, err, NoSuch)
+	first, count, err := session.FilePieces(1)
+	see(t, []any{first, count, err}, []any{1, 1, nil})
+	found, err := session.MapFile(0, BlockLength, 9)
+	see(t, []any{found, err}, []any{PieceRange{Begin: BlockLength, Length: 1}, nil})
+	_, err = session.MapFile(1, 3, 1)
+	see(t, err, NoSuch)
+	ask, _ := leaves(t, content)
+	request, reject := RequestFrame(ask), RejectFrame(ask)
+	see(t, []any{len(request), request[:5], reject[:5]}, []any{53, []byte{0, 0, 0, 49, 21}, []byte{0, 0, 0, 49, 23}})
+	answer, err := session.AnswerFrame(ask)
+	see(t, []any{answer, err}, []any{reject, nil})
+	_, _, err = session.TakePiece(0, content)
+	see(t, err, nil)
+	marked, blocks, err := session.FileCounts(0)
+	see(t, []any{marked, blocks, err}, []any{2, 2, nil})
+	bits, err := session.Bitfield()
+	see(t, []any{bits, err}, []any{[]byte{0x80}, nil})
+	answer, err = session.AnswerFrame(ask)
+	see(t, []any{len(answer), answer[4], answer[5:53], err}, []any{53 + 64, 22, request[5:], nil})
+}
+
+// What ends a loop, and what says no, is a value; and each type is closed as io does.
+func TestEnds(t *testing.T) {
+	session, content := opened(t), example(t, "pair/a")
+	holdings, err := NewHoldings(session, 10)
+	see(t, err, nil)
+	ask, found, err := session.WantNext(0, 1)
+	see(t, []any{ask.Length, found, err}, []any{2, true, nil})
+	_, found, err = session.AnswerNext(ask)
+	see(t, []any{found, err}, []any{false, nil})
+	var cursor Cursor
+	_, found, err = session.ExportNext(&cursor)
+	see(t, []any{found, err}, []any{false, nil})
+	_, found, err = session.SettleNext(holdings)
+	see(t, []any{found, err}, []any{false, nil})
+	for _, isTrue := range []bool{false, true} {
+		sent := append([]byte{}, content...)
+		if !isTrue {
+			sent[0] ^= 1
+		}
+		held, err := session.Hold(holdings, 0, 0, sent)
+		see(t, []any{held.Statuses(), err}, []any{[]error{Held, Held}, nil})
+		settled, found, err := session.SettleNext(holdings)
+		see(t, []any{settled, found, err}, []any{Settled{Run{0, 0, 1}, isTrue}, true, nil})
+	}
+	_, found, err = session.WantNext(0, 1)
+	see(t, []any{found, err}, []any{false, nil})
+	_, _, err = session.WantNext(9, 1)
+	see(t, err, NoSuch)
+	hashes, found, err := session.AnswerNext(ask)
+	see(t, []any{len(hashes), found, err}, []any{2, true, nil})
+	frame, found, err := session.ExportNext(&cursor)
+	see(t, []any{len(frame), found, err}, []any{4 + 49 + 64, true, nil})
+	v1, has, err := session.InfoHashV1()
+	see(t, []any{fmt.Sprintf("%x", v1[:2]), has, err}, []any{"f1a7", true, nil})
+	length, root, err := LengthAndRootOf(content)
+	see(t, []any{length, root, err}, []any{16385, rootOf(t, content), nil})
+	_, _, err = LengthAndRootOf(nil)
+	see(t, err, NoRoot)
+	see(t, VersionText(), "1.1.0")
+	for _, each := range []io.Closer{holdings, session, session} {
+		see(t, each.Close(), nil)
+	}
+	_, _, err = session.SettleNext(holdings)
+	see(t, err, WrongHandle)
+	for _, each := range []io.Closer{&Root{}, &Check{}, &Draft{}, &DraftFile{}} {
+		see(t, each.Close(), nil)
+	}
+}
+
 func TestFrames(t *testing.T) {
 	session := opened(t)
 	defer session.Close()
@@ -245,6 +323,55 @@ func TestFrames(t *testing.T) {
 	} {
 		verdict, err := session.Frame(each.body)
 		see(t, []any{verdict, err}, []any{each.verdict, each.err})
+	}
+}
+
+// A frame: the length of its body, and that.
+func framed(body ...[]byte) []byte {
+	whole := bytes.Join(body, nil)
+	return append([]byte{0, 0, byte(len(whole) >> 8), byte(len(whole))}, whole...)
+}
+
+func TestWholeFrames(t *testing.T) {
+	session, other, content := opened(t), opened(t), example(t, "pair/a")
+	defer session.Close()
+	defer other.Close()
+	holdings, err := NewHoldings(session, 0)
+	see(t, err, nil)
+	defer holdings.Close()
+	front := framed([]byte{7, 0, 0, 0, 0, 0, 0, 0, 0}, content[:BlockLength])
+	back := framed([]byte{7, 0, 0, 0, 0, 0, 0, 0x40, 0}, content[BlockLength:])
+	taken, err := session.TakeFrame(back, false)
+	see(t, []any{taken.Kind, taken.Blocks.Results, len(taken.Dropped), err}, []any{KindBlocks, []error{P3Unproved}, 0, nil})
+	taken, err = session.HoldFrame(holdings, back, true)
+	see(t, []any{taken.Blocks.First, taken.Blocks.Results, taken.Dropped, err}, []any{1, []error{Held}, []*Run{nil}, nil})
+	_, found, err := session.SettleNext(holdings)
+	see(t, []any{found, err}, []any{false, nil})
+	_, err = session.HoldFrame(holdings, front, true)
+	see(t, err, nil)
+	settled, found, err := session.SettleNext(holdings)
+	see(t, []any{settled, found, err}, []any{Settled{Run: Run{0, 0, 1}, IsProved: true}, true, nil})
+	var cursor Cursor
+	message, err := session.Export(&cursor)
+	see(t, err, nil)
+	request := framed([]byte{21}, message[5:53])
+	taken, err = other.TakeFrame(request, false)
+	see(t, []any{taken.Kind, taken.Ask.Length, err}, []any{KindRejected, 2, nil})
+	_, err = other.TakeFrame(message, true)
+	see(t, err, H8Unasked)
+	see(t, other.Note(taken.Ask), nil)
+	taken, err = other.TakeFrame(message, true)
+	see(t, []any{taken.Kind, taken.Places, taken.Ask.Length, err}, []any{KindStored, 2, 2, nil})
+	taken, err = other.TakeFrame(request, false)
+	see(t, []any{taken.Kind, err}, []any{KindAnswered, nil})
+	hashes, err := other.Answer(taken.Ask)
+	see(t, []any{len(hashes), err}, []any{2, nil})
+	for _, each := range []struct {
+		frame []byte
+		err   error
+	}{{nil, TooShort}, {front[:len(front)-1], TooShort}, {append(front[:len(front):len(front)], 0), TooLong}, {framed([]byte{7}), BadSize}} {
+		_, err = other.TakeFrame(each.frame, false)
+		see(t, err, each.err)
 	}
 }
 

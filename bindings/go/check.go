@@ -41,12 +41,13 @@ func (check *Check) begun(session *Session, status C.btcheck_status) (*Check, er
 	return check, nil
 }
 
-// Close frees what the check has. Any later call but Close is refused.
-func (check *Check) Close() {
+// Close frees what the check has, and gives nil. Any later call but Close is refused.
+func (check *Check) Close() error {
 	C.btcheck_check_free(&check.handle)
 	check.torrent.release()
 	check.torrent = nil
 	runtime.SetFinalizer(check, nil)
+	return nil
 }
 
 // Push takes the next bytes. TooLong: fewer are still to come, and nothing was taken.

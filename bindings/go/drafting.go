@@ -44,10 +44,11 @@ func (draft *Draft) Finish() ([]byte, error) {
 	return []byte(torrent), err
 }
 
-// Close frees what it has. Any later call but Close is refused.
-func (draft *Draft) Close() {
+// Close frees what it has, and gives nil. Any later call but Close is refused.
+func (draft *Draft) Close() error {
 	C.btcheck_draft_free(&draft.handle)
 	runtime.SetFinalizer(draft, nil)
+	return nil
 }
 
 // DraftFile is a file for a draft, whose bytes come in parts of any size; an empty file needs none. It is an io.Writer.
@@ -85,8 +86,9 @@ func (file *DraftFile) ReadFrom(reader io.Reader) (int64, error) {
 	return pushAll(file.Push, reader)
 }
 
-// Close frees what it has. Any later call but Close is refused.
-func (file *DraftFile) Close() {
+// Close frees what it has, and gives nil. Any later call but Close is refused.
+func (file *DraftFile) Close() error {
 	C.btcheck_draft_file_free(&file.handle)
 	runtime.SetFinalizer(file, nil)
+	return nil
 }

@@ -115,7 +115,18 @@ func (session *Session) IsHybrid() (bool, error) {
 	return yesOrNo(C.btcheck_session_is_hybrid(&session.handle))
 }
 
-// InfoHashes gives SHA-256 (BEP 52) and SHA-1 (BEP 3) of the info dictionary.
+// InfoHashV1 gives the info-hash by which clients of version 1 know a hybrid; has is false of another torrent.
+func (session *Session) InfoHashV1() (v1 [20]byte, has bool, err error) {
+	has, err = session.IsHybrid()
+	if !has || err != nil {
+		return v1, false, err
+	}
+	_, v1, err = session.InfoHashes()
+	return v1, err == nil, err
+}
+
+// InfoHashes gives SHA-256 (BEP 52) and SHA-1 (BEP 3) of the info dictionary. A torrent that is no hybrid is known by the
+// first one alone.
 func (session *Session) InfoHashes() (v2 Hash, v1 [20]byte, err error) {
 	err = asError(C.btcheck_session_info_hashes(&session.handle, (*C.uint8_t)(unsafe.Pointer(&v2[0])),
 		(*C.uint8_t)(unsafe.Pointer(&v1[0]))))

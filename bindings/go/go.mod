@@ -1,3 +1,3 @@
-module btcheck
+module tanagernail.example/btcheck
 
 go 1.19

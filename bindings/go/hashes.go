@@ -20,6 +20,14 @@ func (ask *Ask) fields() *C.btcheck_ask {
 	return found
 }
 
+func askOf(fields *C.btcheck_ask) Ask {
+	ask := Ask{Base: uint32(fields.base), Index: uint32(fields.index), Length: uint32(fields.length), Proof: uint32(fields.proof)}
+	for at, each := range fields.root {
+		ask.Root[at] = byte(each)
+	}
+	return ask
+}
+
 // TakeHashes takes a hashes message, its uncles last, and gives how many places of the tree are newly known.
 func (session *Session) TakeHashes(ask Ask, hashes []Hash) (uint64, error) {
 	var places C.uint64_t
@@ -60,11 +68,33 @@ func (session *Session) Want(tree int, block uint64) (Ask, error) {
 	if err := asError(C.btcheck_session_want(&session.handle, C.size_t(tree), C.uint64_t(block), &fields)); err != nil {
 		return Ask{}, err
 	}
-	ask := Ask{Base: uint32(fields.base), Index: uint32(fields.index), Length: uint32(fields.length), Proof: uint32(fields.proof)}
-	for at, each := range fields.root {
-		ask.Root[at] = byte(each)
+	return askOf(&fields), nil
+}
+
+// WantNext is Want without an error where nothing is wanted: found is false if the leaf is known.
+func (session *Session) WantNext(tree int, block uint64) (ask Ask, found bool, err error) {
+	ask, err = session.Want(tree, block)
+	return ask, err == nil, unlessNothing(err)
+}
+
+// AnswerNext is Answer without an error where a request has to be rejected: found is false then.
+func (session *Session) AnswerNext(ask Ask) (hashes []Hash, found bool, err error) {
+	hashes, err = session.Answer(ask)
+	return hashes, err == nil, unlessNothing(err)
+}
+
+// ExportNext is Export without an error at the end: found is false if no leaf is known from the cursor on.
+func (session *Session) ExportNext(cursor *Cursor) (frame []byte, found bool, err error) {
+	frame, err = session.Export(cursor)
+	return frame, err == nil, unlessNothing(err)
+}
+
+// The error, but nil for Nothing.
+func unlessNothing(err error) error {
+	if err == Nothing {
+		return nil
 	}
-	return ask, nil
+	return err
 }
 
 // CanAnswer tells whether Answer would give hashes for a request.
@@ -76,8 +106,8 @@ func (session *Session) CanAnswer(ask Ask) (bool, error) {
 type Cursor struct{ tree, block uint64 }
 
 // Export gives the leaves that are known first from the cursor on, as the whole frame of a hashes message with the proof up
-// to the root, and moves the cursor behind them. Nothing: no leaf is known from there on. Frame of any session of the
-// torrent takes it without its first four bytes.
+// to the root, and moves the cursor behind them. Nothing: no leaf is known from there on. TakeFrame of any session of the
+// torrent takes it.
 func (session *Session) Export(cursor *Cursor) ([]byte, error) {
 	at := C.btcheck_cursor{tree: C.uint64_t(cursor.tree), block: C.uint64_t(cursor.block)}
 	room := make([]byte, C.BTCHECK_MOST_EXPORTED)

@@ -36,10 +36,11 @@ func NewHoldings(session *Session, bound int) (*Holdings, error) {
 	return holdings, nil
 }
 
-// Close frees what it has. Any later call but Close is refused.
-func (holdings *Holdings) Close() {
+// Close frees what it has, and gives nil. Any later call but Close is refused.
+func (holdings *Holdings) Close() error {
 	C.btcheck_holdings_free(&holdings.handle)
 	runtime.SetFinalizer(holdings, nil)
+	return nil
 }
 
 // LookAt says that hashes of a tree were taken: Settle looks at its held pieces.
@@ -62,15 +63,37 @@ func (session *Session) Hold(holdings *Holdings, index, begin uint32, content []
 	if err != nil {
 		return HeldBlocks{}, err
 	}
-	found := HeldBlocks{Blocks: blocksOf(&held.blocks)}
-	for _, run := range held.dropped[:held.blocks.count] {
+	return HeldBlocks{Blocks: blocksOf(&held.blocks), Dropped: droppedOf(held.dropped[:held.blocks.count])}, nil
+}
+
+func droppedOf(runs []C.btcheck_run) (found []*Run) {
+	for _, run := range runs {
 		var dropped *Run
 		if run.tree != C.UINT64_MAX {
 			dropped = &Run{uint64(run.tree), uint64(run.first), uint64(run.last)}
 		}
-		found.Dropped = append(found.Dropped, dropped)
+		found = append(found, dropped)
 	}
-	return found, nil
+	return found
+}
+
+// Settled is a run of blocks that were held: they are proved and marked now, or false and given up.
+type Settled struct {
+	Run      Run
+	IsProved bool
+}
+
+// SettleNext is Settle without errors for what is none: the run, whether it is proved, and whether there was one. NoMemory:
+// memory was refused for a piece, which stays held.
+func (session *Session) SettleNext(holdings *Holdings) (settled Settled, found bool, err error) {
+	run, err := session.Settle(holdings)
+	switch err {
+	case nil, BadPiece:
+		return Settled{Run: run, IsProved: err == nil}, true, nil
+	case Nothing:
+		return Settled{}, false, nil
+	}
+	return Settled{}, false, err
 }
 
 // Settle gives what became of held blocks, a run at a time: they are proved and marked, or, at BadPiece, false and given up.

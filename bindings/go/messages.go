@@ -34,6 +34,10 @@ func (session *Session) Frame(body []byte) (Verdict, error) {
 	if err := asError(C.btcheck_session_frame(&session.handle, pointer(body), C.size_t(len(body)), &seen)); err != nil {
 		return Verdict{}, err
 	}
+	return verdictOf(&seen), nil
+}
+
+func verdictOf(seen *C.btcheck_verdict) Verdict {
 	verdict := Verdict{Kind: Kind(seen.kind)}
 	switch verdict.Kind {
 	case KindStored:
@@ -43,5 +47,5 @@ func (session *Session) Frame(body []byte) (Verdict, error) {
 	case KindSkipped:
 		verdict.ID = uint32(seen.id)
 	}
-	return verdict, nil
+	return verdict
 }

@@ -69,10 +69,20 @@ func (root *Root) Finish() (length uint64, hash Hash, err error) {
 	return uint64(bytes), hash, err
 }
 
-// Close frees what it has. Any later call but Close is refused.
-func (root *Root) Close() {
+// Close frees what it has, and gives nil. Any later call but Close is refused.
+func (root *Root) Close() error {
 	C.btcheck_root_free(&root.handle)
 	runtime.SetFinalizer(root, nil)
+	return nil
+}
+
+// LengthAndRootOf gives length and root of a whole content, as Finish does. NoRoot: it is empty.
+func LengthAndRootOf(content []byte) (length uint64, hash Hash, err error) {
+	hash, err = RootOf(content)
+	if err != nil {
+		return 0, Hash{}, err
+	}
+	return uint64(len(content)), hash, nil
 }
 
 // RootOf gives the root of a whole content. NoRoot: it is empty.

@@ -51,12 +51,13 @@ func Open(content []byte, layers bool) (*Session, error) {
 	return session, nil
 }
 
-// Close frees what the session has; its checks go on. Any later call but Close is refused.
-func (session *Session) Close() {
+// Close frees what the session has, and gives nil; its checks go on. Any later call but Close is refused.
+func (session *Session) Close() error {
 	C.btcheck_session_free(&session.handle)
 	session.torrent.release()
 	session.torrent = nil
 	runtime.SetFinalizer(session, nil)
+	return nil
 }
 
 // Counts gives how many places of a tree are known, and how many of its blocks are marked as verified.

@@ -33,6 +33,13 @@ void says_what_the_torrent_says(btcheck::Session &session) {
   MUST(files.size() == 2 && files[1].path == "c" && files[1].first_piece == 1 && *files[0].tree == 0);
   MUST(session.tree_count() == 2 && session.name() == "pair" && session.is_hybrid());
   MUST(session.piece_length() == 2 * BTCHECK_BLOCK && session.pieces() == 2);
+  btcheck::Piece piece = session.piece(1);
+  MUST(piece.length == 3 && piece.file == 1 && piece.block == 0 && piece.offset == 0);
+  MUST(session.file_pieces(1) == std::make_pair(uint64_t{1}, uint64_t{1}));
+  btcheck::PieceRange range = session.map_file(0, BTCHECK_BLOCK, 9);
+  MUST(range.piece == 0 && range.begin == BTCHECK_BLOCK && range.length == 1);
+  MUST(session.file_counts(0) == std::make_pair(uint64_t{0}, uint64_t{2}) && session.bitfield() == btcheck::Bits{0});
+  MUST(refused([&] { session.piece(2); }) == BTCHECK_NO_SUCH && refused([&] { session.map_file(1, 3, 1); }) == BTCHECK_NO_SUCH);
   MUST(session.info_hashes().first[0] == 0x4d && btcheck::version() == BTCHECK_VERSION);
   MUST(refused([&] { session.file(2); }) == BTCHECK_NO_SUCH && refused([&] { session.path(2); }) == BTCHECK_NO_SUCH);
 }
@@ -78,6 +85,8 @@ void holds(btcheck::Session &session, const std::string &content) {
 void asks(btcheck::Session &session, const std::string &content) {
   std::optional<btcheck::Ask> ask = session.want(0, 1);
   MUST(ask && ask->length == 2 && !session.can_answer(*ask) && !session.answer(*ask));
+  std::string request = btcheck::request_frame(*ask), reject = btcheck::reject_frame(*ask);
+  MUST(request.size() == BTCHECK_ASK_FRAME && request[4] == 21 && reject[4] == 23 && session.answer_frame(*ask) == reject);
   std::vector<btcheck::Hash> leaves;
   for (size_t at = 0; at < content.size(); at += BTCHECK_BLOCK) {
     btcheck::Root root;
@@ -92,7 +101,37 @@ void asks(btcheck::Session &session, const std::string &content) {
   MUST(refused([&] { session.take_block(0, 0, std::string(BTCHECK_BLOCK, 'a')); }) == BTCHECK_P4_BAD_BLOCK);
   MUST(session.take_block(0, BTCHECK_BLOCK, content.substr(BTCHECK_BLOCK)).block == 1);
   MUST(session.take_blocks(0, 0, content).count == 2 && session.take_piece(0, content).block == 0);
+  MUST(session.file_counts(0).first == 2 && session.bitfield() == btcheck::Bits{0x80});
+  std::string answer = session.answer_frame(*ask);
+  MUST(answer.size() == 4 + 49 + 2 * 32 && answer[4] == 22 && answer.substr(5, 48) == request.substr(5));
   MUST(session.counts(0).second == 2 && session.frame(std::string()).kind == BTCHECK_KEEP_ALIVE);
+}
+
+// Frames as they came: the second block of a piece is held until the first one comes; what is asked for; and what is no frame.
+void frames(const std::string &torrent, const std::string &content) {
+  btcheck::Session session(torrent), other(torrent);
+  btcheck::Holdings holdings(session, 0);
+  auto frame = [](const std::string &body) {
+    return std::string{0, char(body.size() >> 16), char(body.size() >> 8), char(body.size())} + body;
+  };
+  std::string front = frame(std::string("\7\0\0\0\0\0\0\0\0", 9) + content.substr(0, BTCHECK_BLOCK));
+  std::string back = frame(std::string("\7\0\0\0\0\0\0\x40\0", 9) + content.substr(BTCHECK_BLOCK));
+  MUST(session.take_frame(back).verdict.blocks.statuses[0] == BTCHECK_P3_UNPROVED);
+  btcheck::Taken taken = session.hold_frame(holdings, back);
+  MUST(taken.verdict.kind == BTCHECK_BLOCKS && taken.verdict.blocks.statuses[0] == BTCHECK_HELD && taken.dropped[0].tree == UINT64_MAX);
+  MUST(!session.settle(holdings) && session.hold_frame(holdings, front).verdict.blocks.first == 0);
+  std::optional<btcheck::Settled> settled = session.settle(holdings);
+  MUST(settled && settled->is_proved && settled->run.first == 0 && settled->run.last == 1);
+  btcheck::Cursor cursor{};
+  std::string message = *session.export_leaves(cursor), request = message.substr(0, 4 + 49);
+  request[3] = 49, request[2] = 0, request[4] = 21;
+  MUST(other.take_frame(request).verdict.kind == BTCHECK_REJECTED);
+  MUST(refused([&] { other.take_frame(message, true); }) == BTCHECK_H8_UNASKED && other.take_frame(message).verdict.places == 2);
+  taken = other.hold_frame(holdings, request);
+  MUST(taken.verdict.kind == BTCHECK_ANSWERED && other.answer(taken.ask)->size() == 2);
+  MUST(refused([&] { other.take_frame(front.substr(0, front.size() - 1)); }) == BTCHECK_TOO_SHORT);
+  MUST(refused([&] { other.take_frame(front + "a"); }) == BTCHECK_TOO_LONG);
+  MUST(refused([&] { other.take_frame(frame("\7")); }) == BTCHECK_BAD_SIZE);
 }
 
 // What one session knows goes to another one, and a whole layer does.
@@ -125,6 +164,28 @@ void makes(const std::string &torrent, const std::string &content) {
   MUST(draft.finish() == torrent && draft.finish() == torrent);
 }
 
+// What is moved into another object frees what that held; calls that only read are const; a torrent is any bytes.
+void moves(const std::string &torrent, const std::string &content) {
+  btcheck::Session session(std::vector<uint8_t>(torrent.begin(), torrent.end())), other(torrent, false);
+  btcheck::Check check(other, 1);
+  check = btcheck::Check(session, 0);
+  other = std::move(session);
+  const btcheck::Session &seen = other;
+  MUST(seen.pieces() == 2 && seen.want(0, 1) && seen.info_hash_v1() == seen.info_hashes().second && seen.counts(0).first > 0);
+  MUST(refused([&] { session.pieces(); }) == BTCHECK_WRONG_HANDLE);
+  check.push(content);
+  MUST(!check.finish());
+  btcheck::Holdings holdings(seen, 1);
+  holdings = btcheck::Holdings(seen, 2);
+  std::vector<btcheck::Session> all;
+  all.push_back(std::move(other));
+  all.emplace_back(torrent);
+  all.erase(all.begin());
+  MUST(all[0].pieces() == 2 && btcheck::version_text() == "1.1.0");
+  btcheck::Root::Found found = btcheck::Root::of(content);
+  MUST(found.length == content.size() && found.hash == all[0].file(0).root);
+}
+
 // A refusal has its fault or its key, and so has its sentence.
 void explains() {
   try {
@@ -155,6 +216,9 @@ int main(int, char **words) {
   holds(session, content);
   asks(other, content);
   keeps(other, torrent);
+  frames(torrent, content);
   makes(torrent, content);
+  MUST(btcheck::create(std::filesystem::path(words[2]).parent_path(), "pair", 2 * BTCHECK_BLOCK, true) == torrent);
+  moves(torrent, content);
   explains();
 }

@@ -2,7 +2,6 @@
 package main
 
 import (
-	"btcheck"
 	"bytes"
 	"encoding/binary"
 	"errors"
@@ -12,6 +11,8 @@ import (
 	"net"
 	"os"
 	"strconv"
+
+	"tanagernail.example/btcheck"
 )
 
 // Ends the program at a fault of a file or of a connection.

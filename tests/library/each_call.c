@@ -104,6 +104,63 @@ static void keeps(btcheck_session *session, const uint8_t (*leaves)[32]) {
   btcheck_session_free(&other);
 }
 
+/* The frames of a request, of a reject and of an answer, as another session takes them. */
+static void written_frames(btcheck_session *session, const btcheck_ask *ask) {
+  static uint8_t room[4 + 49 + 8 * 32 + 1], request[BTCHECK_ASK_FRAME], reject[BTCHECK_ASK_FRAME];
+  static btcheck_verdict verdict;
+  btcheck_session other = BTCHECK_INIT;
+  uint64_t length;
+  WANT(btcheck_session_open(&other, torrent, len, false), BTCHECK_OK);
+  btcheck_request_frame(ask, request);
+  btcheck_reject_frame(ask, reject);
+  CHECK(!memcmp(request, "\0\0\0\61\25", 5) && !memcmp(reject, "\0\0\0\61\27", 5) && !memcmp(request + 5, reject + 5, 48));
+  WANT(btcheck_session_frame(session, request + 4, sizeof request - 4, &verdict), BTCHECK_OK);
+  CHECK(verdict.kind == BTCHECK_ANSWERED);
+  WANT(btcheck_session_frame(&other, reject + 4, sizeof reject - 4, &verdict), BTCHECK_OK);
+  CHECK(verdict.kind == BTCHECK_REJECT_NOTED);
+  memset(room, 1, sizeof room);
+  WANT(btcheck_session_answer_frame(session, ask, room, sizeof room - 2, &length), BTCHECK_TOO_SMALL);
+  CHECK(length == sizeof room - 1 && room[0] == 1);
+  WANT(btcheck_session_answer_frame(&other, ask, room, sizeof reject - 1, &length), BTCHECK_TOO_SMALL);
+  CHECK(length == sizeof reject && room[0] == 1);
+  WANT(btcheck_session_answer_frame(&other, ask, room, sizeof room, &length), BTCHECK_NOTHING);
+  CHECK(length == sizeof reject && !memcmp(room, reject, sizeof reject) && room[length] == 1);
+  WANT(btcheck_session_answer_frame(session, ask, room, sizeof room, &length), BTCHECK_OK);
+  CHECK(length == sizeof room - 1 && room[length] == 1);
+  WANT(btcheck_session_frame(&other, room + 4, length - 4, &verdict), BTCHECK_OK);
+  CHECK(verdict.kind == BTCHECK_STORED);
+  btcheck_session_free(&other);
+}
+
+/* Where the pieces of the first file lie, and which of them are whole; each of two blocks. */
+static void places(btcheck_session *session, uint64_t whole) {
+  static uint8_t room[64];
+  btcheck_piece piece;
+  btcheck_piece_range range;
+  uint64_t first, count, marked, blocks, pieces, length;
+  WANT(btcheck_session_pieces(session, &pieces), BTCHECK_OK);
+  WANT(btcheck_session_file_pieces(session, 0, &first, &count), BTCHECK_OK);
+  CHECK(first == 0 && count == (size + 2 * BTCHECK_BLOCK - 1) / (2 * BTCHECK_BLOCK));
+  WANT(btcheck_session_file_pieces(session, SIZE_MAX, &first, &count), BTCHECK_NO_SUCH);
+  WANT(btcheck_session_piece(session, (uint32_t)count - 1, &piece), BTCHECK_OK);
+  CHECK(piece.file == 0 && piece.block == 2 * count - 2 && piece.offset == piece.block * BTCHECK_BLOCK && piece.length == size - piece.offset);
+  WANT(btcheck_session_piece(session, (uint32_t)pieces, &piece), BTCHECK_NO_SUCH);
+  WANT(btcheck_session_piece(session, UINT32_MAX, &piece), BTCHECK_NO_SUCH);
+  WANT(btcheck_session_map_file(session, 0, size - 1, UINT64_MAX, &range), BTCHECK_OK);
+  CHECK(range.piece == count - 1 && range.begin == (size - 1) % (2 * BTCHECK_BLOCK) && range.length == 1);
+  WANT(btcheck_session_map_file(session, 0, size, 0, &range), BTCHECK_NO_SUCH);
+  WANT(btcheck_session_map_file(session, 0, UINT64_MAX, UINT64_MAX, &range), BTCHECK_NO_SUCH);
+  WANT(btcheck_session_map_file(session, SIZE_MAX, 0, 1, &range), BTCHECK_NO_SUCH);
+  WANT(btcheck_session_file_counts(session, 0, &marked, &blocks), BTCHECK_OK);
+  CHECK(marked == 2 * whole && blocks == (size + BTCHECK_BLOCK - 1) / BTCHECK_BLOCK);
+  WANT(btcheck_session_file_counts(session, SIZE_MAX, &marked, &blocks), BTCHECK_NO_SUCH);
+  memset(room, 1, sizeof room);
+  WANT(btcheck_session_bitfield(session, room, 0, &length), BTCHECK_TOO_SMALL);
+  CHECK(length == (pieces + 7) / 8 && room[0] == 1);
+  WANT(btcheck_session_bitfield(session, room, sizeof room, &length), BTCHECK_OK);
+  CHECK(length == (pieces + 7) / 8 && room[0] == (whole ? 0x80 : 0) && room[length] == 1);
+}
+
 /* Hashes and blocks of the first file, false ones first. */
 static void messages(btcheck_session *session, const btcheck_file *file) {
   static uint8_t leaves[8][32], room[16][32];
@@ -111,6 +168,7 @@ static void messages(btcheck_session *session, const btcheck_file *file) {
   btcheck_ask ask = {{0}, 0, 0, 8, 0};
   uint64_t one, other;
   leaves_of(leaves);
+  places(session, 0);
   memcpy(ask.root, file->root, 32);
   WANT(btcheck_session_take_hashes(session, ask.root, 0, 1, 8, 0, (const uint8_t(*)[32])leaves, 8, &one), BTCHECK_H2_BAD_RANGE);
   leaves[0][0] ^= 1;
@@ -130,6 +188,8 @@ static void messages(btcheck_session *session, const btcheck_file *file) {
   WANT(btcheck_session_take_blocks(session, 77, 0, content, BTCHECK_BLOCK, &blocks), BTCHECK_P1_BAD_PLACE);
   WANT(btcheck_session_take_piece(session, 0, content + 1, 2 * BTCHECK_BLOCK, &one, &other), BTCHECK_P4_BAD_BLOCK);
   WANT(btcheck_session_take_piece(session, 0, content, 2 * BTCHECK_BLOCK, &one, &other), BTCHECK_OK);
+  places(session, 1);
+  written_frames(session, &ask);
   keeps(session, (const uint8_t(*)[32])leaves);
 }
 
@@ -158,6 +218,42 @@ static void holds(void) {
   WANT(btcheck_session_settle(&session, &holdings, &run), BTCHECK_OK);
   CHECK(run.tree == 0 && run.first == 0 && run.last == 1);
   WANT(btcheck_session_is_marked(&session, 0, 1), BTCHECK_OK);
+  btcheck_holdings_free(&holdings);
+  btcheck_session_free(&session);
+}
+
+/* Whole frames: bytes that are none, and the two blocks of the first piece, which are proved when both are held. */
+static void frames(void) {
+  static const uint8_t keep_alive[5] = {0}, skipped[] = {0, 0, 0, 3, 4, 0, 0}, bad_piece[] = {0, 0, 0, 3, 7, 0, 0};
+  static uint8_t frame[13 + BTCHECK_BLOCK] = {0, 0, 0x40, 9, 7};
+  static btcheck_taken taken;
+  btcheck_session session = BTCHECK_INIT;
+  btcheck_holdings holdings = BTCHECK_INIT;
+  btcheck_run run;
+  WANT(btcheck_session_open(&session, torrent, len, true), BTCHECK_OK);
+  WANT(btcheck_holdings_new(&holdings, &session, 0), BTCHECK_OK);
+  WANT(btcheck_session_take_frame(&session, keep_alive, 3, false, &taken), BTCHECK_TOO_SHORT);
+  WANT(btcheck_session_take_frame(&session, keep_alive, 5, false, &taken), BTCHECK_TOO_LONG);
+  WANT(btcheck_session_take_frame(&session, bad_piece, 7, true, &taken), BTCHECK_BAD_SIZE);
+  WANT(btcheck_session_hold_frame(&session, &holdings, bad_piece, 6, true, &taken), BTCHECK_TOO_SHORT);
+  WANT(btcheck_session_hold_frame(&session, &holdings, bad_piece, 7, true, &taken), BTCHECK_BAD_SIZE);
+  CHECK(taken.verdict.kind == 0);
+  WANT(btcheck_session_hold_frame(&session, &holdings, keep_alive, 4, true, &taken), BTCHECK_OK);
+  CHECK(taken.verdict.kind == BTCHECK_KEEP_ALIVE && taken.verdict.blocks.count == 0);
+  WANT(btcheck_session_take_frame(&session, skipped, 7, true, &taken), BTCHECK_OK);
+  CHECK(taken.verdict.kind == BTCHECK_SKIPPED && taken.verdict.id == 4);
+  for (unsigned block = 0; block < 2; block++) {
+    frame[11] = (uint8_t)(0x40 * block);
+    memcpy(frame + 13, content + block * BTCHECK_BLOCK, BTCHECK_BLOCK);
+    WANT(btcheck_session_take_frame(&session, frame, sizeof frame, true, &taken), BTCHECK_OK);
+    CHECK(taken.verdict.kind == BTCHECK_BLOCKS && taken.verdict.blocks.statuses[0] == BTCHECK_P3_UNPROVED);
+    WANT(btcheck_session_hold_frame(&session, &holdings, frame, sizeof frame, true, &taken), BTCHECK_OK);
+    CHECK(taken.verdict.blocks.first == block && taken.verdict.blocks.statuses[0] == BTCHECK_HELD && taken.dropped[0].tree == UINT64_MAX);
+    WANT(btcheck_session_settle(&session, &holdings, &run), block ? BTCHECK_OK : BTCHECK_NOTHING);
+  }
+  CHECK(run.tree == 0 && run.first == 0 && run.last == 1);
+  frame[8] = 77;
+  WANT(btcheck_session_hold_frame(&session, &holdings, frame, sizeof frame, true, &taken), BTCHECK_P1_BAD_PLACE);
   btcheck_holdings_free(&holdings);
   btcheck_session_free(&session);
 }
@@ -238,7 +334,7 @@ static void *calls(void *is_first) {
   if (btcheck_session_want(&session, 0, 0, &ask) == BTCHECK_OK) WANT(btcheck_session_can_answer(&session, &ask), BTCHECK_NOTHING);
   WANT(btcheck_session_frame(&session, (const uint8_t *)"\4\0\0", 3, &verdict), BTCHECK_OK);
   WANT(btcheck_session_frame(&session, (const uint8_t *)"\7\0\0", 3, &verdict), BTCHECK_BAD_SIZE);
-  if (is_first) checks(&session), any_parts(&session, file.root), messages(&session, &file), holds(), drafts(false), drafts(true);
+  if (is_first) checks(&session), any_parts(&session, file.root), messages(&session, &file), holds(), frames(), drafts(false), drafts(true);
   btcheck_session_free(&session);
   return is_first;
 }

@@ -7,9 +7,12 @@
 
 static btcheck_ask ask;
 static btcheck_file file;
+static btcheck_piece piece;
+static btcheck_piece_range range;
 static btcheck_blocks blocks;
 static btcheck_verdict verdict;
 static btcheck_held held;
+static btcheck_taken taken;
 static btcheck_run run;
 static btcheck_cursor cursor;
 static btcheck_refusal refusal;
@@ -36,13 +39,20 @@ static void want_of_session(btcheck_session *session, btcheck_status status) {
   WANT(btcheck_session_piece_length(session, &one), status);
   WANT(btcheck_session_pieces(session, &one), status);
   WANT(btcheck_session_is_hybrid(session), status);
+  WANT(btcheck_session_piece(session, 0, &piece), status);
+  WANT(btcheck_session_file_pieces(session, 0, &one, &other), status);
+  WANT(btcheck_session_map_file(session, 0, 0, 1, &range), status);
+  WANT(btcheck_session_file_counts(session, 0, &one, &other), status);
+  WANT(btcheck_session_bitfield(session, hash[0], 32, &one), status);
+  WANT(btcheck_session_answer_frame(session, &ask, hash[0], 32, &one), status);
   WANT(btcheck_session_take_blocks(session, 0, 0, hash[0], 32, &blocks), status);
   WANT(btcheck_session_take_piece(session, 0, hash[0], 32, &one, &other), status);
   WANT(btcheck_session_frame(session, hash[0], 32, &verdict), status);
+  WANT(btcheck_session_take_frame(session, hash[0], 4, false, &taken), status);
   WANT(btcheck_session_export(session, &cursor, hash[0], 32, &one), status);
   WANT(btcheck_session_fill(session, 0, 0, (const uint8_t(*)[32])hash, 1, &one), status);
-  CHECK(one == 7 && other == 7 && ask.length == 0 && file.length == 0 && blocks.count == 0 && verdict.kind == 0);
-  CHECK(hash[0][0] == 0 && small[0] == 0);
+  CHECK(one == 7 && other == 7 && ask.length == 0 && file.length == 0 && blocks.count == 0 && verdict.kind == 0 && taken.verdict.kind == 0);
+  CHECK(hash[0][0] == 0 && small[0] == 0 && piece.length == 0 && range.length == 0);
 }
 
 /* Every call on a check but new. */
@@ -61,8 +71,9 @@ static void want_of_holdings(btcheck_session *session, btcheck_holdings *holding
   WANT(btcheck_session_held(holdings, &one), alone);
   WANT(btcheck_holdings_look_at(holdings, 0), alone);
   WANT(btcheck_session_hold(session, holdings, 0, 0, hash[0], 32, &held), both);
+  WANT(btcheck_session_hold_frame(session, holdings, hash[0], 4, false, &taken), both);
   WANT(btcheck_session_settle(session, holdings, &run), both);
-  CHECK((one == 7) == (alone != BTCHECK_OK) && held.blocks.count == 0 && run.last == 0);
+  CHECK((one == 7) == (alone != BTCHECK_OK) && held.blocks.count == 0 && taken.verdict.kind == 0 && run.last == 0);
 }
 
 /* Every call on a builder but new. */

@@ -16,10 +16,11 @@ void *__wrap_realloc(void *block, size_t size);
 #endif
 
 static long left = -1; /* how many blocks may still be had; -1: any number */
+static bool asked;     /* whether the last call asked for a block that it did not get */
 
 static bool is_refused(void) {
   if (left > 0) left--;
-  else if (left == 0) return true;
+  else if (left == 0) return asked = true;
   return false;
 }
 
@@ -28,9 +29,16 @@ void *__wrap_malloc(size_t size) { return is_refused() ? NULL : __real_malloc(si
 void *__wrap_realloc(void *block, size_t size) { return is_refused() ? NULL : __real_realloc(block, size); }
 
 /* The status of a call that has `blocks` blocks of memory and no more. */
-#define WITH(blocks, call) (left = (blocks), status = (call), left = -1, status)
+#define WITH(blocks, call) (left = (blocks), asked = false, status = (call), left = -1, status)
 
-static uint8_t torrent[1 << 20], hashes[9][32], room[8][32], body[1 + 32 + 16 + 8 * 32];
+/* A call asks for no memory. */
+#define WANT_FREE(call)              \
+  do {                               \
+    WANT(WITH(0, call), BTCHECK_OK); \
+    CHECK(!asked);                   \
+  } while (0)
+
+static uint8_t torrent[1 << 20], hashes[9][32], room[8][32], whole[4 + 1 + 32 + 16 + 8 * 32], *const body = whole + 4;
 static size_t len;
 static btcheck_session session = BTCHECK_INIT;
 
@@ -58,8 +66,10 @@ static void reopen(void) {
     refused = 0;                                                              \
   } while (0)
 
-/* The body of a hashes message: its id, its root, four numbers of 32 bits, and the hashes. */
+/* The frame of a hashes message: its length, and the body, which is its id, its root, four numbers of 32 bits, and the hashes. */
 static void lay_out(void) {
+  whole[2] = (sizeof whole - 4) >> 8;
+  whole[3] = (sizeof whole - 4) & 255;
   body[0] = 22;
   memcpy(body + 1, hashes[0], 32);
   body[1 + 32 + 11] = 8;
@@ -124,6 +134,7 @@ int main(int argc, char **argv) {
   btcheck_root root = BTCHECK_INIT;
   btcheck_check check = BTCHECK_INIT;
   btcheck_verdict verdict;
+  static btcheck_taken taken;
   uint64_t count = 7, known = 0, marked = 0;
   btcheck_status status;
   unsigned refused = 0, of_torrent = 0, of_session = 0;
@@ -135,9 +146,9 @@ int main(int argc, char **argv) {
   }
   CHECK(refused == 2);
   refused = 0;
-  WANT(WITH(0, btcheck_root_push(&root, torrent, 1)), BTCHECK_OK);
-  WANT(WITH(0, btcheck_root_push(&root, torrent, sizeof torrent)), BTCHECK_OK);
-  WANT(WITH(0, btcheck_root_finish(&root, &count, room[0])), BTCHECK_OK);
+  WANT_FREE(btcheck_root_push(&root, torrent, 1));
+  WANT_FREE(btcheck_root_push(&root, torrent, sizeof torrent));
+  WANT_FREE(btcheck_root_finish(&root, &count, room[0]));
   CHECK(count == 1 + sizeof torrent);
   count = 7;
   btcheck_root_free(&root);
@@ -161,7 +172,7 @@ int main(int argc, char **argv) {
   CHECK(refused == 2);
   refused = 0;
   WANT(WITH(0, btcheck_check_new_pieces(&check, &session, 0, 0, 1)), BTCHECK_WRONG_HANDLE);
-  WANT(WITH(0, btcheck_check_push(&check, hashes[0], 1)), BTCHECK_OK);
+  WANT_FREE(btcheck_check_push(&check, hashes[0], 1));
   WANT(WITH(0, btcheck_check_finish_bits(&check, &known, room[0], 1)), BTCHECK_TOO_SHORT);
   known = 0;
   btcheck_check_free(&check);
@@ -169,8 +180,11 @@ int main(int argc, char **argv) {
   WANT_EACH(btcheck_session_take_hashes(&session, ask.root, 0, 0, 8, 0, given, 8, &count), BTCHECK_H7_NO_MEMORY);
   CHECK(count == 14);
   reopen();
-  WANT_EACH(btcheck_session_frame(&session, body, sizeof body, &verdict), BTCHECK_H7_NO_MEMORY);
+  WANT_EACH(btcheck_session_frame(&session, body, sizeof whole - 4, &verdict), BTCHECK_H7_NO_MEMORY);
   CHECK(verdict.kind == BTCHECK_STORED && verdict.places == 14);
+  reopen();
+  WANT_EACH(btcheck_session_take_frame(&session, whole, sizeof whole, false, &taken), BTCHECK_H7_NO_MEMORY);
+  CHECK(taken.verdict.kind == BTCHECK_STORED && taken.verdict.places == 14 && taken.ask.length == 8);
   reopen();
   count = 7;
   WANT_EACH(btcheck_session_note(&session, &ask), BTCHECK_NO_MEMORY);
@@ -182,6 +196,12 @@ int main(int argc, char **argv) {
   CHECK(count == 7);
   WANT(btcheck_session_answer(&session, &ask, room, 8, &count), BTCHECK_OK);
   CHECK(count == 8 && !memcmp(room, hashes + 1, sizeof room));
+  static uint8_t answer[sizeof whole];
+  count = 7;
+  WANT(WITH(0, btcheck_session_answer_frame(&session, &ask, answer, sizeof answer, &count)), BTCHECK_NO_MEMORY);
+  CHECK(count == 7 && answer[4] == 0);
+  WANT(btcheck_session_answer_frame(&session, &ask, answer, sizeof answer, &count), BTCHECK_OK);
+  CHECK(count == sizeof answer && !memcmp(answer, whole, sizeof whole));
 
   /* What is exported, and a whole layer. */
   static uint8_t frame[BTCHECK_MOST_EXPORTED];
@@ -191,7 +211,7 @@ int main(int argc, char **argv) {
   WANT(WITH(0, btcheck_session_export(&session, &cursor, frame, sizeof frame, &count)), BTCHECK_NO_MEMORY);
   CHECK(count == 7 && cursor.block == 0 && frame[4] == 0);
   WANT(btcheck_session_export(&session, &cursor, frame, sizeof frame, &count), BTCHECK_OK);
-  CHECK(count == 4 + sizeof body && !memcmp(frame + 4 + 49, hashes + 1, sizeof room) && cursor.block == 8);
+  CHECK(count == sizeof whole && !memcmp(frame + 4 + 49, hashes + 1, sizeof room) && cursor.block == 8);
   WANT(WITH(0, btcheck_session_export(&session, &cursor, frame, sizeof frame, &count)), BTCHECK_NOTHING);
   WANT(btcheck_session_file(&session, 0, &first), BTCHECK_OK);
   reopen();
@@ -219,8 +239,9 @@ int main(int argc, char **argv) {
   WANT(WITH(0, btcheck_session_settle(&session, &holdings, &run)), BTCHECK_NOTHING);
   WANT(WITH(0, btcheck_session_held(&holdings, &count)), BTCHECK_OK);
   CHECK(count == 2);
-  WANT(btcheck_session_take_hashes(&session, ask.root, 0, 0, 8, 0, given, 8, &count), BTCHECK_OK);
-  WANT(WITH(0, btcheck_holdings_look_at(&holdings, 0)), BTCHECK_OK);
+  taken.verdict.kind = 0;
+  WANT_EACH(btcheck_session_hold_frame(&session, &holdings, whole, sizeof whole, false, &taken), BTCHECK_H7_NO_MEMORY);
+  CHECK(taken.verdict.kind == BTCHECK_STORED && taken.verdict.places == 14);
   for (int block = 0; block < 2; block++) {
     WANT(WITH(0, btcheck_session_settle(&session, &holdings, &run)), BTCHECK_BAD_PIECE);
     CHECK(run.first == (uint64_t)block && run.last == (uint64_t)block);
@@ -230,15 +251,15 @@ int main(int argc, char **argv) {
 
   /* These take no memory. */
   btcheck_file file;
-  WANT(WITH(0, btcheck_session_can_answer(&session, &ask)), BTCHECK_OK);
+  WANT_FREE(btcheck_session_can_answer(&session, &ask));
   WANT(WITH(0, btcheck_session_want(&session, 0, 0, &ask)), BTCHECK_NOTHING);
   WANT(WITH(0, btcheck_session_is_marked(&session, 0, 0)), BTCHECK_NOTHING);
   WANT(WITH(0, btcheck_session_take_block(&session, 0, 0, body, 1, &known, &marked)), BTCHECK_P2_BAD_SIZE);
-  WANT(WITH(0, btcheck_session_file(&session, 0, &file)), BTCHECK_OK);
-  WANT(WITH(0, btcheck_session_path(&session, 0, body, sizeof body, &count)), BTCHECK_OK);
-  WANT(WITH(0, btcheck_session_name(&session, body, sizeof body, &count)), BTCHECK_OK);
-  WANT(WITH(0, btcheck_session_piece_length(&session, &count)), BTCHECK_OK);
-  WANT(WITH(0, btcheck_session_pieces(&session, &count)), BTCHECK_OK);
+  WANT_FREE(btcheck_session_file(&session, 0, &file));
+  WANT_FREE(btcheck_session_path(&session, 0, body, sizeof whole - 4, &count));
+  WANT_FREE(btcheck_session_name(&session, body, sizeof whole - 4, &count));
+  WANT_FREE(btcheck_session_piece_length(&session, &count));
+  WANT_FREE(btcheck_session_pieces(&session, &count));
   WANT(WITH(0, btcheck_session_is_hybrid(&session)), BTCHECK_NOTHING);
   btcheck_session_free(&session);
   return 0;

@@ -1,23 +1,14 @@
 /* Replays a record of form 1 through the C library, and prints what `btcheck replay` prints. A piece message is one block; with
    --pieces it may be several, at most BOUND blocks are held, and all is printed that `replay --pieces` prints.
    usage: replay [--info-only] [--pieces BOUND] TORRENT RECORD */
-#include "btcheck.h"
+#include "printed.h"
 
-#include <stdio.h>
-#include <stdlib.h>
 #include <string.h>
 
 enum { PIECE = 7, REQUEST = 21, HASHES = 22, REJECT = 23 };
 
-static const char *const hash_refusals[] = {"", "UnknownRoot", "BadRange", "BadCount", "BadPad", "Unanchored", "Mismatch", "NoMemory", "Unasked"};
-static const char *const block_refusals[] = {"", "BadPlace", "BadSize", "Unproved", "BadBlock"};
-
 static btcheck_holdings holdings = BTCHECK_INIT;
 static bool holds;
-
-static uint32_t number_at(const uint8_t *at) {
-  return (uint32_t)at[0] << 24 | (uint32_t)at[1] << 16 | (uint32_t)at[2] << 8 | at[3];
-}
 
 static uint8_t *whole_file(const char *path, size_t *len) {
   FILE *file = fopen(path, "rb");
@@ -41,8 +32,7 @@ static bool take_block(btcheck_session *session, const uint8_t *body, size_t len
     printf("%lu verified %llu %llu\n", frame, (unsigned long long)file, (unsigned long long)block);
     return true;
   }
-  printf("%lu refused P%u %s\n", frame, (unsigned)status - 300, block_refusals[status - 300]);
-  return false;
+  return print_refusal(frame, status);
 }
 
 static bool take_hashes(btcheck_session *session, const uint8_t *body, size_t len, unsigned long frame) {
@@ -57,62 +47,16 @@ static bool take_hashes(btcheck_session *session, const uint8_t *body, size_t le
     printf("%lu stored %llu\n", frame, (unsigned long long)places);
     return true;
   }
-  printf("%lu refused H%u %s\n", frame, (unsigned)status - 200, hash_refusals[status - 200]);
-  return false;
-}
-
-/* The file that is named for a tree: the one at hand if it has that tree, or the first that has it. */
-static unsigned long long file_of(btcheck_session *session, uint64_t tree, uint64_t near) {
-  btcheck_file file;
-  if (near != UINT64_MAX && btcheck_session_file(session, near, &file) == BTCHECK_OK && file.tree == tree) return near;
-  for (size_t number = 0; btcheck_session_file(session, number, &file) == BTCHECK_OK; number++)
-    if (file.tree == tree) return number;
-  return UINT64_MAX;
-}
-
-static void print_run(btcheck_session *session, unsigned long frame, const char *word, const btcheck_run *run, uint64_t near) {
-  printf("%lu %s %llu %llu %llu\n", frame, word, file_of(session, run->tree, near), (unsigned long long)run->first,
-         (unsigned long long)run->last);
-}
-
-/* Prints what is settled, and tells whether nothing of it was false. */
-static bool settle(btcheck_session *session, unsigned long frame, uint64_t near) {
-  btcheck_run run;
-  bool all = true;
-  for (btcheck_status status; (status = btcheck_session_settle(session, &holdings, &run)) != BTCHECK_NOTHING;) {
-    if (status != BTCHECK_OK && status != BTCHECK_BAD_PIECE) exit(2);
-    print_run(session, frame, status == BTCHECK_OK ? "proved" : "false", &run, near);
-    all = all && status == BTCHECK_OK;
-  }
-  return all;
+  return print_refusal(frame, status);
 }
 
 static bool hold(btcheck_session *session, const uint8_t *body, size_t len, unsigned long frame) {
   static btcheck_held held;
-  bool all = true;
   btcheck_status status =
       btcheck_session_hold(session, &holdings, number_at(body + 1), number_at(body + 5), body + 9, len - 9, &held);
-  if (status != BTCHECK_OK) {
-    printf("%lu refused P%u %s\n", frame, (unsigned)status - 300, block_refusals[status - 300]);
-    return false;
-  }
-  const btcheck_blocks *blocks = &held.blocks;
-  for (unsigned entry = 0; entry < blocks->count; entry++) {
-    unsigned long long file = blocks->file, block = blocks->first + entry;
-    status = blocks->statuses[entry];
-    if (held.dropped[entry].tree != UINT64_MAX) print_run(session, frame, "dropped", &held.dropped[entry], file), all = false;
-    if (status == BTCHECK_OK) {
-      printf("%lu verified %llu %llu\n", frame, file, block);
-    } else if (status == BTCHECK_HELD) {
-      printf("%lu held %llu %llu\n", frame, file, block);
-    } else {
-      printf("%lu refused P%u %s", frame, (unsigned)status - 300, block_refusals[status - 300]);
-      if (blocks->count > 1) printf(" %llu %llu", file, block);
-      puts("");
-      all = false;
-    }
-  }
-  return settle(session, frame, blocks->file) && all;
+  if (status != BTCHECK_OK) return print_refusal(frame, status);
+  bool all = print_blocks(session, frame, &held.blocks, held.dropped);
+  return print_settled(session, &holdings, frame, held.blocks.file) && all;
 }
 
 /* What hashes make provable, after they were taken. */
@@ -121,7 +65,7 @@ static bool settle_tree(btcheck_session *session, const uint8_t root[32], unsign
   for (size_t number = 0; btcheck_session_file(session, number, &file) == BTCHECK_OK; number++) {
     if (file.tree == UINT64_MAX || memcmp(file.root, root, 32)) continue;
     if (btcheck_holdings_look_at(&holdings, file.tree) != BTCHECK_OK) exit(2);
-    return settle(session, frame, UINT64_MAX);
+    return print_settled(session, &holdings, frame, UINT64_MAX);
   }
   return true;
 }

@@ -46,9 +46,15 @@ static void note(set *s) {
   btcheck_run run;
   WANT(btcheck_session_hold(&s->session, &s->holdings, 0, 0, content, BTCHECK_BLOCK, &held), BTCHECK_OK);
   WANT(btcheck_session_settle(&s->session, &s->holdings, &run), BTCHECK_NOTHING);
+  static const uint8_t keep_alive[4] = {0};
+  btcheck_taken taken;
+  WANT(btcheck_session_take_frame(&s->session, keep_alive, 4, true, &taken), BTCHECK_OK);
+  WANT(btcheck_session_hold_frame(&s->session, &s->holdings, keep_alive, 4, true, &taken), BTCHECK_OK);
   uint8_t room[BTCHECK_MOST_EXPORTED];
   uint64_t length;
   btcheck_cursor cursor = {0, 0};
+  WANT(btcheck_session_bitfield(&s->session, room, sizeof room, &length), BTCHECK_OK);
+  WANT(btcheck_session_answer_frame(&s->session, &ask, room, sizeof room, &length), BTCHECK_NOTHING);
   WANT(btcheck_session_export(&s->session, &cursor, room, sizeof room, &length), BTCHECK_NOTHING);
   WANT(btcheck_session_fill(&s->session, 0, 0, (const uint8_t(*)[32])ask.root, 1, &length), BTCHECK_H3_BAD_COUNT);
 }

@@ -1,19 +1,21 @@
 """A build backend of the standard library alone (PEP 517), so that `pip install ./bindings/python` needs no network.
 
-The package is pure Python: a wheel is its files and three lists (PEP 427). Times are fixed, so that the same files give
-the same wheel.
+A wheel is the package's files and three lists (PEP 427). If the C library is built, by `make lib` or as the variable
+LIBBTCHECK names it, a wheel has it beside them, for this kind of processor; else it is pure Python. Times are fixed, so
+that the same files give the same wheel.
 """
 import base64
 import hashlib
 import io
 import os
+import sysconfig
 import tarfile
 import zipfile
 
 NAME = "btcheck"
 FILES = [f"btcheck/{name}" for name in sorted(os.listdir("btcheck")) if name.endswith((".py", ".typed"))]
 SOURCES = [*FILES, "README.md", "pyproject.toml", "backend/wheels.py"]
-WHEEL = "Wheel-Version: 1.0\nGenerator: btcheck\nRoot-Is-Purelib: true\nTag: py3-none-any\n"
+LIBRARY = os.environ.get("LIBBTCHECK") or "../../build/lib/libbtcheck.so.1"
 
 
 def content_of(path):
@@ -48,10 +50,15 @@ def record(files):
 def build_wheel(wheel_directory, config_settings=None, metadata_directory=None):
     info = f"{NAME}-{field('version')}.dist-info"
     files = {path: content_of(path) for path in FILES}
+    tag = "py3-none-any"
+    if os.path.exists(LIBRARY):
+        tag = "py3-none-" + sysconfig.get_platform().replace("-", "_").replace(".", "_")
+        files[f"{NAME}/libbtcheck.so.1"] = content_of(LIBRARY)
+    is_pure = "true" if tag.endswith("any") else "false"
     files[f"{info}/METADATA"] = metadata().encode()
-    files[f"{info}/WHEEL"] = WHEEL.encode()
+    files[f"{info}/WHEEL"] = f"Wheel-Version: 1.0\nGenerator: btcheck\nRoot-Is-Purelib: {is_pure}\nTag: {tag}\n".encode()
     files[f"{info}/RECORD"] = (record(files) + f"{info}/RECORD,,\n").encode()
-    name = f"{NAME}-{field('version')}-py3-none-any.whl"
+    name = f"{NAME}-{field('version')}-{tag}.whl"
     with zipfile.ZipFile(os.path.join(wheel_directory, name), "w", zipfile.ZIP_DEFLATED) as wheel:
         for path, content in files.items():
             entry = zipfile.ZipInfo(path)

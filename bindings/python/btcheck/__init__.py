@@ -19,16 +19,17 @@ from ._refusals import (
     TorrentPathClash, H1UnknownRoot, H2BadRange, H3BadCount, H4BadPad, H5Unanchored, H6Mismatch, H7NoMemory, H8Unasked,
     P1BadPlace, P2BadSize, P3Unproved, P4BadBlock,
 )
-from ._session import Holdings, Session
+from ._session import Holdings, Session, reject_frame, request_frame
 from ._values import (
-    Answered, Ask, Blocks, File, HeldBlocks, KeepAlive, Rejected, RejectNoted, Run, Settled, Skipped, Stored, Verdict,
+    Answered, Ask, Blocks, File, HeldBlocks, KeepAlive, Piece, PieceRange, Rejected, RejectNoted, Run, Settled, Skipped, Stored,
+    Taken, Verdict,
 )
 
-__version__ = "1.0.0"
+__version__ = "1.1.0.dev0"
 
 __all__ = [
-    "BLOCK", "HASH", "version", "create", "Root", "Session", "Holdings", "Check", "Pieces", "Draft", "DraftFile", "Ask",
-    "File", "Verdict", "Stored", "Blocks", "HeldBlocks", "Run", "Settled",
+    "BLOCK", "HASH", "version", "create", "request_frame", "reject_frame", "Root", "Session", "Holdings", "Check", "Pieces", "Draft",
+    "DraftFile", "Ask", "File", "Piece", "PieceRange", "Verdict", "Taken", "Stored", "Blocks", "HeldBlocks", "Run", "Settled",
     "Answered", "Rejected", "RejectNoted", "KeepAlive", "Skipped", "Refused", "TorrentRefused", "HashesRefused",
     "BlockRefused", "WrongHandle", "NoMemory", "TooLong", "NoRoot", "NoSuch", "Nothing", "TooSmall", "BadSize",
     "TooShort", "BadPiece", "Held", "TorrentTooLarge", "TorrentNotBencode", "TorrentMissing", "TorrentWrongType",

@@ -24,6 +24,13 @@ class Root(Owner):
         part = content_of(part)
         lib.root_push(self._handle, part, len(part))
 
+    @staticmethod
+    def of(content: Content) -> tuple[int, bytes]:
+        """Length and root of these bytes. Raises NoRoot if there are none."""
+        with Root() as root:
+            root.push(content)
+            return root.finish()
+
     def finish(self) -> tuple[int, bytes]:
         """Length and root of what was pushed; the object begins anew. Raises NoRoot if nothing was pushed."""
         length, root = u64(), c.create_string_buffer(32)
@@ -58,12 +65,12 @@ class Check(Owner):
         super().__init__()
         self._torrent = _torrent_of(session)  # lent to the library until close
         if pieces is None:
-            lib.check_new(self._handle, session._handle, number(file, 64))
+            lib.check_new(self._handle, session._handle, number(file, "file", 64))
             return
         if not isinstance(pieces, range) or pieces.step != 1:
             raise TypeError("pieces are a range in steps of one")
-        ends = number(pieces.start, 64), number(pieces.stop, 64)
-        lib.check_new_pieces(self._handle, session._handle, number(file, 64), *ends)
+        ends = number(pieces.start, "pieces.start", 64), number(pieces.stop, "pieces.stop", 64)
+        lib.check_new_pieces(self._handle, session._handle, number(file, "file", 64), *ends)
 
     def push(self, part: Content) -> None:
         """The next bytes. Raises TooLong if fewer are still to come, and then takes none."""
@@ -103,7 +110,7 @@ class Pieces(Owner):
         if there is no such file or it has not these pieces."""
         super().__init__()
         self._torrent = _torrent_of(session)  # lent to the library until close
-        lib.check_new_pieces(self._handle, session._handle, number(file, 64), number(first, 64), number(end, 64))
+        lib.check_new_pieces(self._handle, session._handle, number(file, "file", 64), number(first, "first", 64), number(end, "end", 64))
         self._count = end - first
         self._begin()
 

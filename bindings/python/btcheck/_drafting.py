@@ -1,12 +1,15 @@
 """Torrents that are made: drafts, to which files are added, and the torrent of a folder."""
 from __future__ import annotations
 
+import functools
 import os
 import stat
-from collections.abc import Iterator
+from collections.abc import Iterable, Iterator
 from io import FileIO
+from typing import Any
 
 from . import _library as lib
+from ._globs import pattern_of
 from ._library import Content, Owner, content_of, number, room_of
 
 # Bytes of one read. Eight pieces of a hybrid are hashed side by side.
@@ -25,7 +28,7 @@ class Draft(Owner):
         if not isinstance(hybrid, bool):
             raise TypeError("hybrid is True or False")
         given = _text_of(name)
-        lib.draft_new(self._handle, given, len(given), number(piece_length, 64), hybrid)
+        lib.draft_new(self._handle, given, len(given), number(piece_length, "piece_length", 64), hybrid)
 
     def add(self, file: DraftFile, path: str | Content) -> None:
         """Adds the file under this path, its components joined by `/`. The file then begins anew. Raises TorrentPath,
@@ -61,12 +64,20 @@ class DraftFile(Owner):
         lib.draft_file_push(self._handle, part, len(part))
 
 
-def create(folder: str | os.PathLike[str], name: str, piece_length: int, hybrid: bool = False) -> bytes:
-    """The torrent of all files below a folder, hidden ones too: the bytes that `btcheck create` writes. The folder itself
-    may be a symlink; what else is neither a file nor a folder, a symlink too, is refused with a ValueError, and so is a name
-    that is not UTF-8. Raises what Draft does, and OSError if something cannot be read."""
-    with Draft(name, piece_length, hybrid) as draft, DraftFile(draft) as file:
-        for path, at in sorted(_listed(os.fspath(folder)), key=lambda pair: pair[0].split(b"/")):
+def create(folder: str | os.PathLike[str], name: str, piece_length: int | str = "auto", hybrid: bool = False,
+           exclude: Iterable[str] = ()) -> bytes:
+    """The torrent of all files below a folder, hidden ones too: the bytes that `btcheck create` writes. With "auto" it has
+    the smallest piece length up to 2^24 that leaves at most 2,048 pieces. The files whose path, or that of a folder above
+    them, matches a glob of `exclude` are left out. The folder itself may be a symlink; what else is neither a file nor a
+    folder, a symlink too, is refused with a ValueError, and so are a name that is not UTF-8 and a glob that is none. Raises
+    what Draft does, and OSError if something cannot be read."""
+    if isinstance(exclude, str):
+        raise TypeError("exclude is a list of globs")
+    is_left_out = pattern_of(exclude).fullmatch
+    found = functools.cache(lambda: [pair for pair in _listed(os.fspath(folder)) if not is_left_out(pair[0].decode())])
+    chosen: Any = _chosen(found()) if piece_length == "auto" else piece_length
+    with Draft(name, chosen, hybrid) as draft, DraftFile(draft) as file:
+        for path, at in sorted(found(), key=lambda pair: pair[0].split(b"/")):
             with _opened(at) as content:
                 for part in iter(lambda: content.read(_PART), b""):
                     file.push(part)
@@ -85,6 +96,12 @@ def _listed(folder: str | bytes, above: bytes = b"") -> Iterator[tuple[bytes, by
                 yield _readable(path), entry.path
             else:
                 raise ValueError(f"not a file or folder: {os.fsdecode(path)}")
+
+
+def _chosen(files: list[tuple[bytes, bytes]]) -> int:
+    """The piece length that `--piece-length auto` takes for these files."""
+    total = sum(os.stat(at, follow_symlinks=False).st_size for _, at in files)
+    return next((1 << power for power in range(14, 24) if total <= 2048 << power), 1 << 24)
 
 
 def _readable(path: bytes) -> bytes:

@@ -8,7 +8,7 @@ from operator import index
 from typing import Any, TypeVar, Union
 
 from ._refusals import Nothing, TooSmall, refusal
-from ._values import (Answered, Ask, Blocks, HeldBlocks, KeepAlive, Rejected, RejectNoted, Run, Skipped, Stored,
+from ._values import (Answered, Ask, Blocks, HeldBlocks, KeepAlive, Rejected, RejectNoted, Run, Skipped, Stored, Taken,
                       Verdict)
 
 Content = Union[bytes, bytearray, memoryview]
@@ -37,6 +37,14 @@ class CursorInfo(c.Structure):
 
 class FileInfo(c.Structure):
     _fields_ = [("length", c.c_uint64), ("first_piece", c.c_uint64), ("tree", c.c_uint64), ("root", c.c_ubyte * 32)]
+
+
+class PieceInfo(c.Structure):
+    _fields_ = [("length", c.c_uint64), ("file", c.c_uint64), ("block", c.c_uint64), ("offset", c.c_uint64)]
+
+
+class RangeInfo(c.Structure):
+    _fields_ = [("piece", c.c_uint64), ("begin", c.c_uint64), ("length", c.c_uint64)]
 
 
 class BlocksInfo(c.Structure):
@@ -75,16 +83,42 @@ class VerdictInfo(c.Structure):
         return without_more.get(self.kind, Skipped(self.id))
 
 
-library = c.CDLL(os.environ.get("LIBBTCHECK", "libbtcheck.so.1"))
+class TakenInfo(c.Structure):
+    _fields_ = [("verdict", VerdictInfo), ("ask", Asked), ("dropped", RunInfo * 17)]
+
+    def read(self) -> Taken:
+        verdict = self.verdict.read()
+        return Taken(verdict, self.ask.read() if isinstance(verdict, (Stored, Answered, Rejected, RejectNoted)) else None)
+
+    def read_held(self) -> Taken:
+        """The same of a frame whose blocks may be held."""
+        taken = self.read()
+        is_held = isinstance(taken.verdict, Blocks)
+        return Taken(HeldInfo(self.verdict.blocks, self.dropped).read(), None) if is_held else taken
+
+
+def _opened() -> c.CDLL:
+    """The library: what LIBBTCHECK names, else the one beside this module, else the system's."""
+    beside = os.path.join(os.path.dirname(os.path.abspath(__file__)), NAME)
+    found = os.environ.get("LIBBTCHECK") or (beside if os.path.exists(beside) else NAME)
+    try:
+        return c.CDLL(found)
+    except OSError as error:
+        raise OSError(f"{error}: btcheck needs the C library. Install the package libbtcheck1, or what `make lib install` of the "
+                      f"sources makes, or let the variable LIBBTCHECK name the file {NAME}") from None
+
+
+NAME = "libbtcheck.so.1"
+library = _opened()
 u32, u64, size = c.c_uint32, c.c_uint64, c.c_size_t
 _handle, _to_u64, _to_ask = c.POINTER(Handle), c.POINTER(c.c_uint64), c.POINTER(Asked)
 library.btcheck_version.argtypes, library.btcheck_version.restype = [], u32
 
 
-def _call(name: str, *types: Any, result: Any = u32) -> Callable[..., None]:
+def _call(name: str, *types: Any, result: Any = u32, on: Any = _handle) -> Callable[..., None]:
     """A call of the library on a handle."""
     function = getattr(library, "btcheck_" + name)
-    function.argtypes, function.restype = [_handle, *types], result
+    function.argtypes, function.restype = [on, *types], result
 
     def checked(*arguments: Any) -> None:
         status = function(*arguments)
@@ -115,6 +149,11 @@ session_info_hashes = _call("session_info_hashes", c.c_char_p, c.c_char_p)
 session_name = _call("session_name", c.c_char_p, size, _to_u64)
 session_piece_length = _call("session_piece_length", _to_u64)
 session_pieces = _call("session_pieces", _to_u64)
+session_piece = _call("session_piece", u32, c.POINTER(PieceInfo))
+session_file_pieces = _call("session_file_pieces", size, _to_u64, _to_u64)
+session_map_file = _call("session_map_file", size, u64, u64, c.POINTER(RangeInfo))
+session_file_counts = _call("session_file_counts", size, _to_u64, _to_u64)
+session_bitfield = _call("session_bitfield", c.c_char_p, size, _to_u64)
 session_is_hybrid = _call("session_is_hybrid")
 session_counts = _call("session_counts", size, _to_u64, _to_u64)
 session_is_marked = _call("session_is_marked", size, u64)
@@ -129,11 +168,16 @@ holdings_new = _call("holdings_new", _handle, size)
 holdings_look_at = _call("holdings_look_at", size)
 holdings_free = _call("holdings_free", result=None)
 session_frame = _call("session_frame", c.c_char_p, size, c.POINTER(VerdictInfo))
+session_take_frame = _call("session_take_frame", c.c_char_p, size, c.c_bool, c.POINTER(TakenInfo))
+session_hold_frame = _call("session_hold_frame", _handle, c.c_char_p, size, c.c_bool, c.POINTER(TakenInfo))
 session_want = _call("session_want", size, u64, _to_ask)
 session_note = _call("session_note", _to_ask)
 session_take_answer = _call("session_take_answer", _to_ask, c.c_char_p, size, _to_u64)
 session_answer = _call("session_answer", _to_ask, c.c_char_p, size, _to_u64)
 session_can_answer = _call("session_can_answer", _to_ask)
+session_answer_frame = _call("session_answer_frame", _to_ask, c.c_char_p, size, _to_u64)
+request_frame = _call("request_frame", c.c_char_p, result=None, on=_to_ask)
+reject_frame = _call("reject_frame", c.c_char_p, result=None, on=_to_ask)
 session_export = _call("session_export", c.POINTER(CursorInfo), c.c_char_p, size, _to_u64)
 session_fill = _call("session_fill", size, u32, c.c_char_p, size, _to_u64)
 draft_new = _call("draft_new", c.c_char_p, size, u64, c.c_bool)
@@ -153,11 +197,18 @@ def content_of(given: Content) -> bytes:
         return view.tobytes()
 
 
-def number(given: int, bits: int = 32) -> int:
-    """The number, if it fits: ctypes would drop its higher bits."""
-    found = index(given)  # a TypeError for all but whole numbers
+class OutOfRange(ValueError, OverflowError):
+    """A number that has no place in the bits of its parameter."""
+
+
+def number(given: int, name: str, bits: int = 32) -> int:
+    """The number, if it fits: ctypes would drop its higher bits. The name is its parameter's."""
+    try:
+        found = index(given)
+    except TypeError:
+        raise TypeError(f"{name} is a whole number, not {type(given).__name__}") from None
     if not 0 <= found < 1 << bits:
-        raise OverflowError(f"{given} has no place in {bits} bits")
+        raise OutOfRange(f"{name} is from 0 to 2**{bits} - 1, not {given}")
     return found
 
 
@@ -175,7 +226,7 @@ def digests(given: Iterable[Content]) -> bytes:
 def fields(ask: AskLike) -> tuple[bytes, int, int, int, int]:
     """The five fields of a request, from an Ask or from a tuple of them."""
     root, base, first, length, proof = ask
-    return digest(root), number(base), number(first), number(length), number(proof)
+    return digest(root), number(base, "base"), number(first, "index"), number(length, "length"), number(proof, "proof")
 
 
 def laid_out(ask: AskLike) -> Asked:

@@ -44,7 +44,7 @@ class NoMemory(Refused, MemoryError):
 
 
 class TooLong(Refused):
-    """There are more than 2^46 bytes, more than the file or its pieces have, or 2^32 or more in a body."""
+    """There are more than 2^46 bytes, more than the file, its pieces or the frame have, or 2^32 or more in a body."""
 
     status = 3
 
@@ -80,7 +80,7 @@ class BadSize(Refused):
 
 
 class TooShort(Refused):
-    """Bytes of the file or of its pieces are still to come."""
+    """Bytes of the file, of its pieces or of the frame are still to come."""
 
     status = 9
 

@@ -8,7 +8,7 @@ from typing import Any
 from . import _library as lib
 from ._library import AskLike, Content, Owner, content_of, digests, fields, holds, laid_out, number, room_of, u64
 from ._refusals import BadPiece, Nothing, TooSmall, TorrentRefused, explain
-from ._values import Ask, Blocks, File, HeldBlocks, Run, Settled, Verdict
+from ._values import Ask, Blocks, File, HeldBlocks, Piece, PieceRange, Run, Settled, Taken, Verdict
 
 # The most bytes of one message of an export.
 MOST_EXPORTED = 17461
@@ -39,7 +39,7 @@ class Session(Owner):
     def take_block(self, index: int, begin: int, block: Content) -> tuple[int, int]:
         """Takes a block of a piece message. Returns the file and the block that it is, both from 0."""
         block, file, at = content_of(block), u64(), u64()
-        lib.session_take_block(self._handle, number(index), number(begin), block, len(block), file, at)
+        lib.session_take_block(self._handle, number(index, "index"), number(begin, "begin"), block, len(block), file, at)
         return file.value, at.value
 
     def take_piece(self, index: int, data: Content) -> tuple[int, int]:
@@ -47,21 +47,21 @@ class Session(Owner):
         and marked then. Returns the file and its first block of the piece. Raises P3Unproved if that node is not known,
         and P4BadBlock if the bytes lead to another one."""
         data, file, at = content_of(data), u64(), u64()
-        lib.session_take_piece(self._handle, number(index), data, len(data), file, at)
+        lib.session_take_piece(self._handle, number(index, "index"), data, len(data), file, at)
         return file.value, at.value
 
     def take_blocks(self, index: int, begin: int, data: Content) -> Blocks:
         """Takes all blocks of a piece message, at most 17, and says of each whether it is verified. Raises P1BadPlace
         or P2BadSize if the whole message is refused."""
         data, blocks = content_of(data), lib.BlocksInfo()
-        lib.session_take_blocks(self._handle, number(index), number(begin), data, len(data), blocks)
+        lib.session_take_blocks(self._handle, number(index, "index"), number(begin, "begin"), data, len(data), blocks)
         return blocks.read()
 
     def hold(self, holdings: Holdings, index: int, begin: int, data: Content) -> HeldBlocks:
         """As `take_blocks`, but blocks that cannot be proved yet are held: their outcome is Held. Call `settle`
         afterwards until it gives None."""
         data, held = content_of(data), lib.HeldInfo()
-        lib.session_hold(self._handle, _held_by(holdings), number(index), number(begin), data, len(data), held)
+        lib.session_hold(self._handle, _held_by(holdings), number(index, "index"), number(begin, "begin"), data, len(data), held)
         return held.read()
 
     def settle(self, holdings: Holdings) -> Settled | None:
@@ -81,6 +81,22 @@ class Session(Owner):
         body, verdict = content_of(body), lib.VerdictInfo()
         lib.session_frame(self._handle, body, len(body), verdict)
         return verdict.read()
+
+    def take_frame(self, frame: Content, asked: bool = False) -> Taken:
+        """Takes one whole frame as it came, its four bytes of length and its body. If `asked`, hashes must answer a noted
+        request, as by `take_answer`. Raises what `frame` raises; TooShort if bytes of it are still to come, and TooLong if
+        bytes follow it."""
+        frame, taken = content_of(frame), lib.TakenInfo()
+        lib.session_take_frame(self._handle, frame, len(frame), _truth(asked), taken)
+        return taken.read()
+
+    def hold_frame(self, holdings: Holdings, frame: Content, asked: bool = False) -> Taken:
+        """As `take_frame`, but blocks that cannot be proved yet are held, as by `hold`. Call `settle` afterwards until it
+        gives None: it looks at the pieces of these blocks, or, after hashes that were joined, at all pieces of their
+        tree."""
+        frame, taken = content_of(frame), lib.TakenInfo()
+        lib.session_hold_frame(self._handle, _held_by(holdings), frame, len(frame), _truth(asked), taken)
+        return taken.read_held()
 
     def files(self) -> list[File]:
         """The files of the torrent, in its order."""
@@ -102,14 +118,14 @@ class Session(Owner):
     def file(self, file: int) -> File:
         """A file of the torrent, numbered from 0. Raises NoSuch if there are fewer."""
         info = lib.FileInfo()
-        lib.session_file(self._handle, number(file, 64), info)
+        lib.session_file(self._handle, number(file, "file", 64), info)
         tree = None if info.tree == 2**64 - 1 else info.tree
         root = None if tree is None else bytes(info.root)
         return File(self.path(file), info.length, info.first_piece, tree, root)
 
     def path(self, file: int) -> str:
         """A file's path, its components joined by `/`. Raises NoSuch if there are fewer files."""
-        return _text(lib.session_path, self._handle, number(file, 64))
+        return _text(lib.session_path, self._handle, number(file, "file", 64))
 
     def name(self) -> str:
         """The torrent's name."""
@@ -123,6 +139,25 @@ class Session(Owner):
         """How many pieces all files have together: they are numbered from 0 through all files."""
         return self._number(lib.session_pieces)
 
+    def piece(self, index: int) -> Piece:
+        """A piece, numbered from 0 through all files. Raises NoSuch if there are fewer."""
+        info = lib.PieceInfo()
+        lib.session_piece(self._handle, number(index, "index"), info)
+        return Piece(info.length, info.file, info.block, info.offset)
+
+    def file_pieces(self, file: int) -> range:
+        """The numbers of a file's pieces; none if it is empty. Raises NoSuch if there are fewer files."""
+        first, count = u64(), u64()
+        lib.session_file_pieces(self._handle, number(file, "file", 64), first, count)
+        return range(first.value, first.value + count.value)
+
+    def map_file(self, file: int, offset: int, length: int) -> PieceRange:
+        """Where bytes of a file lie, from an offset on: `length` of them, or fewer where the file ends. Raises NoSuch if there
+        is no such file, or no byte at the offset."""
+        info = lib.RangeInfo()
+        lib.session_map_file(self._handle, number(file, "file", 64), number(offset, "offset", 64), number(length, "length", 64), info)
+        return PieceRange(info.piece, info.begin, info.length)
+
     def _number(self, call: Callable[..., None]) -> int:
         found = u64()
         call(self._handle, found)
@@ -133,26 +168,42 @@ class Session(Owner):
         return holds(lib.session_is_hybrid, self._handle)
 
     def info_hashes(self) -> tuple[bytes, bytes]:
-        """The info-hashes of version 2 and version 1: SHA-256 and SHA-1 of the info dictionary."""
+        """The info-hashes of version 2 and version 1: SHA-256 and SHA-1 of the info dictionary. A torrent that is no hybrid
+        is known by the first one alone."""
         v2, v1 = c.create_string_buffer(32), c.create_string_buffer(20)
         lib.session_info_hashes(self._handle, v2, v1)
         return v2.raw, v1.raw
 
+    def info_hash_v1(self) -> bytes | None:
+        """The info-hash by which clients of version 1 know a hybrid; None of another torrent."""
+        return self.info_hashes()[1] if self.is_hybrid() else None
+
     def counts(self, tree: int) -> tuple[int, int]:
         """How many places of a tree are known, and how many leaves are marked as verified."""
         known, marked = u64(), u64()
-        lib.session_counts(self._handle, number(tree, 64), known, marked)
+        lib.session_counts(self._handle, number(tree, "tree", 64), known, marked)
         return known.value, marked.value
 
     def is_marked(self, tree: int, block: int) -> bool:
         """Whether the leaf of a block of a tree is marked as verified. Raises NoSuch if there is no such block."""
-        return holds(lib.session_is_marked, self._handle, number(tree, 64), number(block, 64))
+        return holds(lib.session_is_marked, self._handle, number(tree, "tree", 64), number(block, "block", 64))
+
+    def file_counts(self, file: int) -> tuple[int, int]:
+        """How many blocks of a file are marked as verified, and how many it has. Files of one tree have their marks together.
+        Raises NoSuch if there is no such file."""
+        marked, blocks = u64(), u64()
+        lib.session_file_counts(self._handle, number(file, "file", 64), marked, blocks)
+        return marked.value, blocks.value
+
+    def bitfield(self) -> bytes:
+        """The bitfield of the pieces whose blocks are all marked as verified (BEP 3)."""
+        return room_of(lib.session_bitfield, self._handle)
 
     def want(self, tree: int, block: int) -> Ask | None:
         """What to ask for next to learn the leaf of a block of a tree; None if it is known. Raises NoSuch if there is
         no such block."""
         ask = lib.Asked()
-        return ask.read() if holds(lib.session_want, self._handle, number(tree, 64), number(block, 64), ask) else None
+        return ask.read() if holds(lib.session_want, self._handle, number(tree, "tree", 64), number(block, "block", 64), ask) else None
 
     def note(self, ask: AskLike) -> None:
         """Notes that a request with these five fields was sent."""
@@ -164,8 +215,15 @@ class Session(Owner):
         lib.session_take_answer(self._handle, laid_out(ask), given, len(given) // 32, places)
         return places.value
 
+    def answer_or_none(self, ask: AskLike) -> list[bytes] | None:
+        """The hashes that answer a peer's request; None if it has to be rejected."""
+        try:
+            return self.answer(ask)
+        except Nothing:
+            return None
+
     def answer(self, ask: AskLike) -> list[bytes]:
-        """The hashes that answer a peer's request. Raises Nothing if it has to be rejected."""
+        """As `answer_or_none`, but raises Nothing if the request has to be rejected."""
         asked, count = laid_out(ask), u64()
         for room in (544, 8224):  # of one more than a range's length and 31 layers
             space = c.create_string_buffer(32 * room)
@@ -176,10 +234,25 @@ class Session(Owner):
             return [space.raw[at:at + 32] for at in range(0, 32 * count.value, 32)]
         raise TooSmall
 
+    def answer_frame(self, ask: AskLike) -> bytes:
+        """The whole frame that answers a peer's request, with the four bytes of its length: of the hashes, or of a reject if
+        they are not known."""
+        asked, length = laid_out(ask), u64()
+        for size in (53 + 32 * 544, 53 + 32 * 8224):
+            room = c.create_string_buffer(size)
+            try:
+                lib.session_answer_frame(self._handle, asked, room, size, length)
+            except TooSmall:
+                continue
+            except Nothing:
+                pass  # a reject is written too
+            return room.raw[:length.value]
+        raise TooSmall
+
     def export(self) -> Iterator[bytes]:
         """What is known beyond the torrent's own layers, as whole frames of hashes messages: each known leaf is in one
-        of them, with the proof up to its root. The frames can be kept one after the other in a file; `frame` of any
-        session of the torrent takes `message[4:]`. They prove themselves then, so a changed file does no harm."""
+        of them, with the proof up to its root. The frames can be kept one after the other in a file; `take_frame` of
+        any session of the torrent takes them. They prove themselves then, so a changed file does no harm."""
         cursor, room, length = lib.CursorInfo(), c.create_string_buffer(MOST_EXPORTED), u64()
         while True:
             try:
@@ -193,12 +266,28 @@ class Session(Owner):
         are newly known. Raises NoSuch if there is no such tree, and H2BadRange, H3BadCount, H6Mismatch or H7NoMemory if
         the layer is refused."""
         given, places = digests(hashes), u64()
-        lib.session_fill(self._handle, number(tree, 64), number(layer), given, len(given) // 32, places)
+        lib.session_fill(self._handle, number(tree, "tree", 64), number(layer, "layer"), given, len(given) // 32, places)
         return places.value
 
     def can_answer(self, ask: AskLike) -> bool:
         """Whether `answer` would give hashes for this request."""
         return holds(lib.session_can_answer, self._handle, laid_out(ask))
+
+
+def request_frame(ask: AskLike) -> bytes:
+    """The whole frame of a hash request, with the four bytes of its length: of what `Session.want` gives, say."""
+    return _ask_frame(lib.request_frame, ask)
+
+
+def reject_frame(ask: AskLike) -> bytes:
+    """The whole frame of a hash reject, with the four bytes of its length: no hashes come for this request."""
+    return _ask_frame(lib.reject_frame, ask)
+
+
+def _ask_frame(call: Callable[..., None], ask: AskLike) -> bytes:
+    frame = c.create_string_buffer(53)
+    call(laid_out(ask), frame)
+    return frame.raw
 
 
 class Holdings(Owner):
@@ -211,17 +300,23 @@ class Holdings(Owner):
         super().__init__()
         if not isinstance(session, Session):
             raise TypeError("holdings are of a Session")
-        lib.holdings_new(self._handle, session._handle, number(bound, 64))
+        lib.holdings_new(self._handle, session._handle, number(bound, "bound", 64))
 
     def look_at(self, tree: int) -> None:
         """Hashes of this tree were taken: `Session.settle` looks at its held pieces."""
-        lib.holdings_look_at(self._handle, number(tree, 64))
+        lib.holdings_look_at(self._handle, number(tree, "tree", 64))
 
     def held(self) -> int:
         """How many blocks are held."""
         count = u64()
         lib.session_held(self._handle, count)
         return count.value
+
+
+def _truth(asked: bool) -> bool:
+    if not isinstance(asked, bool):
+        raise TypeError("asked is True or False")
+    return asked
 
 
 def _held_by(holdings: Holdings) -> lib.Handle:

@@ -32,6 +32,24 @@ class File(NamedTuple):
     root: bytes | None
 
 
+class Piece(NamedTuple):
+    """A piece of a torrent: its bytes, the file in which it lies, and its first block and its first byte there."""
+
+    length: int
+    file: int
+    block: int
+    offset: int
+
+
+class PieceRange(NamedTuple):
+    """Bytes of a file as a request has them: the piece, where they begin in it, and how many they are. They may go on in
+    the pieces behind it."""
+
+    piece: int
+    begin: int
+    length: int
+
+
 class Stored(NamedTuple):
     """Hashes were taken, and `places` of the tree are newly known."""
 
@@ -45,6 +63,11 @@ class Blocks(NamedTuple):
     file: int
     first: int
     outcomes: list[Refused | None]
+
+    @property
+    def statuses(self) -> list[Refused | None]:
+        """The outcomes, by the name that they have in all languages."""
+        return self.outcomes
 
 
 class Run(NamedTuple):
@@ -63,6 +86,11 @@ class HeldBlocks(NamedTuple):
     first: int
     outcomes: list[Refused | None]
     dropped: list[Run | None]
+
+    @property
+    def statuses(self) -> list[Refused | None]:
+        """The outcomes, by the name that they have in all languages."""
+        return self.outcomes
 
 
 class Settled(NamedTuple):
@@ -95,3 +123,10 @@ class Skipped(NamedTuple):
 
 
 Verdict = Union[Stored, Blocks, Answered, Rejected, RejectNoted, KeepAlive, Skipped]
+
+
+class Taken(NamedTuple):
+    """What a whole frame was and what was made of it, and the five fields of hashes, of a hash request and of a reject."""
+
+    verdict: Verdict | HeldBlocks
+    ask: Ask | None

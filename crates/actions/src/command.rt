@@ -40,7 +40,7 @@ pub enum Action<'a> {
     /// Make a torrent of a folder.
     Create(NewTorrent<'a>),
     /// Hash one part of the files for that.
-    CreatePart(NewTorrent<'a>, Part),
+    CreatePart(NewTorrent<'a>, NumberedPart),
     /// Make a torrent of what all parts hashed.
     Assemble(Assemble<'a>),
     /// Replay the messages that peers sent.
@@ -76,7 +76,7 @@ pub struct CheckPart<'a> {
     /// The folder's path.
     pub dir: &'a str,
     /// The part.
-    pub part: Part,
+    pub part: NumberedPart,
     /// Whether the runs of bad pieces of a file are printed after its line.
     pub bad: bool,
     /// Whether its lines are printed as JSON objects.
@@ -86,7 +86,7 @@ pub struct CheckPart<'a> {
 /// One of this many parts of a check, or of the making of a torrent. The number is at least 1 and
 /// at most the count.
 #[derive(Clone, Copy)]
-pub struct Part {
+pub struct NumberedPart {
     /// Its number, from 1.
     pub number: u64,
     /// How many parts there are.
@@ -145,6 +145,8 @@ pub struct Replay<'a> {
     pub padded: bool,
     /// Whether blocks that cannot be proved yet are held until their piece is whole.
     pub pieces: bool,
+    /// Whether a summary is printed on standard error.
+    pub summary: bool,
     /// Whether its lines are printed as JSON objects.
     pub json: bool,
 }

@@ -12,25 +12,38 @@ const MOST_PIECES: u64 = 2_048;
 /// Of what a torrent is made, how, and where it goes.
 #[derive(Drop)]
 pub struct NewTorrent<'a> {
-    /// The folder's path.
-    pub dir: &'a str,
+    /// Where its files are.
+    pub origin: Origin<'a>,
     /// The path of the file that takes the torrent.
     pub out: &'a str,
     /// The display name.
     pub name: &'a str,
     /// The piece length.
-    pub piece_length: PieceLength,
+    pub piece_length: PieceLengthChoice,
     /// Whether it is to serve clients of version 1 too.
     pub hybrid: bool,
     /// The globs of what is left out.
     pub exclude: Vec<&'a str>,
     /// Whether a file that is there already is not written.
     pub no_clobber: bool,
+    /// Whether the symbolic links in the folder are followed.
+    pub follow_symlinks: bool,
+    /// Whether what is neither a file nor a folder is left out.
+    pub skip_special: bool,
+}
+
+/// Where the files of a new torrent are.
+#[derive(Clone, Copy, Drop)]
+pub enum Origin<'a> {
+    /// All of them are in the folder with this path.
+    Folder(&'a str),
+    /// It is the one file with this path.
+    File(&'a str),
 }
 
 /// How long the pieces of a new torrent are.
 #[derive(Clone, Copy, Drop)]
-pub enum PieceLength {
+pub enum PieceLengthChoice {
     /// This many bytes.
     Bytes(u64),
     /// As its files need.

@@ -4,5 +4,7 @@
 mod command;
 mod creation;
 
-pub use command::{Action, Asked, Assemble, Check, CheckPart, Convert, Create, Join, Part, Replay};
-pub use creation::{NewTorrent, PieceLength, auto_length};
+pub use command::{
+    Action, Asked, Assemble, Check, CheckPart, Convert, Create, Join, NumberedPart, Replay,
+};
+pub use creation::{NewTorrent, Origin, PieceLengthChoice, auto_length};

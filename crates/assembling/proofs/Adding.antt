@@ -5,7 +5,7 @@ use Rattle.std.proofs.lemmas.Bool.{lt-ltb}
 use Rattle.drafts.proofs.Passing.{lengths_are}
 use Rattle.drafts.specs.Adding.{MayAdd, given_file}
 use Rattle.drafts.specs.Outline.{Outline}
-use Rattle.hashtree.specs.Hashes.{AreHashes}
+use Rattle.hashtree.specs.Hashes.{AreOfHashLength}
 use Rattle.hashtree.specs.Tree.{block_count, height, root_over}
 use Rattle.opening.specs.PieceLayers.{piece_layer}
 use Rattle.assembling.specs.Whole.{IsWhole}
@@ -17,7 +17,7 @@ all_cuts true false xs is some = absurd cc
 all_cuts false b xs is some = absurd cc
 
 pub may_add : (d : Outline) (path : List (List ℕ)) (n : ℕ) (root : List ℕ) (rows : FileRows) (layer : List (List ℕ))
-    → IsWhole d.piece_length d.hybrid n rows root → layer ≡ rows.nodes.items → AreHashes layer → MayAdd d (given_file d path n root rows.v1) layer
+    → IsWhole d.piece_length d.hybrid n rows root → layer ≡ rows.nodes.items → AreOfHashLength layer → MayAdd d (given_file d path n root rows.v1) layer
 may_add d path n root rows layer whole same widths = record {
   cuts = λ is some. ap length (all_cuts d.hybrid (nat_lt 0 n) rows.v1.cuts.items is (lt-ltb 0 n some)) ∙ whole.cuts is;
   fits = λ longer. record {

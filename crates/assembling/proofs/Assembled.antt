@@ -1,17 +1,18 @@
 -- A draft to which files were added of which each part says what is true.
-use Rattle.std.proofs.Common.{◌≡◌, ℕ, zero, suc, ◌+◌, ◌<◌, ◌∷◌, Bool, List, [], length, take, drop, slice_get, Some, refl, sym, ap, ◌∙◌, subst, arith}
-use Rattle.std.proofs.Common.{drop-cons, add-one}
+use Rattle.std.proofs.Common.{◌≡◌, ℕ, zero, suc, ◌+◌, ◌∷◌, Bool, List, [], length, take, drop, slice_get, Some, refl, sym, ap, ◌∙◌, subst, arith}
 use Rattle.std.proofs.lemmas.List.{length-map, take_all}
-use Rattle.std.proofs.lemmas.Option.{get_or_from_slice_get, none-some, same_Some, slice_get_within}
-use Rattle.chains.proofs.Chains.{Chain-next}
+use Rattle.std.proofs.lemmas.Option.{none-some, same_Some}
+use Rattle.chains.proofs.Chains.{Chain-item}
 use Rattle.drafts.specs.Outline.{Outline}
 use Rattle.gathering.specs.Gathered.{DraftAdds, Gathered}
 use Rattle.part_drafts.specs.Parts.{KnownPaths}
 use Rattle.part_texts.specs.Divisions.{capped, hashed, total_of}
 use Rattle.part_texts.specs.Listings.{Inventory, Listed}
 use Rattle.assembling.specs.Assembly.{AreHeld, listed_draft, paths_of}
+use Rattle.assembling.specs.Behind.{AreLong}
 use Rattle.assembling.specs.Said.{EachSays}
-use Rattle.assembling.proofs.Fronts.{item_to, taken_more}
+use Rattle.chains.proofs.Cases.{taken_more}
+use Rattle.assembling.proofs.Fronts.{item_to}
 
 -- the first files were gathered, and each part says what is true of those behind them
 pub record IsSoFar (under : KnownPaths) (l : Inventory) (contents : List (List ℕ)) (number before : ℕ) (d : Outline) (texts : List (List ℕ)) : Type 0 where
@@ -32,12 +33,6 @@ held_count under [] (c ∷ cs) held = absurd held
 held_count under (f ∷ fs) [] held = absurd held
 held_count under (f ∷ fs) (c ∷ cs) held = ap suc (held_count under fs cs held.1)
 
-pub files_from : (files : List Listed) (number : ℕ) (f : Listed) → slice_get files number ≡ Some f → drop number files ≡ f ∷ drop (number + 1) files
-files_from files number f at =
-    drop-cons files number f (slice_get_within files number f at)
-    ∙ ap (λ x. x ∷ drop (suc number) files) (get_or_from_slice_get files number f f at)
-    ∙ ap (λ k. f ∷ drop k files) (sym (add-one number))
-
 -- the same, of what is the same
 pub says_as : (under : KnownPaths) (p q : ℕ) (h k : Bool) (t u n before : ℕ) (fs gs : List Listed) (texts : List (List ℕ)) → p ≡ q → h ≡ k → t ≡ u → fs ≡ gs
     → EachSays under p h t n before fs texts → EachSays under q k u n before gs texts
@@ -45,6 +40,12 @@ says_as under p q h k t u n before fs gs texts pieces kind total files says =
     subst (λ x. EachSays under q k u n before x texts) files
     (subst (λ x. EachSays under q k x n before fs texts) total
     (subst (λ x. EachSays under q x t n before fs texts) kind (subst (λ x. EachSays under x h t n before fs texts) pieces says)))
+
+pub long_as : (p total parts : ℕ) (h k : Bool) (before before' : ℕ) (fs gs : List Listed) (rests : List (List ℕ)) → h ≡ k → before ≡ before' → fs ≡ gs
+    → AreLong p h total parts before fs rests → AreLong p k total parts before' gs rests
+long_as p total parts h k before before' fs gs rests kind before_is files long =
+    subst (λ x. AreLong p k total parts before' x rests) files
+    (subst (λ x. AreLong p k total parts x fs rests) before_is (subst (λ x. AreLong p x total parts before fs rests) kind long))
 
 -- one file more
 pub one_further : (under : KnownPaths) (l : Inventory) (contents : List (List ℕ)) (number before before' : ℕ) (d e : Outline) (texts texts' : List (List ℕ))
@@ -55,11 +56,9 @@ pub one_further : (under : KnownPaths) (l : Inventory) (contents : List (List �
 one_further under l contents number before before' d e texts texts' f c at there before_is adds says so_far =
     let paths = paths_of l.files in
     let path : slice_get paths number ≡ Some f.path = item_to (λ (x : Listed). x.path) l.files number f at in
-    let inside : number < length paths = slice_get_within paths number f.path path in
     record {
       gathered = subst (λ cs. Gathered (listed_draft l) (take (number + 1) paths) cs e) (sym (taken_more contents number c there))
-          (Chain-next DraftAdds (listed_draft l) d e paths number (take number contents) f.path c inside so_far.gathered
-          (subst (λ (p : List (List ℕ)). DraftAdds d p c e) (sym (get_or_from_slice_get paths number f.path f.path path)) adds));
+          (Chain-item DraftAdds (listed_draft l) d e paths number (take number contents) f.path c path so_far.gathered adds);
       says = subst (λ b. EachSays under l.piece_length l.hybrid (total_of l.files) (length texts') b (drop (number + 1) l.files) texts') (sym before_is) says;
     }
 

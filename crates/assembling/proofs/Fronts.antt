@@ -1,8 +1,7 @@
 -- The fronts of parts' texts.
-use Rattle.std.proofs.Common.{◌≡◌, ◌≢◌, ℕ, zero, suc, ◌+◌, ◌<◌, ◌++◌, ◌∷◌, ◌⊎◌, List, [], Bor, get_or, length, map, take, slice_get, Some, inl, inr, refl}
+use Rattle.std.proofs.Common.{◌≡◌, ◌≢◌, ℕ, zero, suc, ◌+◌, ◌<◌, ◌++◌, ◌∷◌, ◌⊎◌, List, [], Bor, get_or, length, map, slice_get, Some, inl, inr, refl}
 use Rattle.std.proofs.Common.{sym, ◌∙◌, ap, subst}
-use Rattle.std.proofs.Common.{Bool, true, false, not, None, Option, Result, IfSome, arith, if◌then◌else◌, is_ok, is_some, length-append, add-one}
-use Rattle.std.proofs.Math.Seq.{take-suc}
+use Rattle.std.proofs.Common.{Bool, true, false, not, None, Option, Result, IfSome, arith, if◌then◌else◌, is_ok, is_some, length-append}
 use Rattle.std.proofs.lemmas.Option.{get_or_from_slice_get, none-some, same_Some, slice_get-get_or, slice_get-map, slice_get_within}
 use Rattle.std.specs.Option.{option_map}
 use Rattle.part_texts.specs.declared.head.Head.{Head}
@@ -34,10 +33,6 @@ same_item xs i d e within = get_or_from_slice_get xs i (get_or xs i e) d (slice_
 pub text_there : (texts : List (Bor (List ℕ))) (i : ℕ) (other : Bor (List ℕ)) → i < length texts
     → slice_get (map (λ x. x.now) texts) i ≡ Some (get_or texts i other).now
 text_there texts i other within = item_of (λ x. x.now) texts i other within
-
-pub taken_more : {A : Type 0} (xs : List A) (n : ℕ) (x : A) → slice_get xs n ≡ Some x → take (n + 1) xs ≡ take n xs ++ x ∷ []
-taken_more xs n x there =
-    ap (λ k. take k xs) (add-one n) ∙ take-suc xs n x (slice_get_within xs n x there) ∙ ap (λ y. take n xs ++ y ∷ []) (get_or_from_slice_get xs n x x there)
 
 -- what stands in a list with one more is that, or stood there before
 pub push_at : {A : Type 0} (fs : List A) (g : A) (i : ℕ) (f : A) → slice_get (fs ++ g ∷ []) i ≡ Some f → (slice_get fs i ≡ Some f) ⊎ ((f ≡ g) × (i ≡ length fs))

@@ -1,10 +1,14 @@
 -- Lemmas on the assembly of a torrent.
+pub mod AllTexts
+pub mod Apart
 pub mod Adding
 pub mod Assembled
+pub mod Behind
 pub mod Contents
 pub mod Drafts
 pub mod Fronts
 pub mod Joining
+pub mod Late
 pub mod OneFront
 pub mod Passing
 pub mod Reading
@@ -13,7 +17,7 @@ pub mod Results
 pub mod RowTexts
 pub mod Saying
 pub mod Shares
+pub mod Splicing
 pub mod TrueFronts
-pub mod Unsaid
 pub mod WholeTexts
 pub mod Widths

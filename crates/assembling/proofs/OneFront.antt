@@ -4,7 +4,7 @@ use Rattle.std.proofs.lemmas.List.{append_cancel_left}
 use Rattle.std.proofs.Math.Seq.{take-append_seam}
 use Rattle.std.proofs.lemmas.Nat.{from_be_bytes-to_be_bytes_8}
 use Rattle.std.specs.Int.{w64, from_be_bytes, to_be_bytes}
-use Rattle.part_texts.specs.Texts.{first_line, head_text, number_text, sized}
+use Rattle.part_texts.specs.Texts.{head_text, number_text, sized, version_line}
 use Rattle.assembling.specs.Fronts.{Front, IsFront}
 
 number_back : (n m : ℕ) (x y : List ℕ) → n < 2 ^ 64 → m < 2 ^ 64 → number_text n ++ x ≡ number_text m ++ y → (n ≡ m) × (x ≡ y)
@@ -25,17 +25,17 @@ sized_back xs ys x y small fits is =
 
 -- the parts of a front, behind the first line
 behind_line : (part parts : ℕ) (listing rows : List ℕ) → head_text part parts listing ++ rows
-    ≡ first_line ++ (number_text (part + 1) ++ (number_text parts ++ (sized listing ++ rows)))
+    ≡ version_line ++ (number_text (part + 1) ++ (number_text parts ++ (sized listing ++ rows)))
 behind_line part parts listing rows =
-    append_assoc first_line (number_text (part + 1) ++ (number_text parts ++ sized listing)) rows
-    ∙ ap (λ l. first_line ++ l) (append_assoc (number_text (part + 1)) (number_text parts ++ sized listing) rows
+    append_assoc version_line (number_text (part + 1) ++ (number_text parts ++ sized listing)) rows
+    ∙ ap (λ l. version_line ++ l) (append_assoc (number_text (part + 1)) (number_text parts ++ sized listing) rows
     ∙ ap (λ l. number_text (part + 1) ++ l) (append_assoc (number_text parts) (sized listing) rows))
 
 pub one_front : (text : List ℕ) (f g : Front) → IsFront text f → IsFront text g
     → (f.part ≡ g.part) × (f.parts ≡ g.parts) × (f.listing ≡ g.listing) × (f.rows ≡ g.rows)
 one_front text f g is other =
     let whole = sym (behind_line f.part f.parts f.listing f.rows) ∙ sym is.is ∙ other.is ∙ behind_line g.part g.parts g.listing g.rows in
-    let line = append_cancel_left first_line (number_text (f.part + 1) ++ (number_text f.parts ++ (sized f.listing ++ f.rows)))
+    let line = append_cancel_left version_line (number_text (f.part + 1) ++ (number_text f.parts ++ (sized f.listing ++ f.rows)))
     (number_text (g.part + 1) ++ (number_text g.parts ++ (sized g.listing ++ g.rows))) whole in
     let first = number_back (f.part + 1) (g.part + 1) (number_text f.parts ++ (sized f.listing ++ f.rows)) (number_text g.parts ++ (sized g.listing ++ g.rows))
     (omega (arith, is.there, is.small)) (omega (arith, other.there, other.small)) line in

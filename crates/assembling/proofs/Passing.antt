@@ -13,7 +13,7 @@ use Rattle.pieces.specs.Pieces.{IsPieceLength, pieces_of}
 use Rattle.sha1.specs.Sha1.{sha1}
 use Rattle.assembling.specs.Reading.{IsBehind}
 use Rattle.assembling.specs.Said.{EachSays, FitsCount, RowSaid, Says, said_text}
-use Rattle.assembling.specs.Taking.{IsHeld, IsTaken}
+use Rattle.assembling.specs.Taking.{IsContentTaken, IsHeld}
 use Rattle.assembling.specs.declared.rows.FileRows.{FileRows}
 use Rattle.assembling.proofs.Joining.{Upto, legal_some, upto_all, upto_more, upto_none}
 use Rattle.assembling.proofs.RowTexts.{fits, no_row, some_row}
@@ -174,7 +174,7 @@ module _ (under : KnownPaths) (p : ℕ) (hybrid : Bool) (total before : ℕ) (f 
       (first.row, first.is))
 
   pub all_taken : (parts : ℕ) (rows : FileRows) (texts : List (List ℕ)) → IsPieceLength p → f.bytes ≤ 2 ^ 46 → length c ≡ f.bytes → length texts ≡ parts
-      → IsUnderWay under p hybrid total parts before f fs c parts rows texts → IsTaken under p hybrid total before f fs c rows texts
+      → IsUnderWay under p hybrid total parts before f fs c parts rows texts → IsContentTaken under p hybrid total before f fs c rows texts
   all_taken parts rows texts legal short size count way = record {
     is = upto_all p hybrid c rows legal
         (subst (λ k. Upto p hybrid c k rows.nodes.items rows.v1.cuts.items rows.v1.padded)

@@ -3,7 +3,7 @@ use Rattle.std.proofs.Common.{◌≡◌, ℕ, ◌<◌, Bor, List, [], get_or, le
 use Rattle.std.specs.Global.{Global, Vec}
 use Rattle.std.specs.Prelude.{IfErr, IfOk, Result, Ok, Err, String}
 use Rattle.std.proofs.lemmas.List.{length-map}
-use Rattle.std.proofs.lemmas.Option.{same_Some, slice_get-get_or, slice_get_within}
+use Rattle.std.proofs.lemmas.Option.{slice_get-get_or, slice_get_within}
 use Rattle.drafts.specs.Outline.{Outline}
 use Rattle.filetree.specs.declared.refusal.Refusal.TheVariants as refusals
 use Rattle.part_drafts.specs.Parts.{KnownPaths}
@@ -16,20 +16,20 @@ use Rattle.part_texts.specs.declared.reading.ListingFault.{ListingFault}
 use Rattle.part_texts.specs.declared.reading.ListingFault.TheVariants as listing
 use Rattle.pieces.specs.Pieces.{IsPieceLength}
 use Rattle.assembling.specs.Added.{IsDraftOf}
-use Rattle.assembling.specs.Adding.{AddsAll, AreNoWrite, IsFrontFault, IsLateFault, IsRowsFault}
+use Rattle.assembling.specs.Adding.{AddsAll, AreNoWrite, IsFrontFault, StopsInTurn}
 use Rattle.assembling.specs.Assembly.{AreTrueParts, Assembles}
-use Rattle.assembling.specs.Fronts.{Front, IsFront, IsOfListing}
+use Rattle.assembling.specs.Behind.{AreLong, NamesFirstOther, behind, unread_as}
+use Rattle.assembling.specs.Fronts.{Front, IsOfListing}
 use Rattle.assembling.specs.Heads.{ArePartsOf}
 use Rattle.assembling.specs.Outcome.{AreWhole, BlamesNoText, IsAssembled, TakesTexts}
 use Rattle.assembling.specs.Reasons.{HasReason, IsNoPartAt}
 use Rattle.assembling.specs.Said.{EachSays, Says}
-use Rattle.assembling.specs.Sizes.{AreOfSize, rows_size}
-use Rattle.assembling.specs.Unsaid.{AreLong, NamesUnsaid, behind, unread_as}
 use Rattle.assembling.specs.declared.fault.AssembleFault.{AssembleFault}
 use Rattle.assembling.specs.declared.fault.AssembleFault.TheVariants as fault
 use Rattle.assembling.specs.declared.numbers.Parts.{Parts}
+use Rattle.assembling.proofs.Late.{all_of, each_long, first_other, no_listing}
 use Rattle.assembling.proofs.OneFront.{one_front}
-use Rattle.assembling.proofs.TrueFronts.{IsRead, front_from, front_says, true_front, unlisted, unsaid_text}
+use Rattle.assembling.proofs.TrueFronts.{IsRead, front_from, front_says, other_text, true_front, unlisted}
 use Rattle.assembling.proofs.WholeTexts.{blames_no_text}
 
 -- ---- what is true of all texts
@@ -64,43 +64,6 @@ each_says under l texts p are each = λ part rest at.
     let says = front_says under l b.text _ b.front (each b.place b.text b.there) in
     subst (λ n. Says under l.piece_length l.hybrid (total_of l.files) n part 0 l.files rest)
     (sym (length-map p.rows.items (λ (x : Bor (List ℕ)). x.now))) says.1
-
--- each text is as long as its part is to be, if what stands behind its front is
-pub each_long : (l : Inventory) (texts : List (List ℕ)) (p : Parts) → ArePartsOf texts p → p.listing.now ≡ listing_text l
-    → AreLong l.piece_length l.hybrid (total_of l.files) (length p.rows.items) l.files (behind p) → AreOfSize l texts
-each_long l texts p are same long = λ i text at.
-    let all = are.all in
-    let low : i < length all.fronts = omega (arith, slice_get_within texts i text at, all.are.count) in
-    let g : Front = get_or all.fronts i (empty_front) in
-    let there : slice_get all.fronts i ≡ Some g = slice_get-get_or all.fronts i empty_front low in
-    let is = all.are.each i text g at there in
-    let own = all.of i g there in
-    let behind_it : g.part < length (behind p) = omega (arith, is.there, own.0, length-map p.rows.items (λ (x : Bor (List ℕ)). x.now)) in
-    let rest : List ℕ = get_or (behind p) g.part [] in
-    let rest_at = slice_get-get_or (behind p) g.part [] behind_it in
-    let b = are.each g.part rest rest_at in
-    let h : Front = get_or all.fronts b.place g in
-    let h_at : slice_get all.fronts b.place ≡ Some h =
-    slice_get-get_or all.fronts b.place g (omega (arith, slice_get_within texts b.place b.text b.there, all.are.count)) in
-    let one = one_front b.text _ h b.front (all.are.each b.place b.text h b.there h_at) in
-    let place : i ≡ b.place = all.are.apart i b.place g h there h_at one.0 in
-    let text_is : b.text ≡ text = same_Some b.text text (sym b.there ∙ ap (slice_get texts) (sym place) ∙ at) in
-    let mine = one_front text g _ is (subst (λ (t : List ℕ). IsFront t (record {
-      part = g.part;
-      parts = length p.rows.items;
-      listing = p.listing.now;
-      rows = rest;
-    })) text_is b.front) in
-    record {
-      front = g;
-      begins = is;
-      of = own.1 ∙ same;
-      size = ap length mine.3 ∙ long g.part rest rest_at
-          ∙ ap (λ n. rows_size l.piece_length l.hybrid (total_of l.files) n g.part 0 l.files) (sym own.0);
-    }
-  where
-    empty_front : Front
-    empty_front = record { part = 0; parts = 0; listing = []; rows = [] }
 
 -- ---- what is answered
 
@@ -154,18 +117,6 @@ front_stop texts e why is = record {
     gathers l contents (fault.Missing number parts) is = tt
     gathers l contents fault.NoMemory is = tt
 
--- the reason of a fault behind the fronts
-late_reason : (texts : List (List ℕ)) (p : Parts) (found : Listing) → ArePartsOf texts p → IsRead p.listing.now found → (e : AssembleFault) → IsLateFault e
-    → NamesUnsaid found.piece_length found.hybrid (total_of (inventory found).files) (length p.rows.items) 0 (inventory found).files p e → HasReason texts e
-late_reason texts p found are read (fault.NoPart place) is named =
-    (unsaid_text texts p are found place read named, inr (length p.rows.items, p.listing.now, are.all))
-late_reason texts p found are read (fault.Refused r path) is named = tt
-late_reason texts p found are read (fault.OtherFolder number) is named = absurd is
-late_reason texts p found are read (fault.OtherCount place) is named = absurd is
-late_reason texts p found are read (fault.Twice number) is named = absurd is
-late_reason texts p found are read (fault.Missing number parts) is named = absurd is
-late_reason texts p found are read fault.NoMemory is named = tt
-
 -- the same of a division as of the listing that it divides
 pub divided_as : (Holds : ℕ → ℕ → ℕ → Type 0) (p q total total' parts parts' : ℕ) → p ≡ q → total ≡ total' → parts ≡ parts' → Holds p total parts
     → Holds q total' parts'
@@ -177,39 +128,35 @@ pub unread_stop : (texts : List (List ℕ)) (p : Parts) (place : ℕ) (x : Listi
     → ((l : Inventory) → CanBeListed l → p.listing.now ≡ listing_text l → ReadsUnlessNoMemory {A = Listing} (Err x) (λ found. inventory found ≡ l))
     → IsAssembled texts (Err (unread_as x place))
 unread_stop texts p place listing.None are at none =
-    front_stop texts (fault.NoPart place) (unlisted texts p are place at none, inr (length p.rows.items, p.listing.now, are.all)) tt
+    front_stop texts (fault.NoPart place) (unlisted texts p are place at none, inr (inl (no_listing texts p place are at none))) tt
 unread_stop texts p place listing.NoMemory are at none = front_stop texts fault.NoMemory tt tt
 
--- a fault by what stands behind the fronts
-pub rows_stop : (texts : List (List ℕ)) (p : Parts) (found : Listing) → ArePartsOf texts p → IsRead p.listing.now found → (e : AssembleFault) → IsRowsFault e
-    → NamesUnsaid found.piece_length found.hybrid (total_of (inventory found).files) (length p.rows.items) 0 (inventory found).files p e
+-- a fault by the size of a text
+pub size_stop : (texts : List (List ℕ)) (p : Parts) (found : Listing) → ArePartsOf texts p → IsRead p.listing.now found → CanBeListed (inventory found)
+    → p.listing.now ≡ listing_text (inventory found) → IsPieceLength found.piece_length → (e : AssembleFault)
+    → NamesFirstOther found.piece_length found.hybrid (total_of (inventory found).files) (length p.rows.items) (inventory found).files p e
     → IsAssembled texts (Err e)
-rows_stop texts p found are read e is named = front_stop texts e (late_reason texts p found are read e (late e is) named) (front e is)
-  where
-    late : (x : AssembleFault) → IsRowsFault x → IsLateFault x
-    late (fault.Refused r path) is = absurd is
-    late (fault.NoPart place) is = tt
-    late (fault.OtherFolder number) is = absurd is
-    late (fault.OtherCount place) is = absurd is
-    late (fault.Twice number) is = absurd is
-    late (fault.Missing number parts) is = absurd is
-    late fault.NoMemory is = tt
-
-    front : (x : AssembleFault) → IsRowsFault x → IsFrontFault x
-    front (fault.Refused r path) is = absurd is
-    front (fault.NoPart place) is = tt
-    front (fault.OtherFolder number) is = absurd is
-    front (fault.OtherCount place) is = absurd is
-    front (fault.Twice number) is = absurd is
-    front (fault.Missing number parts) is = absurd is
-    front fault.NoMemory is = tt
+size_stop texts p found are read can exact legal (fault.NoPart place) named =
+    front_stop texts (fault.NoPart place)
+    (other_text texts p are found place legal read named, inr (inr (first_other texts p found place are can exact legal named))) tt
+size_stop texts p found are read can exact legal (fault.OtherFolder number) named = absurd named
+size_stop texts p found are read can exact legal (fault.OtherCount place) named = absurd named
+size_stop texts p found are read can exact legal (fault.Twice number) named = absurd named
+size_stop texts p found are read can exact legal (fault.Missing number parts) named = absurd named
+size_stop texts p found are read can exact legal (fault.Refused r path) named = absurd named
+size_stop texts p found are read can exact legal fault.NoMemory named = absurd named
 
 -- there is no draft of the piece length
 pub pieces_stop : (texts : List (List ℕ)) (p : Parts) (found : Listing) (path : Vec (String Global)) → ArePartsOf texts p → IsRead p.listing.now found
+    → CanBeListed (inventory found) → p.listing.now ≡ listing_text (inventory found)
     → (IsPieceLength found.piece_length → ⊥) → path.items ≡ [] → IsAssembled texts (Err (fault.Refused refusals.PieceLength path))
-pieces_stop texts p found path are read illegal none = record {
+pieces_stop texts p found path are read can exact illegal none = record {
   all = tt;
-  reason = tt;
+  reason = record {
+    listing = inventory found;
+    all = all_of texts p found are can exact;
+    why = inl (record { illegal = illegal; answer = refl; no_path = ap (map _) none });
+  };
   no_write = λ same. let no : ⊥ = cc in no;
   draft = λ l listed of. tt;
   long = λ l listed of. tt;
@@ -232,35 +179,45 @@ if_err_each : {A E : Type 0} {P Q : E → Type 0} (r : Result A E) → ((e : E) 
 if_err_each (Ok a) each is = tt
 if_err_each (Err e) each is = each e is
 
-if_err_both : {A E : Type 0} {P Q R : E → Type 0} (r : Result A E) → ((e : E) → P e → Q e → R e) → IfErr r P → IfErr r Q → IfErr r R
-if_err_both (Ok a) each p q = tt
-if_err_both (Err e) each p q = each e p q
-
 -- what came of adding the files
-pub added_all : (texts : List (List ℕ)) (p : Parts) (found : Listing) (result : Result Outline AssembleFault) → ArePartsOf texts p → IsRead p.listing.now found
-    → AreLong found.piece_length found.hybrid (total_of (inventory found).files) (length p.rows.items) (inventory found).files (behind p)
-    → IfOk result (IsDraftOf (inventory found)) → IfErr result AreNoWrite → IfErr result IsLateFault
-    → IfErr result (NamesUnsaid found.piece_length found.hybrid (total_of (inventory found).files) (length p.rows.items) 0 (inventory found).files p)
-    → AddsAll (inventory found) (behind p) result → IsAssembled texts result
-added_all texts p found result are read long draft no_write late named gathers = record {
-  all = if_ok_all result (length p.rows.items, p.listing.now, are.all);
-  reason = reason;
-  no_write = no_write;
-  draft = λ l listed of. subst (λ k. IfOk result (IsDraftOf k)) (read l listed (first_listing texts p l are of)) draft;
-  long = λ l listed of.
-      let listing = first_listing texts p l are of in
-      if_ok_all result
-      (each_long l texts p are listing
-      (subst (λ (k : Inventory). AreLong k.piece_length k.hybrid (total_of k.files) (length p.rows.items) k.files (behind p)) (read l listed listing) long));
-  gathers = λ l under contents listed held each.
-      subst (λ k. AddsAll k (behind p) result)
-      (read l listed (first_listing texts p l are (true_listing under l texts p are each))) gathers under contents held (each_says under l texts p are each);
-  takes = λ l under listed each. if_err_each result (takes texts l under listed each) reason;
-  whole = λ l under listed each whole. if_err_each result (blames_none texts l under listed each whole) reason;
-}
-  where
-    reason : IfErr result (HasReason texts)
-    reason = if_err_both result (late_reason texts p found are read) late named
+module _ (texts : List (List ℕ)) (p : Parts) (found : Listing) (are : ArePartsOf texts p) (read : IsRead p.listing.now found)
+    (can : CanBeListed (inventory found)) (exact : p.listing.now ≡ listing_text (inventory found)) (legal : IsPieceLength found.piece_length)
+    (long : AreLong found.piece_length found.hybrid (total_of (inventory found).files) (length p.rows.items) 0 (inventory found).files (behind p)) where
+  turn_reason : (e : AssembleFault) → StopsInTurn (inventory found) e → HasReason texts e
+  turn_reason (fault.Refused r path) next = record {
+    listing = inventory found;
+    all = all_of texts p found are can exact;
+    why = inr (record { legal = legal; sizes = each_long (inventory found) texts p are exact long; next = next });
+  }
+  turn_reason fault.NoMemory next = tt
+  turn_reason (fault.NoPart place) next = absurd next
+  turn_reason (fault.OtherFolder number) next = absurd next
+  turn_reason (fault.OtherCount place) next = absurd next
+  turn_reason (fault.Twice number) next = absurd next
+  turn_reason (fault.Missing number parts) next = absurd next
+
+  pub added_all : (result : Result Outline AssembleFault) → IfOk result (IsDraftOf (inventory found)) → IfErr result AreNoWrite
+      → IfErr result (StopsInTurn (inventory found)) → AddsAll (inventory found) (behind p) result → IsAssembled texts result
+  added_all result draft no_write turn gathers = record {
+    all = if_ok_all result (inventory found, all_of texts p found are can exact);
+    reason = reason;
+    no_write = no_write;
+    draft = λ l listed of. subst (λ k. IfOk result (IsDraftOf k)) (read l listed (first_listing texts p l are of)) draft;
+    long = λ l listed of.
+        let listing = first_listing texts p l are of in
+        if_ok_all result
+        (each_long l texts p are listing
+        (subst (λ (k : Inventory). AreLong k.piece_length k.hybrid (total_of k.files) (length p.rows.items) 0 k.files (behind p)) (read l listed listing)
+        long));
+    gathers = λ l under contents listed held each.
+        subst (λ k. AddsAll k (behind p) result)
+        (read l listed (first_listing texts p l are (true_listing under l texts p are each))) gathers under contents held (each_says under l texts p are each);
+    takes = λ l under listed each. if_err_each result (takes texts l under listed each) reason;
+    whole = λ l under listed each whole. if_err_each result (blames_none texts l under listed each whole) reason;
+  }
+    where
+      reason : IfErr result (HasReason texts)
+      reason = if_err_each result turn_reason turn
 
 -- the same fault, passed on
 pub passed_on : (texts : List (List ℕ)) (e x : AssembleFault) (r : Result Outline AssembleFault) → r ≡ Err x → x ≡ e → IsAssembled texts (Err e)

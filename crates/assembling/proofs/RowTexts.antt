@@ -6,7 +6,7 @@ use Rattle.std.proofs.lemmas.Bool.{cases_lt, ne_eqb}
 use Rattle.std.proofs.lemmas.List.{nil_from_length}
 use Rattle.drafts.specs.Outline.{AreOfLength}
 use Rattle.part_drafts.specs.Parts.{IsRow, KnownPaths}
-use Rattle.part_drafts.specs.Rows.{joined, row_text}
+use Rattle.part_drafts.specs.Rows.{joined_hashes, row_text}
 use Rattle.part_texts.specs.Divisions.{capped, first_piece, hashed, span_of}
 use Rattle.part_texts.specs.Listings.{Listed}
 use Rattle.pieces.specs.Pieces.{IsPieceLength, pieces_of}
@@ -93,13 +93,13 @@ module _ (under : KnownPaths) (p : ℕ) (hybrid : Bool) (total parts part before
 
 -- ---- how long it is
 
-joined_length : (width : ℕ) (xs : List (List ℕ)) → AreOfLength width xs → length (joined xs) ≡ width * length xs
+joined_length : (width : ℕ) (xs : List (List ℕ)) → AreOfLength width xs → length (joined_hashes xs) ≡ width * length xs
 joined_length width [] are = omega arith
 joined_length width (x ∷ xs) are =
     let rest = joined_length width xs are.1 in
-    let next : width * suc (length xs) ≡ width + width * length xs = omega arith in omega (arith, length-append x (joined xs), are.0, rest, next)
+    let next : width * suc (length xs) ≡ width + width * length xs = omega arith in omega (arith, length-append x (joined_hashes xs), are.0, rest, next)
 
-some_size : (hybrid : Bool) (count : ℕ) → 0 < count → row_size hybrid count ≡ (if hybrid then 52 * count + 20 else 32 * count)
+pub some_size : (hybrid : Bool) (count : ℕ) → 0 < count → row_size hybrid count ≡ (if hybrid then 52 * count + 20 else 32 * count)
 some_size hybrid count some =
     ap (λ b. (if b then 0 else (if hybrid then 52 * count + 20 else 32 * count))) (ne_eqb count 0 (λ none. omega (arith, none, some)))
 
@@ -110,8 +110,8 @@ said_length true count row some fitting =
     let size : length (said_text true row) ≡ 52 * count + 20 =
     omega (
       arith,
-      length-append (joined row.nodes) (joined row.cuts ++ row.padded),
-      length-append (joined row.cuts) row.padded,
+      length-append (joined_hashes row.nodes) (joined_hashes row.cuts ++ row.padded),
+      length-append (joined_hashes row.cuts) row.padded,
       nodes,
       cuts,
       fitting.nodes,
@@ -121,7 +121,7 @@ said_length true count row some fitting =
     size ∙ sym (some_size true count some)
 said_length false count row some fitting =
     let nodes = joined_length 32 row.nodes fitting.node_widths in
-    let size : length (said_text false row) ≡ 32 * count = omega (arith, length-append (joined row.nodes) [], nodes, fitting.nodes) in
+    let size : length (said_text false row) ≡ 32 * count = omega (arith, length-append (joined_hashes row.nodes) [], nodes, fitting.nodes) in
     size ∙ sym (some_size false count some)
 
 -- a part says as many bytes as it is to

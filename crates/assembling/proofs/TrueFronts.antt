@@ -8,19 +8,21 @@ use Rattle.part_texts.specs.Listings.{Inventory, inventory}
 use Rattle.part_texts.specs.Readings.{CanBeListed}
 use Rattle.part_texts.specs.Texts.{listing_text}
 use Rattle.part_texts.specs.declared.listing.Listing.{Listing}
-use Rattle.assembling.specs.Assembly.{IsTruePart}
+use Rattle.pieces.specs.Pieces.{IsPieceLength}
+use Rattle.assembling.specs.Assembly.{IsTruePartText}
+use Rattle.assembling.specs.Behind.{IsFirstOther, behind}
 use Rattle.assembling.specs.Fronts.{Front, IsFront}
 use Rattle.assembling.specs.Heads.{ArePartsOf}
 use Rattle.assembling.specs.Reasons.{IsNoPart, IsNoPartAt}
 use Rattle.assembling.specs.Said.{Says}
-use Rattle.assembling.specs.Unsaid.{IsUnsaid, behind}
 use Rattle.assembling.specs.declared.numbers.Parts.{Parts}
 use Rattle.assembling.proofs.OneFront.{one_front}
+use Rattle.assembling.proofs.RowTexts.{says_length}
 
 -- ---- one text
 
 -- what a part's text begins with
-abbrev pub front_from : (under : KnownPaths) (l : Inventory) (text : List ℕ) → IsTruePart under l text → Front
+abbrev pub front_from : (under : KnownPaths) (l : Inventory) (text : List ℕ) → IsTruePartText under l text → Front
 front_from under l text t = record {
   part = t.part;
   parts = t.parts;
@@ -28,7 +30,7 @@ front_from under l text t = record {
   rows = rows_text l.piece_length l.hybrid l.files t.is.rows;
 }
 
-pub true_front : (under : KnownPaths) (l : Inventory) (text : List ℕ) (t : IsTruePart under l text) → IsFront text (front_from under l text t)
+pub true_front : (under : KnownPaths) (l : Inventory) (text : List ℕ) (t : IsTruePartText under l text) → IsFront text (front_from under l text t)
 true_front under l text t = record { there = t.there; small = t.small; short = t.short; is = t.is.text_is }
 
 -- a text without a front is none
@@ -36,7 +38,7 @@ pub no_front : (text : List ℕ) → ((f : Front) → IsFront text f → ⊥) �
 no_front text none = λ l under listed t. none (front_from under l text t) (true_front under l text t)
 
 -- a text with this front says what is true of all files
-pub front_says : (under : KnownPaths) (l : Inventory) (text : List ℕ) (f : Front) → IsFront text f → IsTruePart under l text
+pub front_says : (under : KnownPaths) (l : Inventory) (text : List ℕ) (f : Front) → IsFront text f → IsTruePartText under l text
     → (f.listing ≡ listing_text l) × Says under l.piece_length l.hybrid (total_of l.files) f.parts f.part 0 l.files f.rows
 front_says under l text f is t =
     let one = one_front text f (front_from under l text t) is (true_front under l text t) in (
@@ -69,17 +71,19 @@ module _ (texts : List (List ℕ)) (p : Parts) (are : ArePartsOf texts p) where
       )
 
   -- behind the front stands what its part cannot say
-  pub unsaid_text : (found : Listing) (place : ℕ) → IsRead p.listing.now found
-      → IsUnsaid found.piece_length found.hybrid (total_of (inventory found).files) (length p.rows.items) 0 (inventory found).files p place
+  pub other_text : (found : Listing) (place : ℕ) → IsPieceLength found.piece_length → IsRead p.listing.now found
+      → IsFirstOther found.piece_length found.hybrid (total_of (inventory found).files) (length p.rows.items) (inventory found).files p place
       → IsNoPartAt texts place
-  unsaid_text found place read u =
+  other_text found place legal read u =
       let b = are.each u.part u.rest u.there in
       let same : b.place ≡ place = same_Some b.place place (sym b.at ∙ u.at) in (
         b.text,
         ap (slice_get texts) (sym same) ∙ b.there,
         λ l under listed t.
             let says = front_says under l b.text _ b.front t in
-            u.unsaid under
+            u.other
+            (says_length under found.piece_length found.hybrid (total_of (inventory found).files) (length p.rows.items) u.part 0 (inventory found).files u.rest
+            legal
             (subst (λ (k : Inventory). Says under k.piece_length k.hybrid (total_of k.files) (length p.rows.items) u.part 0 k.files u.rest)
-            (sym (read l listed says.0)) says.1),
+            (sym (read l listed says.0)) says.1)),
       )

@@ -3,7 +3,7 @@ use Rattle.std.proofs.Common.{◌≡◌, ℕ, zero, suc, ◌-◌, ◌<◌, List,
 use Rattle.std.proofs.lemmas.Option.{none-some, slice_get-get_or, slice_get_within}
 use Rattle.assembling.specs.Fronts.{AreAllParts, AreOfOne, Front, IsFront}
 use Rattle.assembling.specs.Outcome.{BlamesNoText}
-use Rattle.assembling.specs.Reasons.{HasReason, IsMissing, IsNoPartAt, IsOfOtherCount, IsOfOtherFolder, IsThereTwice, StopsAt}
+use Rattle.assembling.specs.Reasons.{HasReason, IsMissing, IsNoPartAt, IsOfOtherCount, IsOfOtherFolder, IsThereTwice, StopsAtText}
 use Rattle.assembling.specs.declared.fault.AssembleFault.{AssembleFault}
 use Rattle.assembling.specs.declared.fault.AssembleFault.TheVariants as fault
 use Rattle.assembling.proofs.OneFront.{one_front}
@@ -50,22 +50,22 @@ module _ (texts : List (List ℕ)) (parts : ℕ) (listing : List ℕ) (all : Are
       let b = known j g u in
       all.are.apart i j a.0 b.0 a.1 b.1 (sym a.2 ∙ same ∙ b.2)
 
-  not_counted : (place : ℕ) → StopsAt texts place IsOfOtherCount → ⊥
+  not_counted : (place : ℕ) → StopsAtText texts place IsOfOtherCount → ⊥
   not_counted place s =
       let w = s.why in
       let first = earlier_text texts place s.fronts 0 w.1 s.before w.3 in
       w.4 ((known place w.0 (record { text = s.text; at = s.there; is = w.2 })).3 ∙ sym (known 0 w.1 first.1).3)
 
-  not_other : (place number : ℕ) → StopsAt texts place (IsOfOtherFolder number) → ⊥
+  not_other : (place number : ℕ) → StopsAtText texts place (IsOfOtherFolder number) → ⊥
   not_other place number s =
       let w = s.why in
       let first = earlier_text texts place s.fronts 0 w.1 s.before w.3 in
       w.6 ((known place w.0 (record { text = s.text; at = s.there; is = w.2 })).4 ∙ sym (known 0 w.1 first.1).4)
 
-  not_twice : (place number : ℕ) → StopsAt texts place (IsThereTwice number) → ⊥
+  not_twice : (place number : ℕ) → StopsAtText texts place (IsThereTwice number) → ⊥
   not_twice place number s =
       let w = s.why in
-      let before = w.3 in
+      let before = w.4 in
       let first = earlier_text texts place s.fronts before.0 before.1 s.before before.2 in
       let same = one_place place before.0 w.0 before.1 (record { text = s.text; at = s.there; is = w.1 }) first.1 (sym before.3) in
       omega (arith, same, first.0)

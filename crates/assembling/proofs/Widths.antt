@@ -20,7 +20,7 @@ use Rattle.hashtree.specs.Pieces.{padded_row, piece_at, piece_node, piece_nodes}
 use Rattle.hashtree.specs.Tree.{block, block_count, block_hashes, first_pad, height, pad_leaf, root_of, tree}
 use Rattle.opening.specs.PieceLayers.{piece_layer}
 use Rattle.part_drafts.proofs.Found.{cuts_joined, row_is}
-use Rattle.part_drafts.specs.Rows.{joined, row_nodes, row_text}
+use Rattle.part_drafts.specs.Rows.{joined_hashes, row_nodes, row_text}
 use Rattle.pieces.proofs.Cutting.{cut_count_is, length-cut_digests}
 use Rattle.pieces.specs.Cuts.{cut_digests, cuts, filled_up, last_cut_of}
 use Rattle.pieces.specs.Pieces.{IsPieceLength, pieces_of}
@@ -121,5 +121,5 @@ row_fits p n count row legal some short is = elim (cases_lt p n) [
 pub row_written : (p n : ℕ) (hybrid : Bool) (row : List ℕ) → 0 < length row → row_text p hybrid n row ≡ said_text hybrid (row_said p n row)
 row_written p n true row some =
     row_is p true n row some
-    ∙ ap (λ l. joined (row_nodes p n row) ++ l) (cuts_joined (cut_digests p row) (sha1 (filled_up p (last_cut_of p row))))
+    ∙ ap (λ l. joined_hashes (row_nodes p n row) ++ l) (cuts_joined (cut_digests p row) (sha1 (filled_up p (last_cut_of p row))))
 row_written p n false row some = row_is p false n row some

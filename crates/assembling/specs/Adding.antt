@@ -3,11 +3,13 @@ use Rattle.std.specs.Prelude.{◌≡◌, ◌≢◌, ◌⊎◌, List, ℕ, length
 use Rattle.drafts.specs.Outline.{Outline}
 use Rattle.filetree.specs.declared.refusal.Refusal.{Refusal}
 use Rattle.filetree.specs.declared.refusal.Refusal.TheVariants as refusals
+use Rattle.folders.specs.Shelf.{path_bytes}
 use Rattle.gathering.specs.Gathered.{DraftAdds}
 use Rattle.part_drafts.specs.Parts.{KnownPaths}
 use Rattle.part_texts.specs.Divisions.{total_of}
 use Rattle.part_texts.specs.Listings.{Inventory, Listed}
 use Rattle.assembling.specs.Assembly.{AreHeld, Assembles, RefusesListed}
+use Rattle.assembling.specs.Late.{RefusesNext, RefusesWhole}
 use Rattle.assembling.specs.Said.{EachSays}
 use Rattle.assembling.specs.declared.one_file.FileFault.{FileFault}
 use Rattle.assembling.specs.declared.one_file.FileFault.TheVariants as file
@@ -17,42 +19,18 @@ use Rattle.assembling.specs.declared.fault.AssembleFault.TheVariants as fault
 -- no refusal is that of a failed write
 abbrev pub AreNoWrite : AssembleFault → Type 0
 AreNoWrite (fault.Refused r path) = r ≢ refusals.Write
-AreNoWrite (fault.NoPart place) = ⊤
-AreNoWrite (fault.OtherFolder number) = ⊤
-AreNoWrite (fault.OtherCount place) = ⊤
-AreNoWrite (fault.Twice number) = ⊤
-AreNoWrite (fault.Missing number parts) = ⊤
-AreNoWrite fault.NoMemory = ⊤
-
--- a text is no whole text of a part, or memory was refused
-abbrev pub IsRowsFault : AssembleFault → Type 0
-IsRowsFault (fault.Refused r path) = ⊥
-IsRowsFault (fault.NoPart place) = ⊤
-IsRowsFault (fault.OtherFolder number) = ⊥
-IsRowsFault (fault.OtherCount place) = ⊥
-IsRowsFault (fault.Twice number) = ⊥
-IsRowsFault (fault.Missing number parts) = ⊥
-IsRowsFault fault.NoMemory = ⊤
+AreNoWrite e = ⊤
 
 -- memory was refused, or it is by what stands in front
 abbrev pub IsFrontFault : AssembleFault → Type 0
 IsFrontFault (fault.Refused r path) = ⊥
-IsFrontFault (fault.NoPart place) = ⊤
-IsFrontFault (fault.OtherFolder number) = ⊤
-IsFrontFault (fault.OtherCount place) = ⊤
-IsFrontFault (fault.Twice number) = ⊤
-IsFrontFault (fault.Missing number parts) = ⊤
-IsFrontFault fault.NoMemory = ⊤
+IsFrontFault e = ⊤
 
--- a text is no whole text of a part, a file was refused, or memory was
-abbrev pub IsLateFault : AssembleFault → Type 0
-IsLateFault (fault.Refused r path) = ⊤
-IsLateFault (fault.NoPart place) = ⊤
-IsLateFault (fault.OtherFolder number) = ⊥
-IsLateFault (fault.OtherCount place) = ⊥
-IsLateFault (fault.Twice number) = ⊥
-IsLateFault (fault.Missing number parts) = ⊥
-IsLateFault fault.NoMemory = ⊤
+-- a file was refused, in its turn, or memory was
+abbrev pub StopsInTurn : Inventory → AssembleFault → Type 0
+StopsInTurn l (fault.Refused r path) = RefusesNext l (path_bytes path) r
+StopsInTurn l fault.NoMemory = ⊤
+StopsInTurn l e = ⊥
 
 abbrev pub RefusesNoWrite : Result (Unit {0}) FileFault → Type 0
 RefusesNoWrite (Ok u) = ⊤
@@ -60,16 +38,22 @@ RefusesNoWrite (Err (file.Refused r)) = r ≢ refusals.Write
 RefusesNoWrite (Err file.NoMemory) = ⊤
 
 -- a file was refused for its length
-abbrev pub IsTooLong : Result (Unit {0}) FileFault → Type 0
-IsTooLong (Ok u) = ⊥
-IsTooLong (Err (file.Refused r)) = r ≡ refusals.Length
-IsTooLong (Err file.NoMemory) = ⊥
+abbrev pub IsFileTooLong : Result (Unit {0}) FileFault → Type 0
+IsFileTooLong (Ok u) = ⊥
+IsFileTooLong (Err (file.Refused r)) = r ≡ refusals.Length
+IsFileTooLong (Err file.NoMemory) = ⊥
 
 -- the fault of a file that a draft refused
 abbrev pub IsRefusal : Refusal → FileFault → Type 0
 IsRefusal r f =
     ((r ≡ refusals.NoMemory) × (f ≡ file.NoMemory))
     ⊎ ((r ≢ refusals.NoMemory) × (f ≡ file.Refused r))
+
+-- a file was refused as the draft refuses it with nodes of all its pieces
+abbrev pub RefusesAsWhole : Outline → Listed → Result (Unit {0}) FileFault → Type 0
+RefusesAsWhole d f (Ok u) = ⊤
+RefusesAsWhole d f (Err (file.Refused r)) = RefusesWhole d f r
+RefusesAsWhole d f (Err file.NoMemory) = ⊤
 
 -- a file of this content was added to the draft d, which is e then, or refused
 abbrev pub AddsContent : Outline → Listed → List ℕ → Outline → Result (Unit {0}) FileFault → Type 0

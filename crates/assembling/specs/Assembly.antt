@@ -14,7 +14,7 @@ use Rattle.assembling.specs.declared.fault.AssembleFault.{AssembleFault}
 use Rattle.assembling.specs.declared.fault.AssembleFault.TheVariants as fault
 
 -- the text is that of a part of a folder with this listing, and true of what is known of its files
-pub record IsTruePart (under : KnownPaths) (l : Inventory) (text : List ℕ) : Type 0 where
+pub record IsTruePartText (under : KnownPaths) (l : Inventory) (text : List ℕ) : Type 0 where
   pub part : ℕ
   pub parts : ℕ
   pub there : part < parts
@@ -25,7 +25,7 @@ pub record IsTruePart (under : KnownPaths) (l : Inventory) (text : List ℕ) : T
 -- each text is so
 abbrev pub AreTrueParts : KnownPaths → Inventory → List (List ℕ) → Type 0
 AreTrueParts under l texts =
-    (i : ℕ) (text : List ℕ) → slice_get texts i ≡ Some text → IsTruePart under l text
+    (i : ℕ) (text : List ℕ) → slice_get texts i ≡ Some text → IsTruePartText under l text
 
 -- these are the contents of the listed files, in turn
 abbrev pub AreHeld : KnownPaths → List Listed → List (List ℕ) → Type 0

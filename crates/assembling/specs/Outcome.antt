@@ -9,6 +9,7 @@ use Rattle.assembling.specs.Added.{IsDraftOf}
 use Rattle.assembling.specs.Adding.{AreNoWrite}
 use Rattle.assembling.specs.Assembly.{AreHeld, AreTrueParts, Assembles}
 use Rattle.assembling.specs.Fronts.{AreAllParts, IsOfListing}
+use Rattle.assembling.specs.Late.{AreAllOf}
 use Rattle.assembling.specs.Reasons.{HasReason}
 use Rattle.assembling.specs.Sizes.{AreOfSize}
 use Rattle.assembling.specs.declared.fault.AssembleFault.{AssembleFault}
@@ -18,34 +19,30 @@ use Rattle.assembling.specs.declared.fault.AssembleFault.TheVariants as fault
 abbrev pub AreWhole : List (List ℕ) → Type 0
 AreWhole texts = (parts : ℕ) × (listing : List ℕ) × AreAllParts parts listing texts
 
+-- the texts are those of all parts of one listing
+abbrev pub AreOfOneListing : List (List ℕ) → Type 0
+AreOfOneListing texts = (l : Inventory) × AreAllOf texts l
+
 -- no text is refused as none of a part
 abbrev pub TakesTexts : AssembleFault → Type 0
 TakesTexts (fault.NoPart place) = ⊥
-TakesTexts (fault.OtherFolder number) = ⊤
-TakesTexts (fault.OtherCount place) = ⊤
-TakesTexts (fault.Twice number) = ⊤
-TakesTexts (fault.Missing number parts) = ⊤
-TakesTexts (fault.Refused r path) = ⊤
-TakesTexts fault.NoMemory = ⊤
+TakesTexts e = ⊤
 
 -- no text is to blame: the piece length or a file was refused, or memory was
 abbrev pub BlamesNoText : AssembleFault → Type 0
-BlamesNoText (fault.NoPart place) = ⊥
-BlamesNoText (fault.OtherFolder number) = ⊥
-BlamesNoText (fault.OtherCount place) = ⊥
-BlamesNoText (fault.Twice number) = ⊥
-BlamesNoText (fault.Missing number parts) = ⊥
 BlamesNoText (fault.Refused r path) = ⊤
 BlamesNoText fault.NoMemory = ⊤
+BlamesNoText e = ⊥
 
--- A draft comes only of the texts of all parts of one whole, each as long as its listing asks for,
--- and holds the files of their listing; a fault only for its reason, and never that of a failed
--- write. If each text says what is true of the same contents, then the draft is that which is
--- gathered of these, a refusal is the first of such a draft, and no text is refused as none of a
--- part. If they are the texts of all parts too, then no text is to blame at all.
+-- A draft comes only of the texts of all parts of one listing, whose text stands in each byte for
+-- byte; each is as long as the listing asks for, and the draft holds its files. A fault comes only
+-- for its reason, and never that of a failed write. If each text says what is true of the same
+-- contents, then the draft is that which is gathered of these, a refusal is the first of such a
+-- draft, and no text is refused as none of a part. If they are the texts of all parts too, then no
+-- text is to blame at all.
 pub record IsAssembled (texts : List (List ℕ)) (result : Result Outline AssembleFault) : Type 0
   where
-    pub all : IfOk result (λ _. AreWhole texts)
+    pub all : IfOk result (λ _. AreOfOneListing texts)
     pub reason : IfErr result (HasReason texts)
     pub no_write : IfErr result AreNoWrite
     pub draft : (l : Inventory) → CanBeListed l → IsOfListing (listing_text l) texts

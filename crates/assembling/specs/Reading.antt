@@ -1,19 +1,7 @@
 -- What is read of a part's text. Public clauses do not name these.
-use Rattle.std.specs.Prelude.{◌≡◌, ℕ, ◌+◌, Bool, true, ◌++◌, length, Option, Some, None, Result, Ok, Err, ⊤}
+use Rattle.std.specs.Prelude.{◌≡◌, ℕ, ◌+◌, Bool, true, ◌++◌, length}
 use Rattle.assembling.specs.Said.{RowSaid}
 use Rattle.assembling.specs.declared.rows.FileRows.{FileRows}
-
--- it was read, unless memory was refused, and this holds of it
-abbrev pub IfRead : {A E : Type 0} → Result (Option A) E → (A → Type 0) → Type 0
-IfRead (Ok (Some a)) P = P a
-IfRead (Ok None) P = ⊥
-IfRead (Err e) P = ⊤
-
--- this holds, if it was read
-abbrev pub IfAdded : {A E : Type 0} → Result (Option A) E → Type 0 → Type 0
-IfAdded (Ok (Some a)) P = P
-IfAdded (Ok None) P = ⊤
-IfAdded (Err e) P = ⊤
 
 -- this many nodes came to a file's, and in a hybrid as many digests of cuts
 pub record AddsCount (count : ℕ) (hybrid : Bool) (old new : FileRows) : Type 0 where

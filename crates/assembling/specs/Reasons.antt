@@ -1,16 +1,18 @@
 -- Why no torrent is assembled: what stands in the first text at which it stops.
 use Rattle.std.specs.Prelude.{◌≡◌, ◌≢◌, ◌⊎◌, ℕ, ◌+◌, ◌<◌, List, [], take, slice_get, Some, ⊤}
+use Rattle.folders.specs.Shelf.{path_bytes}
 use Rattle.part_drafts.specs.Parts.{KnownPaths}
 use Rattle.part_texts.specs.Listings.{Inventory}
 use Rattle.part_texts.specs.Readings.{CanBeListed}
-use Rattle.assembling.specs.Assembly.{IsTruePart}
-use Rattle.assembling.specs.Fronts.{AreAllParts, AreOfOne, Front, HasPart, IsFront}
+use Rattle.assembling.specs.Assembly.{IsTruePartText}
+use Rattle.assembling.specs.Fronts.{AreOfOne, Front, HasPart, IsFront}
+use Rattle.assembling.specs.Late.{HasNoListing, IsFirstOfOtherSize, RefusesParts}
 use Rattle.assembling.specs.declared.fault.AssembleFault.{AssembleFault}
 use Rattle.assembling.specs.declared.fault.AssembleFault.TheVariants as fault
 
 -- the texts before this one are of different parts of one whole, and this holds of their fronts and
 -- the text at the place
-pub record StopsAt (texts : List (List ℕ)) (place : ℕ) (Why : List Front → List ℕ → Type 0)
+pub record StopsAtText (texts : List (List ℕ)) (place : ℕ) (Why : List Front → List ℕ → Type 0)
     : Type 0 where
   pub fronts : List Front
   pub before : AreOfOne (take place texts) fronts
@@ -34,14 +36,21 @@ IsOfOtherFolder number fronts text = (f first : Front) × IsFront text f
     × (slice_get fronts 0 ≡ Some first) × (f.part + 1 ≡ number) × (f.parts ≡ first.parts)
     × (f.listing ≢ first.listing)
 
--- it is of the part with this number, from 1, and one before it is too
+-- it is of as many parts as the first, and of the same listing
+abbrev pub IsAsFirst : List Front → Front → Type 0
+IsAsFirst fronts f = (first : Front) → slice_get fronts 0 ≡ Some first
+    → (f.parts ≡ first.parts) × (f.listing ≡ first.listing)
+
+-- it is of the part with this number, from 1, of as many parts and of the same listing as the
+-- first, and one before it is of this part too
 abbrev pub IsThereTwice : ℕ → List Front → List ℕ → Type 0
-IsThereTwice number fronts text =
-    (f : Front) × IsFront text f × (f.part + 1 ≡ number) × HasPart fronts f.part
+IsThereTwice number fronts text = (f : Front) × IsFront text f × (f.part + 1 ≡ number)
+    × IsAsFirst fronts f × HasPart fronts f.part
 
 -- it is no whole text of a part: of no folder that can be listed, whatever its files hold
 abbrev pub IsNoPart : List ℕ → Type 0
-IsNoPart text = (l : Inventory) (under : KnownPaths) → CanBeListed l → IsTruePart under l text → ⊥
+IsNoPart text =
+    (l : Inventory) (under : KnownPaths) → CanBeListed l → IsTruePartText under l text → ⊥
 
 -- the text at this place is none
 abbrev pub IsNoPartAt : List (List ℕ) → ℕ → Type 0
@@ -60,12 +69,13 @@ pub record IsMissing (texts : List (List ℕ)) (number parts : ℕ) : Type 0 whe
 
 -- why it stops at a fault
 abbrev pub HasReason : List (List ℕ) → AssembleFault → Type 0
-HasReason texts (fault.NoPart place) = IsNoPartAt texts place × (StopsAt texts place HasNoFront
-    ⊎ ((parts : ℕ) × (listing : List ℕ) × AreAllParts parts listing texts))
+HasReason texts (fault.NoPart place) = IsNoPartAt texts place
+    × (StopsAtText texts place HasNoFront ⊎ HasNoListing texts place
+    ⊎ IsFirstOfOtherSize texts place)
 HasReason texts (fault.OtherFolder number) =
-    (place : ℕ) × StopsAt texts place (IsOfOtherFolder number)
-HasReason texts (fault.OtherCount place) = StopsAt texts place IsOfOtherCount
-HasReason texts (fault.Twice number) = (place : ℕ) × StopsAt texts place (IsThereTwice number)
+    (place : ℕ) × StopsAtText texts place (IsOfOtherFolder number)
+HasReason texts (fault.OtherCount place) = StopsAtText texts place IsOfOtherCount
+HasReason texts (fault.Twice number) = (place : ℕ) × StopsAtText texts place (IsThereTwice number)
 HasReason texts (fault.Missing number parts) = IsMissing texts number parts
-HasReason texts (fault.Refused r path) = ⊤
+HasReason texts (fault.Refused r path) = RefusesParts texts (path_bytes path) r
 HasReason texts fault.NoMemory = ⊤

@@ -2,7 +2,7 @@
 use Rattle.std.specs.Prelude.{◌≡◌, ℕ, Bool, List, [], ◌++◌, length, slice_get, Some, if◌then◌else◌}
 use Rattle.drafts.specs.Outline.{AreOfLength}
 use Rattle.part_drafts.specs.Parts.{AreRows, KnownPaths, rows_text}
-use Rattle.part_drafts.specs.Rows.{joined}
+use Rattle.part_drafts.specs.Rows.{joined_hashes}
 use Rattle.part_texts.specs.Listings.{Listed}
 
 -- what is said of a row of pieces: the nodes over them, the digests of a hybrid's cuts, and that of
@@ -22,7 +22,8 @@ pub record FitsCount (count : ℕ) (row : RowSaid) : Type 0 where
 
 -- as it is written
 abbrev pub said_text : Bool → RowSaid → List ℕ
-said_text hybrid row = joined row.nodes ++ (if hybrid then joined row.cuts ++ row.padded else [])
+said_text hybrid row =
+    joined_hashes row.nodes ++ (if hybrid then joined_hashes row.cuts ++ row.padded else [])
 
 -- this is what a part says of the files from one on, before which there are this many bytes
 pub record Says (under : KnownPaths) (piece_length : ℕ) (hybrid : Bool)

@@ -31,7 +31,7 @@ pub record IsHeld (under : KnownPaths) (piece_length : ℕ) (hybrid : Bool) (tot
   pub short : f.bytes ≤ 2 ^ 46
 
 -- what was taken is the content's, and each part says what is true of the files behind it
-pub record IsTaken (under : KnownPaths) (piece_length : ℕ) (hybrid : Bool) (total before : ℕ)
+pub record IsContentTaken (under : KnownPaths) (piece_length : ℕ) (hybrid : Bool) (total before : ℕ)
     (f : Listed) (fs : List Listed) (content : List ℕ) (rows : FileRows) (texts : List (List ℕ))
     : Type 0 where
   pub is : IsOfContent piece_length hybrid content rows

@@ -1,9 +1,9 @@
 //! The assembly of a torrent.
 ghost use Rattle.std.specs.Prelude.{◌≡◌, ◌<◌, ◌≤◌, IfErr, IfOk, length, map};
 ghost use Rattle.assembling.specs.Added.{IsDraftOf};
-ghost use Rattle.assembling.specs.Adding.{AddsAll, AreNoWrite, IsLateFault};
+ghost use Rattle.assembling.specs.Adding.{AddsAll, AreNoWrite, StopsInTurn};
+ghost use Rattle.assembling.specs.Behind.{AreLong, behind};
 ghost use Rattle.assembling.specs.Outcome.{IsAssembled};
-ghost use Rattle.assembling.specs.Unsaid.{NamesUnsaid};
 ghost use Rattle.part_texts.specs.Divisions.{total_of};
 ghost use Rattle.part_texts.specs.Listings.{inventory, listed};
 ghost use Rattle.pieces.specs.Pieces.{IsPieceLength};
@@ -31,9 +31,10 @@ use std::alloc::Global;
 /// # Errors
 ///
 /// The first of these: `NoPart`, `OtherCount`, `OtherFolder` and `Twice` by the fronts, in the
-/// order of the texts; `Missing`; `NoPart` if the listing is none, or by the size of a text, in the
-/// order of the parts; `Refused` with what the draft refuses: the piece length, or a file in its
-/// turn, and never `Write`. `NoMemory` comes only if memory was refused.
+/// order of the texts; `Missing`, of the first part that is not there; `NoPart` of part 1 if the
+/// listing is none; `Refused` of the piece length; `NoPart` by the size of a text, in the order of
+/// the parts; `Refused` of a file in its turn, as the draft refuses it, and never `Write`.
+/// `NoMemory` comes only if memory was refused.
 pub fn assemble(alloc: Global, texts: &[&[u8]]) -> Result<Draft, AssembleFault>
     ensures { IsAssembled (map (λ x. x.now) texts.now) result }
 {
@@ -61,16 +62,15 @@ fn add_all(
 ) -> Result<Draft, AssembleFault>
     requires parts { division.now.parts ≡ length parts.rows.items }
     requires some { 0 < length parts.rows.items }
-    requires places { length parts.places.items ≡ length parts.rows.items }
     requires piece_length { piece_length ≡ listing.piece_length }
     requires legal { IsPieceLength listing.piece_length }
     requires shared { division.now.piece_length ≡ listing.piece_length }
     requires total { division.now.total ≡ total_of (map listed listing.files.items) }
+    requires long { AreLong division.now.piece_length listing.hybrid division.now.total
+        division.now.parts 0 (map listed listing.files.items) (behind parts) }
     ensures draft { IfOk result (IsDraftOf (inventory listing)) }
     ensures no_write { IfErr result AreNoWrite }
-    ensures fault { IfErr result IsLateFault }
-    ensures reason { IfErr result (NamesUnsaid division.now.piece_length listing.hybrid
-        division.now.total division.now.parts 0 (map listed listing.files.items) parts.entry) }
+    ensures reason { IfErr result (StopsInTurn (inventory listing)) }
     ensures gathers { AddsAll (inventory listing) (map (λ x. x.now) parts.entry.rows.items) result }
 {
     let mut parts = parts;

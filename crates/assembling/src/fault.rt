@@ -1,7 +1,6 @@
 //! Why no torrent is assembled.
 ghost use Rattle.std.specs.Prelude.{◌≡◌};
-ghost use Rattle.assembling.specs.Adding.{IsRowsFault};
-ghost use Rattle.assembling.specs.Unsaid.{unread_as};
+ghost use Rattle.assembling.specs.Behind.{unread_as};
 
 use filetree::Refusal;
 use part_texts::ListingFault;
@@ -9,7 +8,7 @@ use std::alloc::AllocError;
 
 /// Why no torrent is assembled. A text is named by its place among them, from 0, and a part by its
 /// number, from 1.
-#[derive(Debug, PartialEq, Drop)]
+#[derive(Drop)]
 pub enum AssembleFault {
     /// This text is not the whole text of a part.
     NoPart(usize),
@@ -42,8 +41,7 @@ impl From<AllocError> for AssembleFault {
 
 /// The fault, for the text at this place.
 pub(crate) fn unread(fault: ListingFault, place: usize) -> AssembleFault
-    ensures fault { IsRowsFault result }
-    ensures is { result ≡ unread_as fault place }
+    ensures { result ≡ unread_as fault place }
 {
     match fault {
         ListingFault::None => AssembleFault::NoPart(place),

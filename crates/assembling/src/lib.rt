@@ -4,6 +4,7 @@
 mod all_rows;
 mod assembling;
 mod fault;
+pub mod laws;
 mod numbers;
 mod one_file;
 mod rows;

@@ -2,7 +2,7 @@
 ghost use Rattle.std.specs.Prelude.{◌≡◌, ◌^◌, ◌<◌, ◌≤◌, ℕ, List, IfOk, OnOk, length, map};
 ghost use Rattle.std.specs.String.{string_bytes};
 ghost use Rattle.assembling.specs.Added.{IsWithListed};
-ghost use Rattle.assembling.specs.Adding.{AddsContent, IsRefusal, IsTooLong, RefusesNoWrite};
+ghost use Rattle.assembling.specs.Adding.{AddsContent, IsFileTooLong, IsRefusal, RefusesAsWhole, RefusesNoWrite};
 ghost use Rattle.assembling.specs.Taking.{HasEach, IsOfContent};
 ghost use Rattle.part_texts.specs.Divisions.{hashed};
 ghost use Rattle.part_texts.specs.Listings.{listed};
@@ -63,7 +63,8 @@ pub(crate) fn add_file(
     ensures piece_length { draft.new.piece_length ≡ draft.old.piece_length }
     ensures added { OnOk result (IsWithListed draft.old draft.new (listed file.now)) }
     ensures short { OnOk result (file.now.length ≤ 2 ^ 46) }
-    ensures long { 2 ^ 46 < file.now.length → IsTooLong result }
+    ensures long { 2 ^ 46 < file.now.length → IsFileTooLong result }
+    ensures refused { RefusesAsWhole draft.old (listed file.now) result }
     ensures no_write { RefusesNoWrite result }
     ensures content { (content : List ℕ) → IsOfContent piece_length hybrid content rows
         → length content ≡ file.now.length

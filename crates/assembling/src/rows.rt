@@ -1,9 +1,10 @@
 //! What a part's text says of the pieces of one file, read.
-ghost use Rattle.std.specs.Prelude.{◌≡◌, ◌+◌, ◌++◌, ◌<◌, ℕ, List, length, true};
-ghost use Rattle.assembling.specs.Reading.{AddsCount, IfAdded, IfRead, IsBehind};
+ghost use Rattle.std.specs.Prelude.{◌≡◌, ◌+◌, ◌*◌, ◌++◌, ◌<◌, ◌≤◌, ℕ, List, IfOk, length, true};
+ghost use Rattle.assembling.specs.Reading.{AddsCount, IsBehind};
 ghost use Rattle.assembling.specs.Said.{FitsCount, RowSaid, said_text};
+ghost use Rattle.assembling.specs.Sizes.{row_size};
 ghost use Rattle.drafts.specs.Outline.{AreOfLength};
-ghost use Rattle.part_drafts.specs.Rows.{joined};
+ghost use Rattle.part_drafts.specs.Rows.{joined_hashes};
 
 use hashtree::Hash;
 use pieces::V1File;
@@ -18,72 +19,73 @@ pub(crate) struct FileRows {
     pub(crate) v1: V1File,
 }
 
-// What stands behind what was read; `None` if the text is too short.
-type Rest<'t> = Result<Option<&'t [u8]>, AllocError>;
+// What stands behind what was read.
+type Rest<'t> = Result<&'t [u8], AllocError>;
 
-/// Reads what stands in front of a text of this many pieces, and gives what stands behind it;
-/// `None` if the text is too short. Of no pieces nothing stands there. It takes memory for what is
-/// there.
+/// Reads what stands in front of a text of this many pieces, and gives what stands behind it. Of no
+/// pieces nothing stands there. The text has room for them.
 pub(crate) fn read_row<'t>(
     text: &'t [u8],
     count: u64,
     hybrid: bool,
     rows: &mut FileRows,
 ) -> Rest<'t>
-    ensures count { IfAdded result (AddsCount count hybrid rows.old rows.new) }
+    requires { row_size hybrid count ≤ length text.now }
+    ensures size { IfOk result (λ rest. length rest.now + row_size hybrid count
+        ≡ length text.now) }
+    ensures count { IfOk result (λ _. AddsCount count hybrid rows.old rows.new) }
     ensures nothing { count ≡ 0
-        → IfRead result (λ rest. (rest.now ≡ text.now) × (rows.new ≡ rows.old)) }
+        → IfOk result (λ rest. (rest.now ≡ text.now) × (rows.new ≡ rows.old)) }
     ensures said { (row : RowSaid) (more : List ℕ) → 0 < count → FitsCount count row
         → text.now ≡ said_text hybrid row ++ more
-        → IfRead result (λ rest. (rest.now ≡ more) × IsBehind hybrid row rows.old rows.new) }
+        → IfOk result (λ rest. (rest.now ≡ more) × IsBehind hybrid row rows.old rows.new) }
 {
     if count == 0 {
-        return Ok(Some(text));
+        return Ok(text);
     }
-    let Some(rest) = read_each(text, count, &mut rows.nodes)? else {
-        return Ok(None);
-    };
+    let rest = read_each(text, count, &mut rows.nodes)?;
     if hybrid {
         read_cuts(rest, count, &mut rows.v1)
     } else {
-        Ok(Some(rest))
+        Ok(rest)
     }
 }
 
 // Reads the digests of this many cuts, and at last that of the last one filled up with zeros.
 fn read_cuts<'t>(text: &'t [u8], count: u64, v1: &mut V1File) -> Rest<'t>
-    ensures count { IfAdded result (length v1.new.cuts.items ≡ length v1.old.cuts.items + count) }
+    requires { 20 * count + 20 ≤ length text.now }
+    ensures size { IfOk result (λ rest. length rest.now + (20 * count + 20)
+        ≡ length text.now) }
+    ensures count { IfOk result (λ _.
+        length v1.new.cuts.items ≡ length v1.old.cuts.items + count) }
     ensures said { (cuts : List (List ℕ)) (padded more : List ℕ) → length cuts ≡ count
         → AreOfLength 20 cuts → length padded ≡ 20
-        → text.now ≡ joined cuts ++ (padded ++ more)
-        → IfRead result (λ rest. (rest.now ≡ more)
+        → text.now ≡ joined_hashes cuts ++ (padded ++ more)
+        → IfOk result (λ rest. (rest.now ≡ more)
         × (v1.new.cuts.items ≡ v1.old.cuts.items ++ cuts) × (v1.new.padded ≡ padded)) }
 {
-    let Some(rest) = read_each(text, count, &mut v1.cuts)? else {
-        return Ok(None);
-    };
-    let Some((padded, behind)) = rest.split_first_chunk::<20>() else {
-        return Ok(None);
-    };
+    let rest = read_each(text, count, &mut v1.cuts)?;
+    let (padded, behind) = rest.split_first_chunk::<20>().unwrap();
     v1.padded = *padded;
-    Ok(Some(behind))
+    Ok(behind)
 }
 
 // Reads this many digests, and puts them behind the others.
 fn read_each<'t, const N: usize>(text: &'t [u8], count: u64, digests: &mut Vec<[u8; N]>) -> Rest<'t>
-    ensures count { IfAdded result (length digests.new.items ≡ length digests.old.items + count) }
+    requires { N * count ≤ length text.now }
+    ensures size { IfOk result (λ rest. length rest.now + N * count ≡ length text.now) }
+    ensures count { IfOk result (λ _.
+        length digests.new.items ≡ length digests.old.items + count) }
     ensures said { (given : List (List ℕ)) (more : List ℕ) → length given ≡ count
-        → AreOfLength N given → text.now ≡ joined given ++ more
-        → IfRead result (λ rest. (rest.now ≡ more)
+        → AreOfLength N given → text.now ≡ joined_hashes given ++ more
+        → IfOk result (λ rest. (rest.now ≡ more)
         × (digests.new.items ≡ digests.old.items ++ given)) }
 {
     let mut rest = text;
     'digests: for _number in 0..count {
-        let Some((digest, behind)) = rest.split_first_chunk::<N>() else {
-            return Ok(None);
-        };
+        let (digest, behind) = rest.split_first_chunk::<N>().unwrap();
         digests.push(*digest).map_err(AllocError::from)?;
         rest = behind;
     }
-    Ok(Some(rest))
+    Ok(rest)
 }

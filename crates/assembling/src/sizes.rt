@@ -1,16 +1,14 @@
 //! How much each part is to say.
 ghost use Rattle.std.specs.Prelude.{◌≡◌, ◌-◌, ◌^◌, ◌<◌, IfErr, IfOk, length, map, min};
-ghost use Rattle.assembling.specs.Adding.{IsRowsFault};
+ghost use Rattle.assembling.specs.Behind.{AreLong, NamesFirstOther, behind};
 ghost use Rattle.assembling.specs.Sizes.{row_size, rows_size};
-ghost use Rattle.assembling.specs.Unsaid.{AreLong, NamesUnsaid, behind};
 ghost use Rattle.part_texts.specs.Listings.{listed};
-ghost use Rattle.pieces.specs.Pieces.{IsPieceLength};
 
 use crate::fault::AssembleFault;
 use crate::numbers::Parts;
 use part_texts::{Division, Listing, hashed};
 
-/// Tests that each part says as much as it is to.
+/// Tests that each part says as much as it is to, in their order.
 pub(crate) fn test_sizes(
     parts: &Parts<'_>,
     listing: &Listing,
@@ -18,13 +16,11 @@ pub(crate) fn test_sizes(
 ) -> Result<(), AssembleFault>
     requires places { length parts.now.places.items ≡ length parts.now.rows.items }
     requires parts { division.now.parts ≡ length parts.now.rows.items }
-    requires legal { IsPieceLength division.now.piece_length }
     ensures sizes { IfOk result (λ _. AreLong division.now.piece_length listing.now.hybrid
-        division.now.total division.now.parts (map listed listing.now.files.items)
+        division.now.total division.now.parts 0 (map listed listing.now.files.items)
         (behind parts.now)) }
-    ensures reason { IfErr result (NamesUnsaid division.now.piece_length listing.now.hybrid
-        division.now.total division.now.parts 0 (map listed listing.now.files.items) parts.now) }
-    ensures fault { IfErr result IsRowsFault }
+    ensures reason { IfErr result (NamesFirstOther division.now.piece_length listing.now.hybrid
+        division.now.total division.now.parts (map listed listing.now.files.items) parts.now) }
 {
     'parts: for part in 0..parts.rows.len() {
         let size = size_of(listing, division, part as u64);

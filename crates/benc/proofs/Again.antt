@@ -20,7 +20,7 @@ use Rattle.benc.specs.declared.fault.FaultKind.TheVariants.{KeyOrder}
 use Rattle.benc.proofs.Values.{value_integer, value_items, value_pairs, value_text}
 use Rattle.benc.specs.Digits.{is_digit, digits_of_front, after_digits}
 use Rattle.benc.specs.Spelling.{is_above}
-use Rattle.benc.specs.Items.{is_plain, integer_of, digits_at, integer_at, string_of, string_at, in_order, key_at}
+use Rattle.benc.specs.Items.{is_plain_run, integer_of, digits_at, integer_at, string_of, string_at, in_order, key_at}
 
 digit_test : (c : ℕ) → digit_value c < 10 → is_digit c ≡ true
 digit_test c h = grind (arith, nat_tests, h)
@@ -37,7 +37,7 @@ after_is : (run : List ℕ) (c : ℕ) (rest : List ℕ) → AllDigits 10 run →
 after_is run c rest h n = rw (front_len run c rest h n) (drop_at run (c ∷ rest) (length run) refl)
 
 -- the text of a number has no leading zero, but for `0`
-decimal_plain : (n : ℕ) → n < 2 ^ 64 → is_plain (decimal n) ≡ true
+decimal_plain : (n : ℕ) → n < 2 ^ 64 → is_plain_run (decimal n) ≡ true
 decimal_plain zero small = rw (decimal_digit 0 (omega arith)) refl
 decimal_plain (suc n) small =
     let long = (decimal_is_IsNumeral (suc n) small).0.0 in

@@ -14,9 +14,9 @@ use Rattle.std.proofs.lemmas.Fmt.{decimal-digits_value, decimal_digit}
 use Rattle.benc.specs.declared.fault.FaultKind.{FaultKind}
 use Rattle.benc.specs.declared.fault.FaultKind.TheVariants.{Truncated, BadStart, BadInteger, IntegerRange, BadLength, KeyOrder}
 use Rattle.benc.specs.Spelling.{string, integer, IsAbove}
-use Rattle.benc.specs.Digits.{is_digit, digits_of_front, after_digits, signed, in_range, IsRun}
+use Rattle.benc.specs.Digits.{is_digit, digits_of_front, after_digits, signed, in_range, IsDigitRun}
 use Rattle.benc.specs.Spelling.{is_above}
-use Rattle.benc.specs.Items.{is_plain, integer_of, digits_at, integer_at, string_of, string_at, in_order, key_at}
+use Rattle.benc.specs.Items.{is_plain_run, integer_of, digits_at, integer_at, string_of, string_at, in_order, key_at}
 use Rattle.benc.proofs.Digits.{digit_high, digit_low, digit_value_is, front_is_run}
 
 -- tests that did not fail
@@ -34,20 +34,20 @@ three true true false h = (refl, refl, refl)
 three true false r h = absurd cc
 three false q r h = absurd cc
 
-plain_facts : (run : List ℕ) → is_plain run ≡ true → (0 < length run) × (get_or run 0 0 ≡ 48 → length run ≡ 1)
+plain_facts : (run : List ℕ) → is_plain_run run ≡ true → (0 < length run) × (get_or run 0 0 ≡ 48 → length run ≡ 1)
 plain_facts [] h = absurd cc
 plain_facts (c ∷ cs) h = (omega arith, λ e. grind (arith, nat_tests, e, h))
 
 own : IsNumeralModel (AllDigits 10) (digits_value 10)
 own = numerals_by_value (AllDigits 10) tells_digits
 
-run_digits : (run : List ℕ) → IsRun run → AllDigits 10 run
+run_digits : (run : List ℕ) → IsDigitRun run → AllDigits 10 run
 run_digits [] h = tt
 run_digits (c ∷ cs) h =
     let d : IsTrue (is_digit c) = h 0 (omega arith) in
     (omega (arith, digit_value_is c d, digit_high c d, digit_low c d), run_digits cs (λ i lt. h (suc i) (omega arith)))
 
-run_decimal : (run : List ℕ) → IsRun run → is_plain run ≡ true → digits_value 10 run < 2 ^ 64 → decimal (digits_value 10 run) ≡ run
+run_decimal : (run : List ℕ) → IsDigitRun run → is_plain_run run ≡ true → digits_value 10 run < 2 ^ 64 → decimal (digits_value 10 run) ≡ run
 run_decimal run h plain small = let facts = plain_facts run plain in decimal-digits_value own run (run_digits run h) facts.0 facts.1 small
 
 abbrev done : {A E : Type 0} → E → A → Result A E
@@ -57,7 +57,7 @@ ok_is : {A : Type 0} (x y : A) → done {E = FaultKind} Truncated x ≡ done Tru
 ok_is x y e = cc
 
 -- the digits of a signed number
-signed_text : (minus : Bool) (run : List ℕ) → IsRun run → is_plain run ≡ true → (minus && eqb (get_or run 0 0) 48) ≡ false
+signed_text : (minus : Bool) (run : List ℕ) → IsDigitRun run → is_plain_run run ≡ true → (minus && eqb (get_or run 0 0) 48) ≡ false
     → in_range minus (digits_value 10 run) ≡ true
     → FitsSigned w64 (signed minus (digits_value 10 run)) × (signed_decimal (signed minus (digits_value 10 run)) ≡ cond minus (45 ∷ run) run)
 signed_text false run h plain nz inside =
@@ -73,12 +73,12 @@ signed_text true run h plain nz inside =
         absurd (both_ways (eqb (get_or run 0 0) 48) nz (subst (λ r. (eqb (get_or r 0 0) 48) ≡ true) zero_text refl))
     below_zero (suc n) e le = (record { sfits = omega arith }, ap (λ r. 45 ∷ r) (ap decimal (sym e) ∙ run_decimal run h plain (omega arith)))
 
-integer_of_takes : (minus : Bool) (run after : List ℕ) (z : ℤ) (rest : List ℕ) → IsRun run → integer_of minus run after ≡ Ok (z, rest)
+integer_of_takes : (minus : Bool) (run after : List ℕ) (z : ℤ) (rest : List ℕ) → IsDigitRun run → integer_of minus run after ≡ Ok (z, rest)
     → (after ≡ 101 ∷ rest) × FitsSigned w64 z × (signed_decimal z ≡ cond minus (45 ∷ run) run)
 integer_of_takes minus run [] z rest h e = absurd cc
 integer_of_takes minus run (c ∷ after) z rest h e =
     let a = guard_no _ BadInteger _ (z, rest) e in
-    let t = three (eqb c 101) (is_plain run) (minus && eqb (get_or run 0 0) 48) a.0 in
+    let t = three (eqb c 101) (is_plain_run run) (minus && eqb (get_or run 0 0) 48) a.0 in
     let b = guard_yes (in_range minus (digits_value 10 run)) IntegerRange (signed minus (digits_value 10 run), after) (z, rest) a.1 in
     let is_z : signed minus (digits_value 10 run) ≡ z = ap (λ (p : ℤ × List ℕ). p.0) b.1 in
     let is_rest : after ≡ rest = ap (λ (p : ℤ × List ℕ). p.1) b.1 in
@@ -113,13 +113,13 @@ integer_takes (c ∷ bytes) z rest e = by_sign (eqb c 45) refl e
 fits_64_bits : (n : ℕ) → n < 10 ^ 10 → n < 2 ^ 64
 fits_64_bits n h = omega arith
 
-string_of_takes : (run after s rest : List ℕ) → IsRun run → string_of run after ≡ Ok (s, rest) → (length s < 10 ^ 10) × (run ≡ decimal (length s))
+string_of_takes : (run after s rest : List ℕ) → IsDigitRun run → string_of run after ≡ Ok (s, rest) → (length s < 10 ^ 10) × (run ≡ decimal (length s))
     × (after ≡ 58 ∷ (s ++ rest))
 string_of_takes run [] s rest h e = absurd cc
 string_of_takes run (c ∷ after) s rest h e =
     let n = digits_value 10 run in
     let a = guard_no _ BadLength _ (s, rest) e in
-    let t = three (eqb c 58) (is_plain run) (ltb 10 (length run)) a.0 in
+    let t = three (eqb c 58) (is_plain_run run) (ltb 10 (length run)) a.0 in
     let b = guard_no (ltb (length after) n) Truncated (Ok (take n after, drop n after)) (s, rest) a.1 in
     let parts : (take n after, drop n after) ≡ (s, rest) = ok_is _ _ b.1 in
     let is_s : take n after ≡ s = ap (λ (p : List ℕ × List ℕ). p.0) parts in

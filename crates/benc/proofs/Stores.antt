@@ -2,10 +2,10 @@
 use Rattle.std.proofs.Common.{◌≡◌, ℕ, List, [], ◌∷◌, ◌++◌, map, inl, inr, sym, ap, ap₂, ◌∙◌, refl, subst}
 use Rattle.std.specs.Prelude.{IfSome}
 use Rattle.std.specs.Option.{option_copied}
-use Rattle.benc.specs.Storing.{Keeps, Refused}
+use Rattle.benc.specs.Storing.{KeepsAll, Refused}
 use Rattle.benc.specs.declared.store.Store.{Store}
 
-pub keeps_before : (old new : Store) (Fact : List ℕ → Type 0) → Refused old new Fact → Keeps new → Keeps old
+pub keeps_before : (old new : Store) (Fact : List ℕ → Type 0) → Refused old new Fact → KeepsAll new → KeepsAll old
 keeps_before old new Fact (inl same) kept = sym same ∙ kept
 keeps_before old new Fact (inr first) kept = first.0
 
@@ -29,6 +29,6 @@ kept_push {A} {B} f xs ys x vs v e d p = ap₂ (λ us u. us ++ u ∷ []) e d ∙
     map_push (z ∷ zs) = ap (λ us. f z ∷ us) (map_push zs)
 
 -- what is refused from a store that refused nothing
-pub refused_from : (old new : Store) (Fact : List ℕ → Type 0) → Keeps old → Refused old new Fact → IfSome (option_copied new.refused) Fact
+pub refused_from : (old new : Store) (Fact : List ℕ → Type 0) → KeepsAll old → Refused old new Fact → IfSome (option_copied new.refused) Fact
 refused_from old new Fact kept (inl same) = subst (λ o. IfSome o Fact) (sym (same ∙ kept)) tt
 refused_from old new Fact kept (inr (before, (start, is, fact))) = subst (λ o. IfSome o Fact) (sym is) fact

@@ -4,7 +4,6 @@ use Rattle.std.specs.Borrow.{Bor}
 use Rattle.std.specs.Cmp.Derive.{both_true}
 use Rattle.benc.specs.Thrift.{all_true, is_thrifty, pair_is_thrifty}
 use Rattle.benc.specs.declared.value.Value.{Value, the_lemmas}
-use Rattle.benc.specs.declared.value.Pair.{Pair}
 
 pub thrifty_pair : (k : Bor (List ℕ)) (v : Value) → is_thrifty v ≡ true → pair_is_thrifty (record { key = k; value = v }) ≡ true
 thrifty_pair k v h = is_pair k v ∙ h

@@ -9,8 +9,8 @@ abbrev pub is_digit : ℕ → Bool
 is_digit c = nat_le digit_zero c && nat_le c digit_nine
 
 -- a run of digits
-abbrev pub IsRun : List ℕ → Type 0
-IsRun run = (i : ℕ) → i < length run → IsTrue (is_digit (slice_index run i))
+abbrev pub IsDigitRun : List ℕ → Type 0
+IsDigitRun run = (i : ℕ) → i < length run → IsTrue (is_digit (slice_index run i))
 
 -- the longest run of digits at the front
 abbrev pub digits_of_front : List ℕ → List ℕ

@@ -3,7 +3,7 @@ use Rattle.std.specs.Prelude.{◌≡◌, ℕ, suc, ◌-◌, ◌<◌, ◌^◌, Li
 use Rattle.benc.specs.Ascii.{dict_mark, list_mark}
 use Rattle.benc.specs.Value.{Bencode, Items, no_items, item, Pairs, no_pairs, pair}
 use Rattle.benc.specs.Spelling.{max_open, string, IsAbove, SpelledItems, SpelledPairs, Spells}
-use Rattle.benc.specs.Table.{first_row, key_rows, unless_end, value_rows}
+use Rattle.benc.specs.Table.{first_row_fault, key_rows, unless_end, value_rows}
 use Rattle.benc.specs.declared.fault.FaultKind.{FaultKind}
 use Rattle.benc.specs.declared.fault.FaultKind.TheVariants.{Trailing}
 
@@ -58,9 +58,10 @@ Begun room (l ∷ m ∷ ls) p due left =
 
 -- the fault of an item that is due, by the table
 abbrev pub item_fault : Due → ℕ → List ℕ → Option FaultKind
-item_fault a_value left bytes = first_row (value_rows left bytes)
-item_fault a_value_or_end left bytes = first_row (unless_end bytes (value_rows left bytes))
-item_fault (a_key_or_end before) left bytes = first_row (unless_end bytes (key_rows before bytes))
+item_fault a_value left bytes = first_row_fault (value_rows left bytes)
+item_fault a_value_or_end left bytes = first_row_fault (unless_end bytes (value_rows left bytes))
+item_fault (a_key_or_end before) left bytes =
+    first_row_fault (unless_end bytes (key_rows before bytes))
 
 -- the bytes before `offset` are begun, and the item that is due there fails
 pub record Stops (b : List ℕ) (kind : FaultKind) (offset : ℕ) : Type 0 where

@@ -11,15 +11,16 @@ use Rattle.benc.specs.declared.fault.FaultKind.{FaultKind}
 use Rattle.benc.specs.declared.fault.FaultKind.TheVariants.{Truncated, BadStart, BadInteger, IntegerRange, BadLength, KeyOrder}
 
 -- digits with no leading zero, but for `0` itself
-abbrev pub is_plain : List ℕ → Bool
-is_plain run = nat_lt 0 (length run) && (not (slice_index run 0 == digit_zero) || (length run == 1))
+abbrev pub is_plain_run : List ℕ → Bool
+is_plain_run run =
+    nat_lt 0 (length run) && (not (slice_index run 0 == digit_zero) || (length run == 1))
 
 -- the digits have been read: what follows them
 abbrev pub integer_of : Bool → List ℕ → List ℕ → Result (ℤ × List ℕ) FaultKind
 integer_of minus run [] = Err Truncated
 integer_of minus run (c ∷ rest) =
     let n = digits_value 10 run in
-    let is_bad = not (c == end_mark) || not (is_plain run)
+    let is_bad = not (c == end_mark) || not (is_plain_run run)
     || (minus && (slice_index run 0 == digit_zero)) in
     if is_bad then Err BadInteger
     else (if in_range minus n then Ok (signed minus n, rest) else Err IntegerRange)
@@ -37,7 +38,7 @@ integer_at (c ∷ rest) = if c == minus_sign then digits_at true rest else digit
 abbrev pub string_of : List ℕ → List ℕ → Result (List ℕ × List ℕ) FaultKind
 string_of run [] = Err Truncated
 string_of run (c ∷ rest) =
-    if not (c == colon) || not (is_plain run) || nat_lt 10 (length run) then Err BadLength
+    if not (c == colon) || not (is_plain_run run) || nat_lt 10 (length run) then Err BadLength
     else (if nat_lt (length rest) (digits_value 10 run) then Err Truncated
     else Ok (take (digits_value 10 run) rest, drop (digits_value 10 run) rest))
 

@@ -18,8 +18,8 @@ abbrev pub most_given : MemSource → ℕ
 most_given source = source.at_most
 
 -- the bytes that a sink has taken
-abbrev pub bytes_taken : MemSink → List ℕ
-bytes_taken sink = sink.bytes.items
+abbrev pub bytes_in_sink : MemSink → List ℕ
+bytes_in_sink sink = sink.bytes.items
 
 -- how many bytes a sink can still take
 abbrev pub room_left : MemSink → ℕ

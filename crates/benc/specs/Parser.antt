@@ -79,10 +79,14 @@ items_behind room bytes = items_at (value_at room) (length bytes) bytes
 abbrev pub pairs_behind : ℕ → List ℕ → Parsed Pairs
 pairs_behind room bytes = pairs_at (value_at room) (length bytes) None bytes
 
+-- why reading stopped, and what is left from there on
+abbrev pub stop_of : Stop → FaultKind × List ℕ
+stop_of e = (e.kind, e.rest.now)
+
 -- the function of the code answers the fault that reading gives, or what reading leaves
 abbrev pub ReadsOn : {X Y : Type 0} → (X → List ℕ) → Result X Stop → Parsed Y → Type 0
 ReadsOn left (Ok x) read = (read >>= λ y. Ok y.1) ≡ Ok (left x)
-ReadsOn left (Err e) read = read ≡ Err (e.kind, e.rest.now)
+ReadsOn left (Err e) read = read ≡ Err (stop_of e)
 
 -- a whole item stands at the front
 abbrev pub HasItem : ℕ → List ℕ → Type 0
@@ -121,10 +125,10 @@ GrowsForPair room start bytes there =
     ((there ≡ start) × HasPair room bytes) ⊎ ReachesPair room bytes there
 
 -- the bytes of the value under the key that is asked for, if one is
-abbrev pub IsSpanOf : Option (Bor (List ℕ)) → Bencode → Option (Bor (List ℕ)) → Type 0
-IsSpanOf asked v span = IfSome (option_copied asked) (λ key. option_copied span ≡ span_of key v)
+abbrev pub IsValueSpan : Option (Bor (List ℕ)) → Bencode → Option (Bor (List ℕ)) → Type 0
+IsValueSpan asked v span = IfSome (option_copied asked) (λ key. option_copied span ≡ span_of key v)
 
 -- they stand in the input, after that key
-abbrev pub StandsIn : List ℕ → Option (Bor (List ℕ)) → Option (Bor (List ℕ)) → Type 0
-StandsIn input asked span =
+abbrev pub StandsInInput : List ℕ → Option (Bor (List ℕ)) → Option (Bor (List ℕ)) → Type 0
+StandsInInput input asked span =
     IfSome (option_copied asked) (λ key. IfSome (option_copied span) (StandsUnder input key))

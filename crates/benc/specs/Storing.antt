@@ -4,11 +4,11 @@ use Rattle.std.specs.Option.{option_copied}
 use Rattle.benc.specs.declared.store.Store.{Store}
 
 -- no growth was refused, and so all that was decoded is there
-abbrev pub Keeps : Store → Type 0
-Keeps store = option_copied store.refused ≡ None
+abbrev pub KeepsAll : Store → Type 0
+KeepsAll store = option_copied store.refused ≡ None
 
 -- no growth was refused, or the first that was is of a list or dictionary of which the fact holds
 abbrev pub Refused : Store → Store → (List ℕ → Type 0) → Type 0
 Refused old new Fact =
     (option_copied new.refused ≡ option_copied old.refused)
-    ⊎ (Keeps old × ((start : List ℕ) × (option_copied new.refused ≡ Some start) × Fact start))
+    ⊎ (KeepsAll old × ((start : List ℕ) × (option_copied new.refused ≡ Some start) × Fact start))

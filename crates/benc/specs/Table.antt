@@ -10,13 +10,13 @@ use Rattle.benc.specs.declared.fault.FaultKind.{FaultKind}
 use Rattle.benc.specs.declared.fault.FaultKind.TheVariants.{Truncated, BadStart, BadInteger, IntegerRange, BadLength, KeyOrder, TooDeep}
 
 -- whether the test of the row holds, and its fault
-abbrev pub Row : Type 0
-Row = Bool × FaultKind
+abbrev pub FaultRow : Type 0
+FaultRow = Bool × FaultKind
 
 -- the fault of the first row whose test holds
-abbrev pub first_row : List Row → Option FaultKind
-first_row [] = None
-first_row (row ∷ rows) = if row.0 then Some row.1 else first_row rows
+abbrev pub first_row_fault : List FaultRow → Option FaultKind
+first_row_fault [] = None
+first_row_fault (row ∷ rows) = if row.0 then Some row.1 else first_row_fault rows
 
 -- the input has ended
 abbrev pub has_ended : List ℕ → Bool
@@ -46,7 +46,7 @@ is_zero (d ∷ []) = d == digit_zero
 is_zero (d ∷ e ∷ run) = false
 
 -- an integer, after `i` and an optional `-`: the longest run of digits, and what follows it
-abbrev pub digit_rows : Bool → List ℕ → List ℕ → List Row
+abbrev pub digit_rows : Bool → List ℕ → List ℕ → List FaultRow
 digit_rows minus run after =
     (has_ended after, Truncated)
     ∷ (
@@ -58,14 +58,14 @@ digit_rows minus run after =
     ∷ []
 
 -- an integer, after its `i`
-abbrev pub integer_rows : List ℕ → List Row
+abbrev pub integer_rows : List ℕ → List FaultRow
 integer_rows bytes =
     let minus = starts_with minus_sign bytes in
     let number = if minus then drop 1 bytes else bytes in
     digit_rows minus (digits_of_front number) (after_digits number)
 
 -- a byte string: the longest run of digits at its front, and what follows it
-abbrev pub length_rows : List ℕ → List ℕ → List Row
+abbrev pub length_rows : List ℕ → List ℕ → List FaultRow
 length_rows run after =
     (has_ended after, Truncated)
     ∷ (not (starts_with colon after) || has_leading_zero run || nat_lt 10 (length run), BadLength)
@@ -73,15 +73,16 @@ length_rows run after =
     ∷ []
 
 -- a byte string
-abbrev pub string_rows : List ℕ → List Row
+abbrev pub string_rows : List ℕ → List FaultRow
 string_rows bytes = length_rows (digits_of_front bytes) (after_digits bytes)
 
 -- the bytes after the colon, as many as the run says
-abbrev pub string_bytes : List ℕ → List ℕ
-string_bytes bytes = take (digits_value 10 (digits_of_front bytes)) (drop 1 (after_digits bytes))
+abbrev pub bytes_after_colon : List ℕ → List ℕ
+bytes_after_colon bytes =
+    take (digits_value 10 (digits_of_front bytes)) (drop 1 (after_digits bytes))
 
 -- a value, if `left` more lists and dictionaries may be opened
-abbrev pub value_rows : ℕ → List ℕ → List Row
+abbrev pub value_rows : ℕ → List ℕ → List FaultRow
 value_rows left [] = (true, Truncated) ∷ []
 value_rows left (c ∷ rest) =
     if c == integer_mark then integer_rows rest
@@ -89,12 +90,12 @@ value_rows left (c ∷ rest) =
     else (not ((c == list_mark) || (c == dict_mark)), BadStart) ∷ (left == 0, TooDeep) ∷ [])
 
 -- a key, after the one before it
-abbrev pub key_rows : Option (List ℕ) → List ℕ → List Row
+abbrev pub key_rows : Option (List ℕ) → List ℕ → List FaultRow
 key_rows before bytes =
     (has_ended bytes, Truncated)
     ∷ (not (starts_with_digit bytes), BadStart)
-    ∷ (string_rows bytes ++ (not (is_above (string_bytes bytes) before), KeyOrder) ∷ [])
+    ∷ (string_rows bytes ++ (not (is_above (bytes_after_colon bytes) before), KeyOrder) ∷ [])
 
 -- the end mark, in the place of a value or a key, is no fault
-abbrev pub unless_end : List ℕ → List Row → List Row
+abbrev pub unless_end : List ℕ → List FaultRow → List FaultRow
 unless_end bytes rows = if starts_with end_mark bytes then [] else rows

@@ -33,8 +33,8 @@ pair_thrift_step p = p.value
 abbrev pub is_thrifty : Value → Bool
 is_thrifty = fold-Value Bool Bool thrift_step pair_thrift_step
 
-abbrev pub IsThrifty : Value → Type 0
-IsThrifty v = is_thrifty v ≡ true
+abbrev pub IsValueThrifty : Value → Type 0
+IsValueThrifty v = is_thrifty v ≡ true
 
 -- each of these values is so
 abbrev pub AreThrifty : List Value → Type 0

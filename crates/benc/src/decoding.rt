@@ -5,11 +5,11 @@ ghost use Rattle.std.specs.Option.{option_copied};
 ghost use Rattle.benc.specs.Answers.{AnswersFault, IsAtGrowth, IsFaultOf, IsOfSpelling, IsOfFront, UnlessNoMemory};
 ghost use Rattle.benc.specs.Fails.{Stops, Fails, Reaches};
 ghost use Rattle.benc.specs.Lookup.{StandsUnder, span_of};
-ghost use Rattle.benc.specs.Parser.{IsSpanOf, StandsIn};
+ghost use Rattle.benc.specs.Parser.{IsValueSpan, StandsInInput};
 ghost use Rattle.benc.specs.Spelling.{Spells, max_open};
-ghost use Rattle.benc.specs.Storing.{Keeps};
+ghost use Rattle.benc.specs.Storing.{KeepsAll};
 ghost use Rattle.benc.specs.Text.{spelling, IsCanonical};
-ghost use Rattle.benc.specs.Thrift.{IsThrifty};
+ghost use Rattle.benc.specs.Thrift.{IsValueThrifty};
 ghost use Rattle.benc.specs.Value.{Bencode};
 ghost use Rattle.benc.specs.View.{view};
 ghost use Rattle.benc.specs.declared.fault.FaultKind.{FaultKind};
@@ -40,7 +40,7 @@ pub fn decode<'a>(alloc: Global, input: &'a [u8]) -> Result<Value<'a>, Fault>
     // What `encode` writes of a value gives that value.
     ensures encoded { (v : Bencode) → IsCanonical v → input.now ≡ spelling v
         → UnlessNoMemory result (λ w. view w ≡ v) }
-    ensures room { IfOk result IsThrifty }
+    ensures room { IfOk result IsValueThrifty }
 {
     let (v, _) = parse_whole(alloc, input, None)?;
     Ok(v)
@@ -60,7 +60,7 @@ pub fn decode_front<'a>(alloc: Global, input: &'a [u8]) -> Result<(Value<'a>, us
     // It answers the one fault that the input has.
     ensures first { (kind : FaultKind) (offset : ℕ) → Stops input.now kind offset
         → AnswersFault result kind offset }
-    ensures room { IfOk result (λ x. IsThrifty x.0) }
+    ensures room { IfOk result (λ x. IsValueThrifty x.0) }
 {
     let mut store = Store::new(alloc);
     let (v, _, used) = parse_front(&mut store, input, None)?;
@@ -88,7 +88,7 @@ pub fn decode_with_span<'a>(
     // It answers the one fault that the input has.
     ensures first { (kind : FaultKind) (offset : ℕ) → Fails input.now kind offset
         → AnswersFault result kind offset }
-    ensures room { IfOk result (λ x. IsThrifty x.0) }
+    ensures room { IfOk result (λ x. IsValueThrifty x.0) }
 {
     parse_whole(alloc, input, Some(key))
 }
@@ -123,8 +123,8 @@ fn parse_whole<'a>(
     asked: Option<&[u8]>,
 ) -> Result<(Value<'a>, Option<&'a [u8]>), Fault>
     ensures found { IfOk result (λ x. Spells (view x.0) input.now) }
-    ensures span { IfOk result (λ x. IsSpanOf asked.entry (view x.0) x.1) }
-    ensures stands { IfOk result (λ x. StandsIn input.now asked.entry x.1) }
+    ensures span { IfOk result (λ x. IsValueSpan asked.entry (view x.0) x.1) }
+    ensures stands { IfOk result (λ x. StandsInInput input.now asked.entry x.1) }
     ensures fault { IfErr result (IsFaultOf (Fails input.now)) }
     ensures memory { IfErr result (IsAtGrowth input.now) }
     // Out of memory hides no fault.
@@ -133,7 +133,7 @@ fn parse_whole<'a>(
         → UnlessNoMemory result (λ x. view x.0 ≡ v) }
     ensures first { (kind : FaultKind) (offset : ℕ) → Fails input.now kind offset
         → AnswersFault result kind offset }
-    ensures room { IfOk result (λ x. IsThrifty x.0) }
+    ensures room { IfOk result (λ x. IsValueThrifty x.0) }
 {
     let mut store = Store::new(alloc);
     let (v, span, used) = parse_front(&mut store, input, asked)?;
@@ -154,14 +154,14 @@ fn parse_front<'a>(
     input: &'a [u8],
     asked: Option<&[u8]>,
 ) -> Result<(Value<'a>, Option<&'a [u8]>, usize), Fault>
-    requires { Keeps store.old }
+    requires { KeepsAll store.old }
     ensures used { IfOk result (λ x. x.2 ≤ length input.now) }
     ensures spelled { IfOk result (λ x. (v : Bencode) × Spells v (take x.2 input.now)) }
-    ensures kept { Keeps store.new → IfOk result (λ x. Spells (view x.0) (take x.2 input.now)) }
-    ensures span { Keeps store.new → IfOk result (λ x. IsSpanOf asked.entry (view x.0) x.1) }
+    ensures kept { KeepsAll store.new → IfOk result (λ x. Spells (view x.0) (take x.2 input.now)) }
+    ensures span { KeepsAll store.new → IfOk result (λ x. IsValueSpan asked.entry (view x.0) x.1) }
     ensures memory { IfOk result (λ _. IfSome (option_copied store.new.refused)
         (Reaches max_open input.now)) }
-    ensures room { IfOk result (λ x. IsThrifty x.0) }
+    ensures room { IfOk result (λ x. IsValueThrifty x.0) }
     ensures fault { IfErr result
         (λ f. (f.kind ≢ FaultKind.NoMemory) × Stops input.now f.kind f.offset) }
 {

@@ -5,9 +5,9 @@ ghost use Rattle.benc.specs.Lookup.{if_key};
 ghost use Rattle.benc.specs.Value.{dict};
 ghost use Rattle.benc.specs.View.{view, items_view, pairs_view};
 ghost use Rattle.benc.specs.Fails.{Reaches};
-ghost use Rattle.benc.specs.Parser.{GrowsForItem, GrowsForPair, IsSpanOf, ReadsOn, items_behind, pairs_behind, value_at};
-ghost use Rattle.benc.specs.Storing.{Keeps, Refused};
-ghost use Rattle.benc.specs.Thrift.{AreThrifty, ArePairsThrifty, IsSmallRoom, IsThrifty};
+ghost use Rattle.benc.specs.Parser.{GrowsForItem, GrowsForPair, IsValueSpan, ReadsOn, items_behind, pairs_behind, value_at};
+ghost use Rattle.benc.specs.Storing.{KeepsAll, Refused};
+ghost use Rattle.benc.specs.Thrift.{AreThrifty, ArePairsThrifty, IsSmallRoom, IsValueThrifty};
 
 use crate::fault::FaultKind;
 use crate::scan::{integer, key, split_front, string};
@@ -26,52 +26,40 @@ pub(crate) fn value<'a>(
     asked: Option<&[u8]>,
 ) -> Result<(Value<'a>, Option<&'a [u8]>, &'a [u8]), Stop<'a>>
     ensures read { ReadsOn (λ x. x.2.now) result (value_at room bytes.now) }
-    ensures kept { Keeps store.new
+    ensures kept { KeepsAll store.new
         → IfOk result (λ x. value_at room bytes.now ≡ Ok (view x.0, x.2.now)) }
     ensures shorter { IfOk result (λ x. length x.2.now < length bytes.now) }
     ensures memory { IfOk result (λ _. Refused store.old store.new (Reaches room bytes.now)) }
-    ensures span { Keeps store.new → IfOk result (λ x. IsSpanOf asked.entry (view x.0) x.1) }
-    ensures room { IfOk result (λ x. IsThrifty x.0) }
+    ensures span { KeepsAll store.new → IfOk result (λ x. IsValueSpan asked.entry (view x.0) x.1) }
+    ensures room { IfOk result (λ x. IsValueThrifty x.0) }
 {
     let Some((first, rest)) = split_front(bytes) else {
-        return Err(Stop {
-            kind: FaultKind::Truncated,
-            rest: bytes,
-        });
+        return Err(Stop::at(FaultKind::Truncated, bytes));
     };
     match first {
         b'i' => match integer(rest) {
             Ok((n, after)) => Ok((Value::Int(n), None, after)),
-            Err(kind) => Err(Stop { kind, rest: bytes }),
+            Err(kind) => Err(Stop::at(kind, bytes)),
         },
         b'l' => {
             if room == 0 {
-                return Err(Stop {
-                    kind: FaultKind::TooDeep,
-                    rest: bytes,
-                });
+                return Err(Stop::at(FaultKind::TooDeep, bytes));
             }
             let (found, after) = items(store, bytes, rest, room - 1)?;
             Ok((Value::List(found), None, after))
         }
         b'd' => {
             if room == 0 {
-                return Err(Stop {
-                    kind: FaultKind::TooDeep,
-                    rest: bytes,
-                });
+                return Err(Stop::at(FaultKind::TooDeep, bytes));
             }
             let (found, span, after) = pairs(store, bytes, rest, room - 1, asked)?;
             Ok((Value::Dict(found), span, after))
         }
         b'0'..=b'9' => match string(bytes) {
             Ok((text, after)) => Ok((Value::Bytes(text), None, after)),
-            Err(kind) => Err(Stop { kind, rest: bytes }),
+            Err(kind) => Err(Stop::at(kind, bytes)),
         },
-        _ => Err(Stop {
-            kind: FaultKind::BadStart,
-            rest: bytes,
-        }),
+        _ => Err(Stop::at(FaultKind::BadStart, bytes)),
     }
 }
 
@@ -84,7 +72,7 @@ fn items<'a>(
     room: u32,
 ) -> Result<(Vec<Value<'a>>, &'a [u8]), Stop<'a>>
     ensures read { ReadsOn (λ x. x.1.now) result (items_behind room bytes.now) }
-    ensures kept { Keeps store.new
+    ensures kept { KeepsAll store.new
         → IfOk result (λ x. items_behind room bytes.now ≡ Ok (items_view x.0.items, x.1.now)) }
     ensures shorter { IfOk result (λ x. length x.1.now < length bytes.now) }
     ensures memory { IfOk result
@@ -97,10 +85,7 @@ fn items<'a>(
     'items: loop {
         let here = rest;
         let Some((first, after)) = split_front(here) else {
-            return Err(Stop {
-                kind: FaultKind::Truncated,
-                rest: here,
-            });
+            return Err(Stop::at(FaultKind::Truncated, here));
         };
         if first == b'e' {
             return Ok((found, after));
@@ -122,13 +107,13 @@ fn pairs<'a>(
     asked: Option<&[u8]>,
 ) -> Result<(Vec<Pair<'a>>, Option<&'a [u8]>, &'a [u8]), Stop<'a>>
     ensures read { ReadsOn (λ x. x.2.now) result (pairs_behind room bytes.now) }
-    ensures kept { Keeps store.new
+    ensures kept { KeepsAll store.new
         → IfOk result (λ x. pairs_behind room bytes.now ≡ Ok (pairs_view x.0.items, x.2.now)) }
     ensures shorter { IfOk result (λ x. length x.2.now < length bytes.now) }
     ensures memory { IfOk result
         (λ _. Refused store.old store.new (GrowsForPair room start.now bytes.now)) }
-    ensures span { Keeps store.new
-        → IfOk result (λ x. IsSpanOf asked.entry (dict (pairs_view x.0.items)) x.1) }
+    ensures span { KeepsAll store.new
+        → IfOk result (λ x. IsValueSpan asked.entry (dict (pairs_view x.0.items)) x.1) }
     ensures room { IfOk result (λ x. IsSmallRoom (vec_capacity x.0) (length x.0.items)
         × ArePairsThrifty x.0.items) }
 {
@@ -139,17 +124,14 @@ fn pairs<'a>(
     'pairs: loop {
         let here = rest;
         let Some((first, after)) = split_front(here) else {
-            return Err(Stop {
-                kind: FaultKind::Truncated,
-                rest: here,
-            });
+            return Err(Stop::at(FaultKind::Truncated, here));
         };
         if first == b'e' {
             return Ok((found, span, after));
         }
         let (name, behind) = match key(before, here) {
             Ok(x) => x,
-            Err(kind) => return Err(Stop { kind, rest: here }),
+            Err(kind) => return Err(Stop::at(kind, here)),
         };
         let (item, _, after) = value(store, behind, room, None)?;
         span = span.or(if_asked(asked, name, &behind[..behind.len() - after.len()]));

@@ -4,9 +4,9 @@ ghost use Rattle.std.specs.Option.{SomeIff, option_copied};
 ghost use Rattle.std.specs.Int.{w64};
 ghost use Rattle.std.specs.List.{prefix_len};
 ghost use Rattle.std.specs.Str.Parse.{digits_value};
-ghost use Rattle.benc.specs.Digits.{is_digit, digits_of_front, after_digits, in_range, signed, IsRun};
+ghost use Rattle.benc.specs.Digits.{is_digit, digits_of_front, after_digits, in_range, signed, IsDigitRun};
 ghost use Rattle.benc.specs.Spelling.{is_above};
-ghost use Rattle.benc.specs.Items.{is_plain, integer_at, digits_at, string_at, key_at, ReadsAs};
+ghost use Rattle.benc.specs.Items.{is_plain_run, integer_at, digits_at, string_at, key_at, ReadsAs};
 
 use crate::fault::FaultKind;
 use std::cmp::Ordering;
@@ -109,7 +109,7 @@ fn digits(minus: bool, bytes: &[u8]) -> Result<(i64, &[u8]), FaultKind>
 
 // The signed number of 64 bits with that sign and digits.
 fn signed_number(minus: bool, run: &[u8]) -> Option<i64>
-    requires { IsRun run.now }
+    requires { IsDigitRun run.now }
     ensures value { let n = digits_value 10 run.now in
         SomeIff result (IsTrue (in_range minus n)) (signed minus n) }
     ensures fits { IfSome result (λ n. FitsSigned w64 n) }
@@ -128,7 +128,7 @@ fn signed_number(minus: bool, run: &[u8]) -> Option<i64>
 
 // The number that digits write, if it fits 64 bits.
 fn number(run: &[u8]) -> Option<u64>
-    requires { IsRun run.now }
+    requires { IsDigitRun run.now }
     ensures { SomeIff result (digits_value 10 run.now < 2 ^ 64) (digits_value 10 run.now) }
 {
     let mut n: u64 = 0;
@@ -140,7 +140,7 @@ fn number(run: &[u8]) -> Option<u64>
 
 // Digits with no leading zero, except for `0` itself.
 fn is_plain_number(run: &[u8]) -> bool
-    ensures { result ≡ is_plain run.now }
+    ensures { result ≡ is_plain_run run.now }
 {
     match run {
         [] => false,
@@ -152,7 +152,7 @@ fn is_plain_number(run: &[u8]) -> bool
 fn split_digits(bytes: &[u8]) -> (&[u8], &[u8])
     ensures run { result.0.now ≡ digits_of_front bytes.now }
     ensures rest { result.1.now ≡ after_digits bytes.now }
-    ensures digits { IsRun result.0.now }
+    ensures digits { IsDigitRun result.0.now }
 {
     bytes.split_at(digit_count(bytes))
 }

@@ -3,7 +3,7 @@ ghost use Rattle.std.specs.Prelude.{◌≡◌, ◌⊎◌, ◌++◌, ◌∷◌, [
 ghost use Rattle.std.specs.Option.{option_copied};
 ghost use Rattle.benc.specs.Fails.{Opens, Reaches};
 ghost use Rattle.benc.specs.Spelling.{max_open};
-ghost use Rattle.benc.specs.Storing.{Keeps, Refused};
+ghost use Rattle.benc.specs.Storing.{KeepsAll, Refused};
 ghost use Rattle.benc.specs.Thrift.{IsSmallRoom};
 ghost use Rattle.benc.specs.declared.fault.FaultKind.{FaultKind};
 
@@ -22,7 +22,7 @@ pub(crate) struct Store<'a> {
 impl<'a> Store<'a> {
     /// A store that refused nothing.
     pub(crate) fn new(alloc: Global) -> Store<'a>
-        ensures { Keeps result }
+        ensures { KeepsAll result }
     {
         Store {
             alloc,
@@ -32,7 +32,7 @@ impl<'a> Store<'a> {
 
     /// Puts one more at the end of the list or dictionary that begins at `start`.
     pub(crate) fn push<T: Drop>(&mut self, start: &'a [u8], found: &mut Vec<T>, item: T)
-        ensures kept { Keeps self.new → found.new.items ≡ found.old.items ++ item ∷ [] }
+        ensures kept { KeepsAll self.new → found.new.items ≡ found.old.items ++ item ∷ [] }
         ensures lost { (found.new.items ≡ found.old.items ++ item ∷ [])
             ⊎ (found.new.items ≡ found.old.items) }
         ensures refused { Refused self.old self.new (λ s. s ≡ start.now) }
@@ -47,7 +47,7 @@ impl<'a> Store<'a> {
     /// The fault `NoMemory`, if a growth was refused in the input.
     pub(crate) fn check(&self, input: &'a [u8]) -> Result<(), Fault>
         requires { IfSome (option_copied self.now.refused) (Reaches max_open input.now) }
-        ensures { MatchResult result (λ _. Keeps self.now)
+        ensures { MatchResult result (λ _. KeepsAll self.now)
             (λ f. (f.kind ≡ FaultKind.NoMemory) × Opens input.now f.offset) }
     {
         match self.refused {

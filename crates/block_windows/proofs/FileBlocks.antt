@@ -8,13 +8,13 @@ use Rattle.hashtree.proofs.Nodes.{leaves_are_digests}
 use Rattle.hashtree.proofs.Comparing.{length-layer_of}
 use Rattle.sha2.specs.Sha256.{sha256}
 use Rattle.hashtree.specs.Tree.{block, block_count, first_pad, layer_count, layer_of, node}
-use Rattle.sha256_lanes.specs.Lanes.{message_at}
-use Rattle.block_windows.specs.Files.{HasFile, IsBlock, IsHashed}
+use Rattle.lanes.specs.Lanes.{bytes_at}
+use Rattle.block_windows.specs.Files.{HasFile, IsBlockAt, IsHashed}
 use Rattle.block_windows.specs.declared.files.Window.{Window}
 
 -- a block of a file that stands in a buffer stands there too
 block_there : (buffer : List ℕ) (start size j : ℕ) → 16384 * j ≤ size
-    → block (message_at buffer start size) j ≡ message_at buffer (start + 16384 * j) (min 16384 (size - 16384 * j))
+    → block (bytes_at buffer start size) j ≡ bytes_at buffer (start + 16384 * j) (min 16384 (size - 16384 * j))
 block_there buffer start size j le =
     let n : ℕ = 16384 * j in
     let m : ℕ = size - n in
@@ -30,19 +30,19 @@ block_there buffer start size j le =
 
 -- the leaf of a block in the window is that of the file
 leaf_there : (w : Window) (buffer : List ℕ) (first start size j : ℕ) → HasFile w first start size → IsHashed w buffer → j < block_count size
-    → slice_index_or w.leaves (first + j) [] ≡ sha256 (block (message_at buffer start size) j)
+    → slice_index_or w.leaves (first + j) [] ≡ sha256 (block (bytes_at buffer start size) j)
 leaf_there w buffer first start size j has hashed lt =
     let b = has.blocks j lt in
     hashed (first + j) (omega (arith, has.within, lt))
-    ∙ ap₂ (λ from many. sha256 (message_at buffer from many)) b.start_is b.size_is
+    ∙ ap₂ (λ from many. sha256 (bytes_at buffer from many)) b.start_is b.size_is
     ∙ ap sha256 (sym (block_there buffer start size j (omega (arith, lt))))
 
 -- the leaves of a file are those of its blocks in the window
 pub leaves_there : (w : Window) (buffer : List ℕ) (first start size count : ℕ) → HasFile w first start size → IsHashed w buffer → start + size ≤ length buffer
     → count ≡ block_count size → length (take count (drop first w.leaves)) ≡ count → take count (drop first w.leaves) ≡ layer_of
-    (message_at buffer start size) 0
+    (bytes_at buffer start size) 0
 leaves_there w buffer first start size count has hashed inside is long =
-    let file : List ℕ = message_at buffer start size in
+    let file : List ℕ = bytes_at buffer start size in
     let size_is : length file ≡ size = length-take size (drop start buffer) ∙ omega (arith, inside, length-drop start buffer) in
     let blocks : block_count (length file) ≡ count = ap block_count size_is ∙ sym is in
     let whole : length (layer_of file 0) ≡ count = length-layer_of file size 0 size_is (omega arith) ∙ one_pad (block_count size) ∙ sym is in
@@ -61,6 +61,6 @@ leaves_there w buffer first start size count has hashed inside is long =
     same_leaves xs ys long same = ext_get_or [] xs ys long same
 
 -- a block of a file stands within it
-pub block_inside : (w : Window) (first start size j bytes : ℕ) → 16384 * j ≤ size → start + size ≤ bytes → IsBlock w first start size j
+pub block_inside : (w : Window) (first start size j bytes : ℕ) → 16384 * j ≤ size → start + size ≤ bytes → IsBlockAt w first start size j
     → slice_index w.starts (first + j) + slice_index w.sizes (first + j) ≤ bytes
 block_inside w first start size j bytes le fits block = omega (arith, le, fits, block.start_is, block.size_is)

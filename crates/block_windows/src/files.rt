@@ -1,7 +1,7 @@
 //! The blocks of several files in a buffer, hashed together, and the roots and layers of the files'
 //! trees.
 
-ghost use Rattle.std.specs.Prelude.{◌≡◌, ℕ, ◌+◌, ◌*◌, ◌^◌, ◌<◌, ◌≤◌, List, length, IfOk, OnErr};
+ghost use Rattle.std.specs.Prelude.{◌≡◌, ℕ, ◌+◌, ◌*◌, ◌^◌, ◌<◌, ◌≤◌, ◌↔◌, List, length, IfOk, IsTrue, OnErr};
 ghost use Rattle.hashtree.specs.Tree.{block_count, height, layer_of, root_of};
 
 use crate::window::{WINDOW, leaves_of};
@@ -47,6 +47,13 @@ impl Window {
         self.count
     }
 
+    /// Whether there is room for the blocks of one more file of this size.
+    pub fn has_room(&self, size: usize) -> bool
+        ensures { IsTrue result ↔ (block_total self.now + block_count size ≤ 64) }
+    {
+        size.div_ceil(BLOCK) <= WINDOW - self.count
+    }
+
     /// Takes a file of this size that stands at this byte of the buffer: the number of its first
     /// block. Condition: there is room for its blocks.
     pub fn push(&mut self, start: usize, size: usize) -> usize
@@ -73,6 +80,8 @@ impl Window {
     pub fn hash(&mut self, buffer: &[u8])
         requires { IsWithin self.old (length buffer.now) }
         ensures hashed { IsHashed self.new buffer.now }
+        ensures total { block_total self.new ≡ block_total self.old }
+        ensures within { (bytes : ℕ) → IsWithin self.old bytes → IsWithin self.new bytes }
         ensures kept { (first start size : ℕ) → HasFile self.old first start size
             → HasFile self.new first start size }
     {

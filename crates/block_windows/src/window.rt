@@ -1,7 +1,7 @@
 //! The leaves of a window of blocks that stand anywhere in a buffer.
 
 ghost use Rattle.std.specs.Prelude.{◌≡◌, ℕ, ◌+◌, ◌*◌, ◌<◌, ◌≤◌, length, slice_index};
-ghost use Rattle.block_windows.specs.Window.{IsLeaf, IsOrder};
+ghost use Rattle.block_windows.specs.Window.{IsLeafOfBlock, IsOrder};
 
 use crate::order::by_length;
 use sha256_lanes::digests_at;
@@ -21,7 +21,7 @@ pub(crate) fn leaves_of(buffer: &[u8], starts: &[usize], sizes: &[usize], leaves
     requires inside { (i : ℕ) → i < length leaves.old
         → slice_index starts.now i + slice_index sizes.now i ≤ length buffer.now }
     ensures leaves { (i : ℕ) → i < length leaves.new
-        → IsLeaf buffer.now starts.now sizes.now leaves.new i }
+        → IsLeafOfBlock buffer.now starts.now sizes.now leaves.new i }
     ensures count { length leaves.new ≡ length leaves.old }
 {
     let order = by_length(sizes);
@@ -48,9 +48,10 @@ fn take_eight(
     requires order { IsOrder order.now (length leaves.old) }
     requires some { from < length leaves.old }
     ensures taken { (j : ℕ) → j < 8 → from + j < length leaves.old
-        → IsLeaf buffer.now starts.now sizes.now leaves.new (slice_index order.now (from + j)) }
-    ensures kept { (i : ℕ) → IsLeaf buffer.now starts.now sizes.now leaves.old i
-        → IsLeaf buffer.now starts.now sizes.now leaves.new i }
+        → IsLeafOfBlock buffer.now starts.now sizes.now leaves.new
+        (slice_index order.now (from + j)) }
+    ensures kept { (i : ℕ) → IsLeafOfBlock buffer.now starts.now sizes.now leaves.old i
+        → IsLeafOfBlock buffer.now starts.now sizes.now leaves.new i }
     ensures count { length leaves.new ≡ length leaves.old }
 {
     let blocks = next_eight(order, from, leaves.len());

@@ -7,7 +7,7 @@ use Rattle.std.proofs.lemmas.List.{get_or_past}
 use Rattle.std.proofs.lemmas.Nat.Bits.{bit_at-zero}
 use Rattle.hashtree.specs.Bits.{AreClear, bit_of}
 use Rattle.short_pushes.specs.RowChecks as rows
-use Rattle.btcheck_c.specs.FileChecks.{IsShortFile, bytes_left}
+use Rattle.btcheck_c.specs.FileChecks.{IsShortFile, check_bytes_left}
 use Rattle.btcheck_c.specs.declared.file_check.FileCheck.{FileCheck}
 use Rattle.btcheck_c.proofs.FilePieces.{one_node}
 use Rattle.piece_marks.specs.Marks.{AreMarkedWhole}
@@ -32,11 +32,11 @@ too_long n shape layer k less few le =
     omega (arith, less, few, le, next)
 
 -- pieces that are cut: the bits tell which of them are whole and good, and the only one of a file is not there
-pub short_of : (c : FileCheck) (marked good : List ℕ) → 0 < bytes_left c
-    → ((content : List ℕ) → rows.IsGivenRow c.check marked content → AreMarkedWhole good (rows.given_hashes c.check) (rows.chosen_layer c.check) content)
+pub short_of : (c : FileCheck) (marked good : List ℕ) → 0 < check_bytes_left c
+    → ((content : List ℕ) → rows.IsGivenRow c.check marked content → AreMarkedWhole good (rows.hashes_of_row c.check) (rows.layer_of_row c.check) content)
     → IsShortFile c marked good
 short_of c marked good some bits = λ p e from to content a given.
-    let shape = rows.chosen_shape c.check in let layer = rows.chosen_layer c.check in
+    let shape = rows.shape_of_row c.check in let layer = rows.layer_of_row c.check in
     let less : length content < shape = omega (arith, some, given.length_is) in record {
       short = omega (arith, less, a.size);
       one = λ short. clear_of good (λ k lt is.

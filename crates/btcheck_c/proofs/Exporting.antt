@@ -1,5 +1,5 @@
--- What a session answers to the ask of an export.
-use Rattle.std.proofs.Common.{◌≡◌, ℕ, ◌+◌, ◌≤◌, ◌^◌, List, length, map, refl, sym, ap, ◌∙◌, subst, arith}
+-- How many hashes a session answers with, and what it answers to the ask of an export.
+use Rattle.std.proofs.Common.{◌≡◌, ℕ, ◌+◌, ◌≤◌, ◌^◌, List, length, map, Option, Some, None, refl, sym, ap, ◌∙◌, subst, arith}
 use Rattle.std.specs.Prelude.{slice_get}
 use Rattle.std.specs.List.{range_with_len}
 use Rattle.std.proofs.lemmas.List.{length-append}
@@ -13,6 +13,8 @@ use Rattle.node_maps.specs.Digest.{Hash}
 use Rattle.node_maps.specs.Known.{look}
 use Rattle.node_maps.specs.Places.{tree_height, PartialTree}
 use Rattle.partial_tree.specs.Claims.{CanAnswer, answer_of, answer_uncles, cover, above, sibling, hash_or_pad}
+use Rattle.partial_tree.specs.declared.answer.Answer.{Answer}
+use Rattle.partial_tree.specs.declared.answer.Answer.TheVariants as answer
 use Rattle.partial_tree.specs.TreeRoot.{TreeRoot}
 use Rattle.session.specs.Layouts.{root_of_entry}
 use Rattle.session.specs.SafeStep.{IsAnswerFrom}
@@ -21,6 +23,8 @@ use Rattle.session.proofs.Rounds.{asked-is}
 use Rattle.session.proofs.Sessions.{mapped}
 use Rattle.wire.specs.declared.message.Ask.{Ask}
 use Rattle.session_exports.specs.Exports.{IsRange}
+use Rattle.c_layouts.specs.AnswerFrames.{FitsFrame}
+use Rattle.btcheck_c.specs.Taken.{AnswerGiven}
 
 low_height : (len : ℕ) → len ≤ 2 ^ 46 → tree_height len ≤ 32
 low_height len bound = height_least (block_count len) 32 (omega arith)
@@ -32,6 +36,23 @@ answer_count h K ask =
     length-append (map base (range_with_len 0 ask.length)) (map uncle (range_with_len 0 (answer_uncles h ask)))
     ∙ ap (λ n. n + length (map uncle (range_with_len 0 (answer_uncles h ask)))) (length-map-range_with_len base 0 ask.length)
     ∙ ap (λ n. ask.length + n) (length-map-range_with_len uncle 0 (answer_uncles h ask))
+
+-- the tree of an ask is no higher than the longest file's
+asked-low : (S : SessionSeen) (ask : Ask) → IsSound S.torrent → (asked : IsAsked S ask) → tree_height asked.tree.length ≤ 32
+asked-low S ask sound asked =
+    let e = mapped root_of_entry (slice_get S.torrent.trees asked.number) asked.tree (sym (slice_get-map root_of_entry S.torrent.trees asked.number)
+    ∙ asked.is_tree.tree_is) in
+    let bound = (sound.trees asked.number e.0 e.1).bound in subst (λ (t : TreeRoot). tree_height t.length ≤ 32) e.2 (low_height e.0.length bound)
+
+-- an answer fits a frame
+pub answer-fits : (S : SessionSeen) (ask : Ask) (given : Option Answer) → IsSound S.torrent → AnswerGiven S ask given → FitsFrame given
+answer-fits S ask (Some (answer.Hashes hashes)) sound (asked, (can, is)) =
+    let low = asked-low S ask sound asked in
+    let size : length hashes.items ≡ ask.length + answer_uncles (tree_height asked.tree.length) ask =
+    ap length is ∙ answer_count (tree_height asked.tree.length) (look asked.state.known) ask in
+    omega (arith, size, low, can.range.most)
+answer-fits S ask (Some answer.Reject) sound is = tt
+answer-fits S ask None sound is = tt
 
 -- the hashes with which the tree of the ask answers
 abbrev pub IsTreeHashes : SessionSeen → Ask → List Hash → Type 0
@@ -49,10 +70,7 @@ range-answered S n b ask hashes sound closed distinct range (asked, (can, is)) =
     let r = range.asked in
     let same = asked-is S ask r.number r.tree r.state distinct r.is_tree r.has_root asked in
     let enough : tree_height asked.tree.length ≡ tree_height r.tree.length = ap (λ (t : TreeRoot). tree_height t.length) same.1 in
-    let e = mapped root_of_entry (slice_get S.torrent.trees asked.number) asked.tree (sym (slice_get-map root_of_entry S.torrent.trees asked.number)
-    ∙ asked.is_tree.tree_is) in
-    let bound = (sound.trees asked.number e.0 e.1).bound in
-    let low : tree_height asked.tree.length ≤ 32 = subst (λ (t : TreeRoot). tree_height t.length ≤ 32) e.2 (low_height e.0.length bound) in
+    let low = asked-low S ask sound asked in
     let size : length hashes ≡ ask.length + answer_uncles (tree_height asked.tree.length) ask =
     ap length is ∙ answer_count (tree_height asked.tree.length) (look asked.state.known) ask in record {
       from = record {
@@ -60,7 +78,7 @@ range-answered S n b ask hashes sound closed distinct range (asked, (can, is)) =
         closed = closed;
         asked = asked;
         can = can;
-        enough = omega (arith, range.enough, enough);
+        enough = omega (arith, range.proof_is, range.leaves, enough);
         hashes_are = is;
       };
       few = omega (arith, size, low, range.most);

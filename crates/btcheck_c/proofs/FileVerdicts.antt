@@ -17,15 +17,15 @@ use Rattle.opening.specs.Description.{TreeEntry}
 use Rattle.opening.specs.PieceLayers.{piece_layer}
 use Rattle.short_pushes.specs.RowChecks as rows
 use Rattle.short_pushes.specs.declared.row_check.RowCheck.{RowCheck}
-use Rattle.btcheck_c.specs.FileChecks.{BeginsAnew, IsAgainst, IsFileVerdict, IsFirstFrom, IsRootVerdict}
-use Rattle.btcheck_c.specs.FileChecks.{bytes_left, row_length}
+use Rattle.btcheck_c.specs.FileChecks.{BeginsFileAnew, IsAgainst, IsFileVerdict, IsFirstFrom, IsRootVerdict}
+use Rattle.btcheck_c.specs.FileChecks.{check_bytes_left, row_length}
 use Rattle.btcheck_c.specs.declared.file_check.FileCheck.{FileCheck}
 use Rattle.btcheck_c.proofs.FilePieces.{layer_inside, not_complete, one_node, one_whole, only_piece, range_whole, some_length, whole_file}
 
 -- ---- beginning anew
 
 -- the same pieces, and nothing was given yet
-pub anew : (c d : FileCheck) → d.first ≡ c.first → d.root ≡ c.root → rows.BeginsAnew c.check d.check → BeginsAnew c d
+pub anew : (c d : FileCheck) → d.first ≡ c.first → d.root ≡ c.root → rows.BeginsPushesAnew c.check d.check → BeginsFileAnew c d
 anew c d first root begun = λ p e from to a. record {
   against = record {
     order = a.order;
@@ -43,8 +43,8 @@ anew c d first root begun = λ p e from to a. record {
 -- ---- the end
 
 -- nothing is still to come
-pub whole_of : (c : FileCheck) → bytes_left c ≡ 0 → rows.byte_count c.check ≡ rows.chosen_shape c.check
-whole_of c none = let given : rows.byte_count c.check ≤ rows.chosen_shape c.check = c.check.given in omega (arith, none, given)
+pub whole_of : (c : FileCheck) → check_bytes_left c ≡ 0 → rows.row_byte_count c.check ≡ rows.shape_of_row c.check
+whole_of c none = let given : rows.row_byte_count c.check ≤ rows.shape_of_row c.check = c.check.given in omega (arith, none, given)
 
 -- a check by a root is of the only piece of a file, and any other is of a longer file
 by_which : (p : ℕ) (e : TreeEntry) (from to : ℕ) (c : FileCheck) (r : List ℕ) → IsAgainst p e from to c → c.root ≡ Some r → (e.length ≤ p) × (r ≡ e.root)
@@ -57,11 +57,11 @@ is_longer : (p : ℕ) (e : TreeEntry) (from to : ℕ) (c : FileCheck) → IsAgai
 is_longer p e from to c a is = elim (cases_lt p e.length) [ inl longer ↦ longer | inr short ↦ absurd (none-some e.root (sym is ∙ (a.one short).0)) ]
 
 -- no bit is set before the end of an only piece
-none_marked : (c : FileCheck) (marked content : List ℕ) → length (rows.given_hashes c.check) ≡ 1 → length content ≤ rows.chosen_shape c.check
+none_marked : (c : FileCheck) (marked content : List ℕ) → length (rows.hashes_of_row c.check) ≡ 1 → length content ≤ rows.shape_of_row c.check
     → rows.IsGivenRow c.check marked content → (k : ℕ) → k < 8 * length marked → bit_of marked k ≡ 1 → ⊥
 none_marked c marked content lone few given k lt is =
-    let layer = rows.chosen_layer c.check in
-    let one : rows.chosen_shape c.check ≤ 16384 * 2 ^ layer = one_node (rows.chosen_shape c.check) layer (sym c.check.whole ∙ lone) in
+    let layer = rows.layer_of_row c.check in
+    let one : rows.shape_of_row c.check ≤ 16384 * 2 ^ layer = one_node (rows.shape_of_row c.check) layer (sym c.check.whole ∙ lone) in
     let at = ((given.marked k lt).0 is).0 in
     not_complete (length content) layer k (omega (arith, one, few)) (omega (arith, at, length-complete_nodes content layer))
 
@@ -77,9 +77,9 @@ unmarked c marked content g = record {
 
 -- what the root says of the only piece is the verdict
 pub by_root : (c : FileCheck) (r : List ℕ) (n : ℕ) (root lent marked good : List ℕ) (place bad : Option ℕ) → c.root ≡ Some r
-    → bytes_left c ≡ 0
+    → check_bytes_left c ≡ 0
     → ((content : List ℕ) → rows.IsGivenRow c.check [] content → (n ≡ length content) × (root ≡ root_of content)
-    × IsJudgedRow (rows.chosen_layer c.check) (rows.given_hashes c.check) content lent place)
+    × IsJudgedRow (rows.layer_of_row c.check) (rows.hashes_of_row c.check) content lent place)
     → ((e : TreeEntry) (content : List ℕ) → r ≡ e.root → root ≡ root_of content → IsRootVerdict e content bad)
     → (((k : ℕ) → k < 8 * length marked → bit_of marked k ≡ 1 → ⊥) → (k : ℕ) → k < 8 * length good → (bit_of good k ≡ 1) ↔ ((k ≡ 0) × (root ≡ r)))
     → IsFileVerdict c marked good bad
@@ -87,7 +87,7 @@ by_root c r n root lent marked good place bad is none ends judged bits = λ p e 
     let which = by_which p e from to c r a is in let short : e.length ≤ p = which.0 in
     let lone = only_piece p e.length from to (some_length p e.length (omega (arith, a.order, a.within))) short a.order a.within in
     let end = ends content (unmarked c.check marked content given) in
-    let size : length content ≡ rows.chosen_shape c.check = sym given.length_is ∙ whole_of c none in
+    let size : length content ≡ rows.shape_of_row c.check = sym given.length_is ∙ whole_of c none in
     let all : row_length p e.length from to ≡ e.length =
     subst₂ (λ x y. row_length p e.length x y ≡ e.length) (sym lone.0) (sym lone.1) (one_whole p e.length short) in
     let blank = none_marked c marked content (a.one short).1 (omega (arith, size)) given in
@@ -107,9 +107,9 @@ by_root c r n root lent marked good place bad is none ends judged bits = λ p e 
 
 -- the root is the tree's, and the first bit is set
 pub good_root : (c : FileCheck) (r : List ℕ) (n : ℕ) (root lent marked good : List ℕ) (place : Option ℕ) → c.root ≡ Some r
-    → bytes_left c ≡ 0
+    → check_bytes_left c ≡ 0
     → ((content : List ℕ) → rows.IsGivenRow c.check [] content → (n ≡ length content) × (root ≡ root_of content)
-    × IsJudgedRow (rows.chosen_layer c.check) (rows.given_hashes c.check) content lent place)
+    × IsJudgedRow (rows.layer_of_row c.check) (rows.hashes_of_row c.check) content lent place)
     → root ≡ r → length good ≡ length marked → (0 < length marked → bit_of good 0 ≡ 1) → ((k : ℕ) → k ≢ 0 → bit_of good k ≡ bit_of marked k)
     → IsFileVerdict c marked good None
 good_root c r n root lent marked good place is none ends equal size set others =
@@ -127,9 +127,9 @@ good_root c r n root lent marked good place is none ends equal size set others =
     ])
 
 -- it is another, and the bits stay
-pub bad_root : (c : FileCheck) (r : List ℕ) (n : ℕ) (root lent good : List ℕ) (place : Option ℕ) → c.root ≡ Some r → bytes_left c ≡ 0
+pub bad_root : (c : FileCheck) (r : List ℕ) (n : ℕ) (root lent good : List ℕ) (place : Option ℕ) → c.root ≡ Some r → check_bytes_left c ≡ 0
     → ((content : List ℕ) → rows.IsGivenRow c.check [] content → (n ≡ length content) × (root ≡ root_of content)
-    × IsJudgedRow (rows.chosen_layer c.check) (rows.given_hashes c.check) content lent place)
+    × IsJudgedRow (rows.layer_of_row c.check) (rows.hashes_of_row c.check) content lent place)
     → root ≢ r → IsFileVerdict c good good (Some 0)
 bad_root c r n root lent good place is none ends differs = by_root c r n root lent good good place (Some 0) is none ends
     (λ e content trees found. (refl, λ equal. differs (found ∙ equal ∙ sym trees)))
@@ -158,9 +158,9 @@ comparison_from nodes hashes (Some i) found =
     subst (IsFirstDifference nodes hashes) same found.2
 
 -- what the nodes say of pieces of a longer file is the verdict
-pub by_layer : (c : FileCheck) (n : ℕ) (root marked good : List ℕ) (place bad : Option ℕ) → c.root ≡ None → bytes_left c ≡ 0
+pub by_layer : (c : FileCheck) (n : ℕ) (root marked good : List ℕ) (place bad : Option ℕ) → c.root ≡ None → check_bytes_left c ≡ 0
     → ((content : List ℕ) → rows.IsGivenRow c.check marked content → (n ≡ length content) × (root ≡ root_of content)
-    × IsJudgedRow (rows.chosen_layer c.check) (rows.given_hashes c.check) content good place)
+    × IsJudgedRow (rows.layer_of_row c.check) (rows.hashes_of_row c.check) content good place)
     → bad ≡ option_map (λ k. min (c.first + k) (2 ^ 64 - 1)) place → IsFileVerdict c marked good bad
 by_layer c n root marked good place bad is none ends numbered = λ p e from to content a given.
     let longer : p < e.length = is_longer p e from to c a is in let m = a.many longer in
@@ -168,9 +168,9 @@ by_layer c n root marked good place bad is none ends numbered = λ p e from to c
     let layer : ℕ = piece_layer p in
     let found : IsJudgedRow layer hashes content good place =
     subst₂ (λ l h. IsJudgedRow l h content good place) a.layer m.hashes (ends content given).2 in
-    let size : length content ≡ rows.chosen_shape c.check = sym given.length_is ∙ whole_of c none in
+    let size : length content ≡ rows.shape_of_row c.check = sym given.length_is ∙ whole_of c none in
     let count : length (piece_nodes layer content) ≡ length hashes = length-piece_nodes layer content
-    ∙ ap (λ k. first_pad (block_count k) layer) size ∙ ap (first_pad (block_count (rows.chosen_shape c.check))) (sym a.layer) ∙ sym c.check.whole
+    ∙ ap (λ k. first_pad (block_count k) layer) size ∙ ap (first_pad (block_count (rows.shape_of_row c.check))) (sym a.layer) ∙ sym c.check.whole
     ∙ ap length m.hashes in
     let compared : IsComparison (piece_nodes layer content) hashes place = subst (λ h. IsComparison (piece_nodes layer content) h place)
     (take_all (length (piece_nodes layer content)) hashes (omega (arith, count))) found.compared in

@@ -12,11 +12,11 @@ use Rattle.session.specs.Layouts.{SessionSeen, roots, root_of_entry, tree_number
 use Rattle.session.specs.Session.{AreTaken}
 use Rattle.session.proofs.MessageBlocks.{run-offset}
 use Rattle.holdings.specs.Holding.{IsTreeBlock}
-use Rattle.btcheck_c.specs.Held.{ArePlaced}
+use Rattle.btcheck_c.specs.Held.{AreBlocksPlaced}
 
 -- a message that was taken has its blocks in its file's tree, also afterwards
 pub taken_placed : (S S' : SessionSeen) (index begin : ℕ) (bytes : List ℕ) (v : BlocksSeen) → S'.torrent ≡ S.torrent
-    → AreTaken S index begin bytes v S' → ArePlaced S' v (length bytes)
+    → AreTaken S index begin bytes v S' → AreBlocksPlaced S' v (length bytes)
 taken_placed S S' index begin bytes v same taken = record {
   number = taken.in_file.tree_number;
   tree = taken.in_file.tree;
@@ -25,7 +25,7 @@ taken_placed S S' index begin bytes v same taken = record {
   run = taken.run;
 }
 
-module _ (S : SessionSeen) (v : BlocksSeen) (size : ℕ) (p : ArePlaced S v size) where
+module _ (S : SessionSeen) (v : BlocksSeen) (size : ℕ) (p : AreBlocksPlaced S v size) where
   -- the file's entry, which has the tree
   pub file_entry_there : (f : FileEntry) × (slice_get S.torrent.files v.file ≡ Some f) × (f.tree ≡ Some p.number)
   file_entry_there = found (slice_get S.torrent.files v.file) refl p.of_file

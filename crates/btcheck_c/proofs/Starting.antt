@@ -13,20 +13,20 @@ use Rattle.pieces.specs.Pieces.{pieces_of}
 use Rattle.btcheck_c.specs.CheckCalls.{ChecksFile, ChecksPieces, HasPieces, IsFileTree}
 use Rattle.btcheck_c.specs.FileChecks.{BeginsFile}
 use Rattle.btcheck_c.specs.declared.file_check.FileCheck.{FileCheck}
-use Rattle.btcheck_c.specs.Holds.{Begun, Kept, Started}
+use Rattle.btcheck_c.specs.Holds.{BegunFrom, Kept, Started}
 use Rattle.btcheck_c.specs.declared.thing.Kind.{Kind}
 use Rattle.btcheck_c.specs.declared.thing.Thing.{Thing}
 
 -- the thing that was taken out of the other handle is lent to the call, and goes back
 pub begins : {A : Type 0} (P : Kind → Result A ℕ → Kind → Type 0) (o o' : Option Thing) (t lent : Thing) (k k' : Kind) (made : Result A ℕ)
-    → Some t ≡ o → lent ≡ t → lent.kind ≡ k → o' ≡ Some (record { kind = k' }) → P k made k' → Begun P o made o'
+    → Some t ≡ o → lent ≡ t → lent.kind ≡ k → o' ≡ Some (record { kind = k' }) → P k made k' → BegunFrom P o made o'
 begins P o o' t lent k k' made is same kind is' p =
-    subst (λ w. Begun P w made o') is
+    subst (λ w. BegunFrom P w made o') is
     (record { kind = k' }, is', subst (λ x. P x made k') (sym kind ∙ ap (λ (s : Thing). s.kind) same) p)
 
 -- what was begun is kept in a handle that held nothing
 pub started : {A : Type 0} (wrap : A → Kind) (P : Kind → Result A ℕ → Kind → Type 0) (o h h' o' : Option Thing) (made : Result A ℕ) (status : ℕ)
-    → h ≡ None → Begun P o made o' → Kept wrap made status h' → Started wrap P o h status h' o'
+    → h ≡ None → BegunFrom P o made o' → Kept wrap made status h' → Started wrap P o h status h' o'
 started wrap P o None h' o' made status free begun kept = (made, (begun, kept))
 started wrap P o (Some u) h' o' made status free begun kept = absurd (none-some u (sym free))
 

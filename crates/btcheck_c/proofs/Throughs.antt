@@ -7,7 +7,7 @@ use Rattle.btcheck_c.specs.declared.thing.Kind.{Kind}
 use Rattle.btcheck_c.specs.declared.thing.Kind.TheVariants as kind
 use Rattle.btcheck_c.specs.declared.held.Held.{Held}
 use Rattle.btcheck_c.specs.Held.{OnBoth, WithHoldings}
-use Rattle.btcheck_c.specs.Holds.{Fills, IsFilled, Through, ThroughBoth}
+use Rattle.btcheck_c.specs.Holds.{FillsHandle, IsHandleFilled, Through, ThroughBoth}
 use Rattle.session.specs.Session.{SessionSeen}
 
 -- the thing that was taken out of the handle is lent to the call, and goes back
@@ -23,15 +23,15 @@ holds_nothing None full is empty = refl
 holds_nothing (Some t) full is empty = absurd (false≢true (sym empty ∙ is))
 
 -- a thing of this kind is in a handle that held nothing, or memory was refused for it
-pub filled : (P : ℕ → Option Thing → Type 0) (k : Kind) (o o' : Option Thing) (status : ℕ) → o ≡ None → IsFilled k o status o'
-    → (o' ≡ Some (record { kind = k }) → P 0 o') → (o' ≡ None → P 2 o') → Fills P o status o'
+pub filled : (P : ℕ → Option Thing → Type 0) (k : Kind) (o o' : Option Thing) (status : ℕ) → o ≡ None → IsHandleFilled k o status o'
+    → (o' ≡ Some (record { kind = k }) → P 0 o') → (o' ≡ None → P 2 o') → FillsHandle P o status o'
 filled P k o o' status free (inl p) there refused =
-    subst (λ w. Fills P w status o') (sym free) (subst (λ n. P n o') (sym p.0) (there p.1))
+    subst (λ w. FillsHandle P w status o') (sym free) (subst (λ n. P n o') (sym p.0) (there p.1))
 filled P k o o' status free (inr p) there refused =
-    subst (λ w. Fills P w status o') (sym free) (subst (λ n. P n o') (sym p.0) (refused (p.1 ∙ free)))
+    subst (λ w. FillsHandle P w status o') (sym free) (subst (λ n. P n o') (sym p.0) (refused (p.1 ∙ free)))
 
 -- nothing was made for a handle that holds nothing, and it stays so
-pub unfilled : (P : ℕ → Option Thing → Type 0) (o : Option Thing) (status : ℕ) → o ≡ None → (o ≡ None → P status o) → Fills P o status o
+pub unfilled : (P : ℕ → Option Thing → Type 0) (o : Option Thing) (status : ℕ) → o ≡ None → (o ≡ None → P status o) → FillsHandle P o status o
 unfilled P None status free p = p refl
 unfilled P (Some t) status free p = absurd (none-some t (sym free))
 

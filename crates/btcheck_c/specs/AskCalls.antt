@@ -10,7 +10,7 @@ use Rattle.wire.specs.declared.message.Ask.{Ask}
 use Rattle.btcheck_c.specs.Taken.{AnswerTaken, AskNoted, AnswerGiven, HasTreeBlock, WantIs}
 use Rattle.c_layouts.specs.Asks.{asked_of}
 use Rattle.btcheck_c.specs.Holds.{IsWrongKind}
-use Rattle.c_layouts.specs.Statuses.{HasHashes, IsAnswer}
+use Rattle.c_layouts.specs.Statuses.{HasHashesStatus, IsAnswer}
 use Rattle.c_layouts.specs.declared.asked.Asked.{Asked}
 use Rattle.btcheck_c.specs.declared.thing.Kind.{Kind}
 use Rattle.btcheck_c.specs.declared.thing.Kind.TheVariants as kind
@@ -38,15 +38,15 @@ HasNote true status = status ≡ 0
 HasNote false status = status ≡ 2
 
 -- the session notes that a request was sent; or memory was refused
-abbrev pub Notes : Ask → Kind → ℕ → Kind → Type 0
-Notes ask (kind.Session S) status k' = (done : Bool) × HasNote done status
+abbrev pub SessionNotes : Ask → Kind → ℕ → Kind → Type 0
+SessionNotes ask (kind.Session S) status k' = (done : Bool) × HasNote done status
     × ((S' : SessionSeen) × (k' ≡ kind.Session S') × AskNoted S ask done S')
-Notes ask k status k' = IsWrongKind k status k'
+SessionNotes ask k status k' = IsWrongKind k status k'
 
 -- the session takes hashes that answer an open ask; status and places are its answer
 abbrev pub TakesAnswer : Ask → List Hash → ℕ → Kind → ℕ → Kind → Type 0
 TakesAnswer ask hashes places (kind.Session S) status k' =
-    (answer : Result ℕ HashRefusal) × HasHashes answer status places
+    (answer : Result ℕ HashRefusal) × HasHashesStatus answer status places
     × ((S' : SessionSeen) × (k' ≡ kind.Session S') × AnswerTaken S ask hashes answer S')
 TakesAnswer ask hashes places k status k' = IsWrongKind k status k'
 
@@ -62,10 +62,10 @@ HasAnswer (Some answer.Reject) status room room' count = status ≡ 6
 HasAnswer None status room room' count = status ≡ 2
 
 -- the session answers a request, and stays as it is
-abbrev pub Answers : Ask → List Hash → List Hash → ℕ → Kind → ℕ → Kind → Type 0
-Answers ask room room' count (kind.Session S) status k' = (k' ≡ kind.Session S)
+abbrev pub SessionAnswers : Ask → List Hash → List Hash → ℕ → Kind → ℕ → Kind → Type 0
+SessionAnswers ask room room' count (kind.Session S) status k' = (k' ≡ kind.Session S)
     × ((given : Option Answer) × HasAnswer given status room room' count × AnswerGiven S ask given)
-Answers ask room room' count k status k' = IsWrongKind k status k'
+SessionAnswers ask room room' count k status k' = IsWrongKind k status k'
 
 -- whether the session can answer a request, and it stays as it is
 abbrev pub AnswersIfAnswered : Ask → Kind → ℕ → Kind → Type 0

@@ -7,7 +7,7 @@ use Rattle.opening.specs.Seen.{tree_entry}
 use Rattle.opening.specs.Sound.{IsSoundTree}
 use Rattle.opening.specs.declared.torrent.TreeInfo.{TreeInfo}
 use Rattle.pieces.specs.Pieces.{pieces_of}
-use Rattle.btcheck_c.specs.FileChecks.{BeginsAnew, BeginsFile, FeedsFile, IsFileVerdict, IsShortFile, bytes_left}
+use Rattle.btcheck_c.specs.FileChecks.{BeginsFile, BeginsFileAnew, FeedsFileCheck, IsFileVerdict, IsShortFile, check_bytes_left}
 use Rattle.btcheck_c.specs.Holds.{IsWrongKind, Started}
 use Rattle.btcheck_c.specs.declared.file_check.FileCheck.{FileCheck}
 use Rattle.btcheck_c.specs.declared.thing.Thing.{Thing}
@@ -25,15 +25,15 @@ pub record IsFileTree (d : Description) (n : ℕ) (e : TreeEntry) : Type 0 where
   pub entry_is : slice_get d.trees tree ≡ Some e
 
 -- file n has no tree, or there is none
-abbrev pub HasNoTree : Description → ℕ → ℕ → Type 0
-HasNoTree d n status = ((status ≡ 5) × (length d.files ≤ n))
+abbrev pub HasNoTreeStatus : Description → ℕ → ℕ → Type 0
+HasNoTreeStatus d n status = ((status ≡ 5) × (length d.files ≤ n))
     ⊎ ((status ≡ 4) × ((f : FileEntry) × (slice_get d.files n ≡ Some f) × (f.tree ≡ None)))
 
 -- the tree of file n, which is sound; or there is none
 abbrev pub FindsTree : Description → ℕ → Result (Bor TreeInfo) ℕ → Type 0
 FindsTree d n (Ok tree) = IsFileTree d n (tree_entry tree.now)
     × IsSoundTree d.piece_length (tree_entry tree.now)
-FindsTree d n (Err status) = HasNoTree d n status
+FindsTree d n (Err status) = HasNoTreeStatus d n status
 
 -- file n has a tree, but memory for its check was refused
 abbrev pub HasNoRoom : Description → ℕ → ℕ → Type 0
@@ -43,7 +43,7 @@ HasNoRoom d n status = (status ≡ 2) × ((e : TreeEntry) × IsFileTree d n e)
 abbrev pub ChecksFile : Description → ℕ → Result FileCheck ℕ → Type 0
 ChecksFile d n (Ok c) = (e : TreeEntry) × IsFileTree d n e
     × BeginsFile d.piece_length e 0 (pieces_of d.piece_length e.length) c
-ChecksFile d n (Err status) = HasNoTree d n status ⊎ HasNoRoom d n status
+ChecksFile d n (Err status) = HasNoTreeStatus d n status ⊎ HasNoRoom d n status
 
 -- the file has these pieces, from one number up to another, at least one
 abbrev pub HasPieces : Description → TreeEntry → ℕ → ℕ → Type 0
@@ -54,7 +54,7 @@ HasPieces d e from to = (from < to) × (to ≤ pieces_of d.piece_length e.length
 abbrev pub ChecksPieces : Description → ℕ → ℕ → ℕ → Result FileCheck ℕ → Type 0
 ChecksPieces d n from to (Ok c) = (e : TreeEntry) × IsFileTree d n e × HasPieces d e from to
     × BeginsFile d.piece_length e from to c
-ChecksPieces d n from to (Err status) = HasNoTree d n status
+ChecksPieces d n from to (Err status) = HasNoTreeStatus d n status
     ⊎ (((status ≡ 5) × ((e : TreeEntry) × IsFileTree d n e × ¬ HasPieces d e from to))
     ⊎ ((status ≡ 2) × ((e : TreeEntry) × IsFileTree d n e × HasPieces d e from to)))
 
@@ -80,8 +80,9 @@ CheckStarted P = Started kind.Check P
 -- and bits stay as they are
 abbrev pub PushesBits : List ℕ → List ℕ → List ℕ → Kind → ℕ → Kind → Type 0
 PushesBits bytes marked marks (kind.Check c) status k' =
-    ((status ≡ 0) × ((c' : FileCheck) × (k' ≡ kind.Check c') × FeedsFile c marked bytes c' marks))
-    ⊎ ((status ≡ 3) × ((bytes_left c < length bytes) × (k' ≡ kind.Check c)))
+    ((status ≡ 0)
+    × ((c' : FileCheck) × (k' ≡ kind.Check c') × FeedsFileCheck c marked bytes c' marks))
+    ⊎ ((status ≡ 3) × ((check_bytes_left c < length bytes) × (k' ≡ kind.Check c)))
 PushesBits bytes marked marks k status k' = IsWrongKind k status k'
 
 -- so it is where no bits are lent
@@ -96,21 +97,21 @@ HasBadPiece None status piece = status ≡ 0
 HasBadPiece (Some i) status piece = (status ≡ 10) × (piece ≡ i)
 
 -- the check has this verdict, and begins anew
-abbrev pub HasEnded : List ℕ → List ℕ → ℕ → FileCheck → ℕ → Kind → Type 0
-HasEnded marked good piece c status k' = (bytes_left c ≡ 0) × ((bad : Option ℕ)
+abbrev pub HasCheckEnded : List ℕ → List ℕ → ℕ → FileCheck → ℕ → Kind → Type 0
+HasCheckEnded marked good piece c status k' = (check_bytes_left c ≡ 0) × ((bad : Option ℕ)
     × HasBadPiece bad status piece × (IsFileVerdict c marked good bad
-    × ((c' : FileCheck) × (k' ≡ kind.Check c') × BeginsAnew c c')))
+    × ((c' : FileCheck) × (k' ≡ kind.Check c') × BeginsFileAnew c c')))
 
 -- the check has a verdict; or bytes are still to come, and it stays as it is
 abbrev pub EndsCheck : ℕ → Kind → ℕ → Kind → Type 0
-EndsCheck piece (kind.Check c) status k' = HasEnded [] [] piece c status k'
-    ⊎ ((status ≡ 9) × ((0 < bytes_left c) × (k' ≡ kind.Check c)))
+EndsCheck piece (kind.Check c) status k' = HasCheckEnded [] [] piece c status k'
+    ⊎ ((status ≡ 9) × ((0 < check_bytes_left c) × (k' ≡ kind.Check c)))
 EndsCheck piece k status k' = IsWrongKind k status k'
 
 -- the check has a verdict; or bytes are still to come, the bits tell which pieces are whole and
 -- good, and it begins anew
 abbrev pub EndsBits : List ℕ → List ℕ → ℕ → Kind → ℕ → Kind → Type 0
-EndsBits marked good piece (kind.Check c) status k' = HasEnded marked good piece c status k'
-    ⊎ ((status ≡ 9) × ((0 < bytes_left c) × (IsShortFile c marked good
-    × ((c' : FileCheck) × (k' ≡ kind.Check c') × BeginsAnew c c'))))
+EndsBits marked good piece (kind.Check c) status k' = HasCheckEnded marked good piece c status k'
+    ⊎ ((status ≡ 9) × ((0 < check_bytes_left c) × (IsShortFile c marked good
+    × ((c' : FileCheck) × (k' ≡ kind.Check c') × BeginsFileAnew c c'))))
 EndsBits marked good piece k status k' = IsWrongKind k status k'

@@ -3,8 +3,8 @@ use Rattle.std.specs.Prelude.{◌≡◌, ◌≢◌, ◌⊎◌, ℕ, ◌+◌, ◌
 use Rattle.benc.specs.Text.{spelling}
 use Rattle.c_layouts.specs.Drafts.{HasDraftStatus}
 use Rattle.c_layouts.specs.Paths.{HasPath}
-use Rattle.drafting.specs.Coming.{FeedsFile, HasRefused, IsNewFile, IsSameKind, TakesMemory, bytes_left}
-use Rattle.drafting.specs.Drafted.{AddsFile, IsFileOf, new_rows}
+use Rattle.drafting.specs.Coming.{FeedsFile, FileTakesMemory, HasFileRefused, IsNewFile, IsSameKind, file_bytes_left}
+use Rattle.drafting.specs.Drafted.{AddsFile, IsFileForDraft, new_rows}
 use Rattle.drafting.specs.declared.coming_file.ComingFile.{ComingFile}
 use Rattle.drafts.specs.Finishing.{finish_rows}
 use Rattle.drafts.specs.Outline.{Outline, empty_outline}
@@ -47,9 +47,9 @@ abbrev pub PushesPart : List ℕ → Kind → ℕ → Kind → Type 0
 PushesPart bytes (kind.File f) status k' =
     ((status ≡ 0) × ((g : ComingFile) × (k' ≡ kind.File g)
     × IsSameKind f g × FeedsFile f bytes g))
-    ⊎ (((status ≡ 3) × ((bytes_left f < length bytes) × (k' ≡ kind.File f)))
+    ⊎ (((status ≡ 3) × ((file_bytes_left f < length bytes) × (k' ≡ kind.File f)))
     ⊎ ((status ≡ 2) × ((g : ComingFile) × (k' ≡ kind.File g)
-    × IsSameKind f g × HasRefused g × TakesMemory f bytes)))
+    × IsSameKind f g × HasFileRefused g × FileTakesMemory f bytes)))
 PushesPart bytes k status k' = IsWrongKind k status k'
 
 -- ---- adding
@@ -63,9 +63,9 @@ HasStatus (Err r) status = HasDraftStatus r status
 -- the draft
 abbrev pub AddsFileTo : List ℕ → Outline → ComingFile → ℕ → Outline → ComingFile → Type 0
 AddsFileTo path d f status e g =
-    (IsFileOf d f × ((answer : Result (Unit {0}) Refusal)
+    (IsFileForDraft d f × ((answer : Result (Unit {0}) Refusal)
     × (AddsFile d f path e g answer × HasStatus answer status)))
-    ⊎ ((status ≡ 1) × ((IsFileOf d f → ⊥) × ((e ≡ d) × (g ≡ f))))
+    ⊎ ((status ≡ 1) × ((IsFileForDraft d f → ⊥) × ((e ≡ d) × (g ≡ f))))
 
 -- a call on a draft and a file; things of other kinds stay as they are, and the status is 1
 abbrev pub OnDraft : (Outline → ComingFile → ℕ → Outline → ComingFile → Type 0) → Kind → Kind → ℕ

@@ -14,31 +14,31 @@ use Rattle.short_pushes.specs.RowChecks as rows
 use Rattle.btcheck_c.specs.declared.file_check.FileCheck.{FileCheck}
 
 -- how many bytes the check was given
-abbrev pub bytes_given : FileCheck → ℕ
-bytes_given c = rows.byte_count c.check
+abbrev pub check_bytes_given : FileCheck → ℕ
+check_bytes_given c = rows.row_byte_count c.check
 
 -- how many bytes are still to come
-abbrev pub bytes_left : FileCheck → ℕ
-bytes_left c = rows.chosen_shape c.check - bytes_given c
+abbrev pub check_bytes_left : FileCheck → ℕ
+check_bytes_left c = rows.shape_of_row c.check - check_bytes_given c
 
 -- how many bytes the pieces from one number up to another have, of a file of n bytes
 abbrev pub row_length : ℕ → ℕ → ℕ → ℕ → ℕ
 row_length piece_length n from to = min (piece_length * to) n - piece_length * from
 
 -- the check was given this content, and these bits tell which of its pieces are complete and good
-abbrev pub IsGiven : FileCheck → List ℕ → List ℕ → Type 0
-IsGiven c good content = rows.IsGivenRow c.check good content
+abbrev pub IsGivenToCheck : FileCheck → List ℕ → List ℕ → Type 0
+IsGivenToCheck c good content = rows.IsGivenRow c.check good content
 
 -- the check compares with this root the one piece of the row, whose hash it does not look at
 abbrev pub IsByRoot : TreeEntry → FileCheck → Type 0
-IsByRoot e c = (c.root ≡ Some e.root) × (length (rows.given_hashes c.check) ≡ 1)
+IsByRoot e c = (c.root ≡ Some e.root) × (length (rows.hashes_of_row c.check) ≡ 1)
 
 -- the check compares these pieces of a file with their hashes in the piece layer
 pub record IsByLayer (piece_length : ℕ) (e : TreeEntry) (from to : ℕ) (c : FileCheck)
     : Type 0 where
   pub root : c.root ≡ None
   pub listed : length e.layer ≡ pieces_of piece_length e.length
-  pub hashes : rows.given_hashes c.check ≡ slice_range e.layer from to
+  pub hashes : rows.hashes_of_row c.check ≡ slice_range e.layer from to
 
 -- the check compares these pieces of a file with this tree, of a torrent with this piece length:
 -- the only one by its root, else each by its node
@@ -47,8 +47,8 @@ pub record IsAgainst (piece_length : ℕ) (e : TreeEntry) (from to : ℕ) (c : F
   pub order : from < to
   pub within : to ≤ pieces_of piece_length e.length
   pub first : c.first ≡ from
-  pub size : rows.chosen_shape c.check ≡ row_length piece_length e.length from to
-  pub layer : rows.chosen_layer c.check ≡ piece_layer piece_length
+  pub size : rows.shape_of_row c.check ≡ row_length piece_length e.length from to
+  pub layer : rows.layer_of_row c.check ≡ piece_layer piece_length
   pub one : e.length ≤ piece_length → IsByRoot e c
   pub many : piece_length < e.length → IsByLayer piece_length e from to c
 
@@ -56,18 +56,18 @@ pub record IsAgainst (piece_length : ℕ) (e : TreeEntry) (from to : ℕ) (c : F
 pub record BeginsFile (piece_length : ℕ) (e : TreeEntry) (from to : ℕ) (c : FileCheck)
     : Type 0 where
   pub against : IsAgainst piece_length e from to c
-  pub count : bytes_given c ≡ 0
-  pub given : (good : List ℕ) → AreClear good → IsGiven c good []
+  pub count : check_bytes_given c ≡ 0
+  pub given : (good : List ℕ) → AreClear good → IsGivenToCheck c good []
 
 -- the check was given these further bytes, and marked the bits
-pub record FeedsFile (old : FileCheck) (marked : List ℕ) (bytes : List ℕ) (new : FileCheck)
+pub record FeedsFileCheck (old : FileCheck) (marked : List ℕ) (bytes : List ℕ) (new : FileCheck)
     (marks : List ℕ) : Type 0 where
-  pub count : bytes_given new ≡ bytes_given old + length bytes
+  pub count : check_bytes_given new ≡ check_bytes_given old + length bytes
   pub against : (piece_length : ℕ) (e : TreeEntry) (from to : ℕ)
       → IsAgainst piece_length e from to old → IsAgainst piece_length e from to new
   pub bits : length marks ≡ length marked
-  pub given : (content : List ℕ) → IsGiven old marked content
-      → IsGiven new marks (content ++ bytes)
+  pub given : (content : List ℕ) → IsGivenToCheck old marked content
+      → IsGivenToCheck new marks (content ++ bytes)
 
 -- ---- the end
 
@@ -96,7 +96,7 @@ IsFirstFrom from nodes hashes (Some i) =
 
 -- bit k tells whether piece k of the row is the torrent's, as a bitfield has it (BEP 3); those past
 -- the last piece are clear
-pub record AreBitsOf (piece_length : ℕ) (e : TreeEntry) (from to : ℕ) (content good : List ℕ)
+pub record AreBitsOfRow (piece_length : ℕ) (e : TreeEntry) (from to : ℕ) (content good : List ℕ)
     : Type 0 where
   pub one : e.length ≤ piece_length → (k : ℕ) → k < 8 * length good
       → (bit_of good k ≡ 1) ↔ ((k ≡ 0) × (root_of content ≡ e.root))
@@ -108,7 +108,7 @@ pub record AreBitsOf (piece_length : ℕ) (e : TreeEntry) (from to : ℕ) (conte
 pub record IsRowVerdict (piece_length : ℕ) (e : TreeEntry) (from to : ℕ) (content good : List ℕ)
     (bad : Option ℕ) : Type 0 where
   pub whole : length content ≡ row_length piece_length e.length from to
-  pub bits : AreBitsOf piece_length e from to content good
+  pub bits : AreBitsOfRow piece_length e from to content good
   pub first : piece_length < e.length
       → IsFirstFrom from (piece_nodes (piece_layer piece_length) content)
       (slice_range e.layer from to) bad
@@ -118,7 +118,7 @@ pub record IsRowVerdict (piece_length : ℕ) (e : TreeEntry) (from to : ℕ) (co
 -- so it is of each content that the check was given
 abbrev pub IsFileVerdict : FileCheck → List ℕ → List ℕ → Option ℕ → Type 0
 IsFileVerdict c marked good bad = (piece_length : ℕ) (e : TreeEntry) (from to : ℕ)
-    (content : List ℕ) → IsAgainst piece_length e from to c → IsGiven c marked content
+    (content : List ℕ) → IsAgainst piece_length e from to c → IsGivenToCheck c marked content
     → IsRowVerdict piece_length e from to content good bad
 
 -- ---- an early end
@@ -135,10 +135,10 @@ pub record IsShortRow (piece_length : ℕ) (e : TreeEntry) (from to : ℕ) (cont
 -- so it is of each content that the check was given
 abbrev pub IsShortFile : FileCheck → List ℕ → List ℕ → Type 0
 IsShortFile c marked good = (piece_length : ℕ) (e : TreeEntry) (from to : ℕ) (content : List ℕ)
-    → IsAgainst piece_length e from to c → IsGiven c marked content
+    → IsAgainst piece_length e from to c → IsGivenToCheck c marked content
     → IsShortRow piece_length e from to content good
 
 -- the check of the same pieces, which was given nothing
-abbrev pub BeginsAnew : FileCheck → FileCheck → Type 0
-BeginsAnew old new = (piece_length : ℕ) (e : TreeEntry) (from to : ℕ)
+abbrev pub BeginsFileAnew : FileCheck → FileCheck → Type 0
+BeginsFileAnew old new = (piece_length : ℕ) (e : TreeEntry) (from to : ℕ)
     → IsAgainst piece_length e from to old → BeginsFile piece_length e from to new

@@ -2,7 +2,7 @@
 use Rattle.std.specs.Prelude.{◌≡◌, ◌⊎◌, ℕ, ◌≤◌, List, length, slice_get, Some}
 use Rattle.opening.specs.Description.{Description, FileEntry}
 use Rattle.c_layouts.specs.Files.{IsFileInfo}
-use Rattle.c_layouts.specs.Paths.{path_text, HasPath}
+use Rattle.c_layouts.specs.Paths.{joined_path_text, HasPath}
 use Rattle.c_layouts.specs.declared.file_info.FileInfo.{FileInfo}
 use Rattle.btcheck_c.specs.Holds.{IsWrongKind}
 use Rattle.btcheck_c.specs.declared.thing.Kind.{Kind}
@@ -29,7 +29,7 @@ WritesFile n out k status k' = IsWrongKind k status k'
 abbrev pub HasFilePath : Description → ℕ → ℕ → List ℕ → List ℕ → ℕ → Type 0
 HasFilePath d n status room room' len =
     ((f : FileEntry) × (slice_get d.files n ≡ Some f)
-    × HasPath (path_text f.path) status room room' len)
+    × HasPath (joined_path_text f.path) status room room' len)
     ⊎ ((status ≡ 5) × (length d.files ≤ n))
 
 -- the path of file n of the session's torrent

@@ -13,7 +13,7 @@ use Rattle.btcheck_c.specs.declared.thing.Kind.{Kind}
 use Rattle.btcheck_c.specs.declared.thing.Kind.TheVariants as kind
 
 -- the body means a message of which the session makes this; what its kind does not name stays
-pub record MessageTaken (body : List ℕ) (old out : VerdictInfo) (S : SessionSeen) (status : ℕ)
+pub record BodyTaken (body : List ℕ) (old out : VerdictInfo) (S : SessionSeen) (status : ℕ)
     (S' : SessionSeen) : Type 0 where
   pub message : Message
   pub means : MeansMessage body message
@@ -22,13 +22,13 @@ pub record MessageTaken (body : List ℕ) (old out : VerdictInfo) (S : SessionSe
   pub step : IsSafeStep S message verdict S'
 
 -- a message of a known kind has a wrong size
-abbrev pub HasWrongSize : List ℕ → Type 0
-HasWrongSize body = (id : ℕ) × (len : ℕ) × Means body (frame.BadSize id len)
+abbrev pub IsBodyOfWrongSize : List ℕ → Type 0
+IsBodyOfWrongSize body = (id : ℕ) × (len : ℕ) × Means body (frame.BadSize id len)
 
 -- the session takes the message of a body; or it is none, and the session stays as it is
 abbrev pub FrameTaken : List ℕ → VerdictInfo → VerdictInfo → SessionSeen → ℕ → SessionSeen → Type 0
-FrameTaken body old out S status S' = MessageTaken body old out S status S'
-    ⊎ (((status ≡ 8) × (HasWrongSize body × (S' ≡ S)))
+FrameTaken body old out S status S' = BodyTaken body old out S status S'
+    ⊎ (((status ≡ 8) × (IsBodyOfWrongSize body × (S' ≡ S)))
     ⊎ ((status ≡ 3) × ((2 ^ 32 ≤ length body) × (S' ≡ S))))
 
 -- so does the session of a handle

@@ -16,8 +16,8 @@ use Rattle.session.specs.Session.{SessionSeen}
 use Rattle.holdings.specs.declared.holding.Hold.{Hold}
 use Rattle.holdings.specs.declared.piece_range.Pieces.{Pieces}
 use Rattle.holdings.specs.declared.run.Settled.{Settled}
-use Rattle.holdings.specs.Holding.{IsHeldBy}
-use Rattle.holdings.specs.Holdings.{HoldingsSeen, held_count, most_pieces}
+use Rattle.holdings.specs.Holding.{IsBlockHeldBy}
+use Rattle.holdings.specs.Holdings.{HoldingsSeen, all_pieces, held_count, most_pieces}
 use Rattle.holdings.specs.Next.{AreUnsettled, LacksMemoryNext, SettlesNext}
 use Rattle.btcheck_c.specs.Taken.{BlocksTaken}
 use Rattle.c_layouts.specs.Held.{with_hold, HasSettled, IsUnheld}
@@ -30,10 +30,6 @@ use Rattle.btcheck_c.specs.declared.thing.Kind.{Kind}
 use Rattle.btcheck_c.specs.declared.thing.Kind.TheVariants as kind
 
 -- ---- beginning
-
--- all pieces of tree n
-abbrev pub all_pieces : ℕ → Pieces
-all_pieces n = record { tree = n; from = 0; end = 2 ^ 64 - 1 }
 
 -- nothing is held yet; this many blocks may be, or those of the torrent's longest piece
 pub record IsNewHeld (d : Description) (bound : ℕ) (h : Held) : Type 0 where
@@ -58,7 +54,7 @@ HoldingStarted bound = Started kind.Holdings (StartsHolding bound)
 -- ---- holding
 
 -- the blocks of a message are blocks of tree n, which is the tree of their file
-pub record ArePlaced (S : SessionSeen) (v : BlocksSeen) (size : ℕ) : Type 0 where
+pub record AreBlocksPlaced (S : SessionSeen) (v : BlocksSeen) (size : ℕ) : Type 0 where
   pub number : ℕ
   pub tree : TreeRoot
   pub of_file : tree_of S v.file ≡ Some number
@@ -69,7 +65,7 @@ pub record ArePlaced (S : SessionSeen) (v : BlocksSeen) (size : ℕ) : Type 0 wh
 abbrev pub EntryHeld : SessionSeen → ℕ → BlocksSeen → List ℕ → ℕ → Option BlockRefusal
     → HoldingsSeen → HeldInfo → HoldingsSeen → HeldInfo → Type 0
 EntryHeld S n v bytes m (Some Unproved) h out h' out' = (r : Hold)
-    × (IsHeldBy h S n (v.first + m) (block bytes m) r h' × (out' ≡ with_hold out m r))
+    × (IsBlockHeldBy h S n (v.first + m) (block bytes m) r h' × (out' ≡ with_hold out m r))
 EntryHeld S n v bytes m r h out h' out' = (h' ≡ h) × (out' ≡ out)
 
 -- the first m entries of a message, one after the other
@@ -81,7 +77,7 @@ EntriesHeld S n v bytes (suc m) h out h' out' = (between : HoldingsSeen) × ((so
     × ((slice_get v.refusals m ≡ Some r) × EntryHeld S n v bytes m r between so_far h' out'))))
 
 -- the pieces that have one of `count` blocks of tree n, from block `first` on
-pub record ArePiecesOf (S : SessionSeen) (n first count : ℕ) (p : Pieces) : Type 0 where
+pub record ArePiecesOfRun (S : SessionSeen) (n first count : ℕ) (p : Pieces) : Type 0 where
   pub tree_is : p.tree ≡ n
   pub tree : TreeRoot
   pub there : slice_get (roots S) n ≡ Some tree
@@ -98,7 +94,7 @@ pub record HeldBlocks (S : SessionSeen) (v : BlocksSeen) (bytes : List ℕ) (h :
   pub laid : HeldInfo
   pub unheld : IsUnheld v laid
   pub each : EntriesHeld S number v bytes (length v.refusals) h.holdings laid h'.holdings out
-  pub looks : ArePiecesOf S number v.first (length v.refusals) h'.cursor.pieces
+  pub looks : ArePiecesOfRun S number v.first (length v.refusals) h'.cursor.pieces
 
 -- the blocks of a message that the session took are held if they cannot be proved yet; or the
 -- message was refused, and nothing has changed

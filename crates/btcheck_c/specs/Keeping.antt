@@ -9,7 +9,7 @@ use Rattle.session_exports.specs.Exports.{IsExport, NothingFrom, point_after}
 use Rattle.btcheck_c.specs.Taken.{LayerTaken}
 use Rattle.c_layouts.specs.Cursors.{cursor_of, point_of}
 use Rattle.c_layouts.specs.HashesFrames.{HasFrame}
-use Rattle.c_layouts.specs.Statuses.{HasHashes}
+use Rattle.c_layouts.specs.Statuses.{HasHashesStatus}
 use Rattle.c_layouts.specs.declared.cursor_info.CursorInfo.{CursorInfo}
 use Rattle.btcheck_c.specs.Holds.{IsWrongKind}
 use Rattle.btcheck_c.specs.declared.thing.Kind.{Kind}
@@ -17,12 +17,12 @@ use Rattle.btcheck_c.specs.declared.thing.Kind.TheVariants as kind
 
 -- the session takes a whole layer of a tree; status and places are its answer. Or there is no such
 -- tree
-abbrev pub TakesLayer : ℕ → ℕ → List Hash → ℕ → Kind → ℕ → Kind → Type 0
-TakesLayer n layer hashes places (kind.Session S) status k' =
-    ((answer : Result ℕ HashRefusal) × HasHashes answer status places
+abbrev pub SessionTakesLayer : ℕ → ℕ → List Hash → ℕ → Kind → ℕ → Kind → Type 0
+SessionTakesLayer n layer hashes places (kind.Session S) status k' =
+    ((answer : Result ℕ HashRefusal) × HasHashesStatus answer status places
     × ((S' : SessionSeen) × (k' ≡ kind.Session S') × LayerTaken S n layer hashes answer S'))
     ⊎ ((status ≡ 5) × ((length S.torrent.trees ≤ n) × (k' ≡ kind.Session S)))
-TakesLayer n layer hashes places k status k' = IsWrongKind k status k'
+SessionTakesLayer n layer hashes places k status k' = IsWrongKind k status k'
 
 -- the leaves that come next from the cursor on, and what the session answers to their ask: by the
 -- law of answers (`StoresAnswers`) every session of the torrent stores it, unless memory is refused

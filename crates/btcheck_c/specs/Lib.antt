@@ -9,8 +9,12 @@ pub mod SessionCalls
 pub mod AskCalls
 pub mod Files
 pub mod Torrents
+pub mod PlaceCalls
+pub mod MarkCalls
 pub mod Blocks
 pub mod Frames
+pub mod WholeFrames
+pub mod WritingCalls
 pub mod FileChecks
 pub mod CheckCalls
 pub mod Held

@@ -11,7 +11,7 @@ use Rattle.wire.specs.declared.message.Ask.{Ask}
 use Rattle.btcheck_c.specs.Taken.{HashesTaken, BlockTaken, HasTreeBlock, PieceTaken}
 use Rattle.btcheck_c.specs.TreeStates.{HasState}
 use Rattle.btcheck_c.specs.Holds.{IsWrongKind}
-use Rattle.c_layouts.specs.Statuses.{HasHashes, HasBlock, HasPiece, IsAnswer}
+use Rattle.c_layouts.specs.Statuses.{HasHashesStatus, HasBlockStatus, HasPieceStatus, IsAnswer}
 use Rattle.btcheck_c.specs.declared.thing.Kind.{Kind}
 use Rattle.btcheck_c.specs.declared.thing.Kind.TheVariants as kind
 
@@ -36,16 +36,16 @@ AnswersIfMarked n b k status k' = IsWrongKind k status k'
 -- ---- messages
 
 -- the session takes a hashes message, and status and places are its answer
-abbrev pub TakesHashes : Ask → List Hash → ℕ → Kind → ℕ → Kind → Type 0
-TakesHashes ask hashes places (kind.Session S) status k' =
-    (answer : Result ℕ HashRefusal) × HasHashes answer status places
+abbrev pub SessionTakesHashes : Ask → List Hash → ℕ → Kind → ℕ → Kind → Type 0
+SessionTakesHashes ask hashes places (kind.Session S) status k' =
+    (answer : Result ℕ HashRefusal) × HasHashesStatus answer status places
     × ((S' : SessionSeen) × (k' ≡ kind.Session S') × HashesTaken S ask hashes answer S')
-TakesHashes ask hashes places k status k' = IsWrongKind k status k'
+SessionTakesHashes ask hashes places k status k' = IsWrongKind k status k'
 
 -- the session takes a block of a piece message; status, file and block are its answer
 abbrev pub TakesBlock : ℕ → ℕ → List ℕ → ℕ → ℕ → Kind → ℕ → Kind → Type 0
 TakesBlock index begin bytes file block (kind.Session S) status k' =
-    (answer : Result (ℕ × ℕ) BlockRefusal) × HasBlock answer status file block
+    (answer : Result (ℕ × ℕ) BlockRefusal) × HasBlockStatus answer status file block
     × ((S' : SessionSeen) × (k' ≡ kind.Session S') × BlockTaken S index begin bytes answer S')
 TakesBlock index begin bytes file block k status k' =
     IsWrongKind k status k'
@@ -53,6 +53,6 @@ TakesBlock index begin bytes file block k status k' =
 -- the session takes the bytes of a whole piece; status, file and block are its answer
 abbrev pub TakesPiece : ℕ → List ℕ → ℕ → ℕ → Kind → ℕ → Kind → Type 0
 TakesPiece index bytes file block (kind.Session S) status k' =
-    (answer : Result (ℕ × ℕ) PieceRefusal) × HasPiece answer status file block
+    (answer : Result (ℕ × ℕ) PieceRefusal) × HasPieceStatus answer status file block
     × ((S' : SessionSeen) × (k' ≡ kind.Session S') × PieceTaken S index bytes answer S')
 TakesPiece index bytes file block k status k' = IsWrongKind k status k'

@@ -2,7 +2,7 @@
 use Rattle.std.specs.Prelude.{◌≡◌, ℕ, List, is_some}
 use Rattle.c_layouts.specs.Paths.{HasPath}
 use Rattle.c_layouts.specs.Statuses.{IsAnswer}
-use Rattle.c_layouts.specs.Torrents.{piece_count}
+use Rattle.c_layouts.specs.Torrents.{torrent_piece_count}
 use Rattle.btcheck_c.specs.Holds.{IsWrongKind}
 use Rattle.btcheck_c.specs.declared.thing.Kind.{Kind}
 use Rattle.btcheck_c.specs.declared.thing.Kind.TheVariants as kind
@@ -16,7 +16,7 @@ WritesPieceLength len k status k' = IsWrongKind k status k'
 -- how many pieces the files have together
 abbrev pub WritesPieces : ℕ → Kind → ℕ → Kind → Type 0
 WritesPieces pieces (kind.Session S) status k' =
-    (k' ≡ kind.Session S) × ((status ≡ 0) × (pieces ≡ piece_count S.torrent))
+    (k' ≡ kind.Session S) × ((status ≡ 0) × (pieces ≡ torrent_piece_count S.torrent))
 WritesPieces pieces k status k' = IsWrongKind k status k'
 
 -- the torrent's name (BEP 52, "name")

@@ -3,7 +3,7 @@
 ghost use Rattle.std.specs.Prelude.{◌≡◌, ◌≢◌, Option};
 ghost use Rattle.partial_tree.specs.declared.answer.Answer.{Answer as Given};
 ghost use Rattle.c_layouts.specs.Asks.{ask_of};
-ghost use Rattle.btcheck_c.specs.AskCalls.{HasWant, Wants, HasNote, Notes, TakesAnswer, HasAnswer, Answers, AnswersIfAnswered};
+ghost use Rattle.btcheck_c.specs.AskCalls.{HasWant, Wants, HasNote, SessionNotes, TakesAnswer, HasAnswer, SessionAnswers, AnswersIfAnswered};
 ghost use Rattle.btcheck_c.specs.Holds.{Through};
 ghost use Rattle.btcheck_c.specs.Taken.{AnswerGiven, AskNoted};
 ghost use Rattle.btcheck_c.specs.declared.thing.Kind.TheVariants as kind;
@@ -69,8 +69,8 @@ fn note_ask(session: &mut OwnedSession<Paged>, ask: &Ask) -> bool
     session.note(ask).is_ok()
 }
 
-// What a session answers: `None` only if memory was refused.
-fn answer_to(session: &OwnedSession<Paged>, ask: &Ask) -> Option<Answer>
+/// What a session answers: `None` only if memory was refused.
+pub(crate) fn answer_to(session: &OwnedSession<Paged>, ask: &Ask) -> Option<Answer>
     ensures { AnswerGiven session.now ask.now result }
 {
     session.answer(ask).ok()
@@ -89,7 +89,7 @@ fn want(session: &OwnedSession<Paged>, tree: usize, block: u64, asked: &mut Aske
 }
 
 fn note(session: &mut OwnedSession<Paged>, ask: &Ask) -> u32
-    ensures { Notes ask.now (kind.Session session.old) result (kind.Session session.new) }
+    ensures { SessionNotes ask.now (kind.Session session.old) result (kind.Session session.new) }
 {
     status_of_note(note_ask(session, ask))
 }
@@ -108,8 +108,8 @@ fn take_answer(
 }
 
 fn answer(session: &OwnedSession<Paged>, ask: &Ask, room: &mut [Hash], count: &mut u64) -> u32
-    ensures done { Answers ask.now room.old room.new count.new (kind.Session session.now) result
-        (kind.Session session.now) }
+    ensures done { SessionAnswers ask.now room.old room.new count.new (kind.Session session.now)
+        result (kind.Session session.now) }
     ensures unwritten { result ≢ 0 → (room.new ≡ room.old)
         × (result ≢ 7 → count.new ≡ count.old) }
 {
@@ -145,7 +145,7 @@ pub extern "C" fn btcheck_session_want(
 /// 2: memory was refused. Then the session is as before.
 #[unsafe(no_mangle)]
 pub extern "C" fn btcheck_session_note(alloc: Global, handle: &mut Handle, asked: &Asked) -> u32
-    ensures { Through (Notes (ask_of asked.now)) handle.old.slot.held result
+    ensures { Through (SessionNotes (ask_of asked.now)) handle.old.slot.held result
         handle.new.slot.held }
 {
     lend!(handle, alloc, Session(session) => note(session, &read_ask(asked)))
@@ -179,7 +179,7 @@ pub extern "C" fn btcheck_session_answer(
     room: &mut [[u8; 32]],
     count: &mut u64,
 ) -> u32
-    ensures done { Through (Answers (ask_of asked.now) room.old room.new count.new)
+    ensures done { Through (SessionAnswers (ask_of asked.now) room.old room.new count.new)
         handle.old.slot.held result handle.new.slot.held }
     ensures unwritten { result ≢ 0 → (room.new ≡ room.old)
         × (result ≢ 7 → count.new ≡ count.old) }

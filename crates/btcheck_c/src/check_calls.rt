@@ -3,7 +3,7 @@
 
 ghost use Rattle.std.specs.Prelude.{◌≡◌, ◌≢◌, None, length};
 ghost use Rattle.btcheck_c.specs.CheckCalls.{StartsCheck, StartsPieces, CheckStarted, PushesFile, PushesBits, HasBadPiece, EndsCheck, EndsBits};
-ghost use Rattle.btcheck_c.specs.Holds.{Begun, Through};
+ghost use Rattle.btcheck_c.specs.Holds.{BegunFrom, Through};
 ghost use Rattle.btcheck_c.specs.declared.thing.Kind.TheVariants as kind;
 
 use crate::check_starts::{begun, pieces_check_of};
@@ -15,7 +15,7 @@ use c_layouts::status::{BAD_PIECE, DONE, TOO_LONG, TOO_SHORT, WRONG_HANDLE};
 use std::alloc::Global;
 
 fn start_check(alloc: Global, session: &mut Handle, number: usize) -> Result<FileCheck, u32>
-    ensures { Begun (StartsCheck number) session.old.slot.held result session.new.slot.held }
+    ensures { BegunFrom (StartsCheck number) session.old.slot.held result session.new.slot.held }
 {
     lend!(session, alloc, Session(lent) => begun(alloc, lent.torrent(), number),
         else Err(WRONG_HANDLE))
@@ -28,7 +28,7 @@ fn start_pieces(
     from: u64,
     to: u64,
 ) -> Result<FileCheck, u32>
-    ensures { Begun (StartsPieces number from to) session.old.slot.held result
+    ensures { BegunFrom (StartsPieces number from to) session.old.slot.held result
         session.new.slot.held }
 {
     lend!(session, alloc, Session(lent) => pieces_check_of(alloc, lent.torrent(), number, from, to),
@@ -62,6 +62,7 @@ fn finish_bits(check: &mut FileCheck, piece: &mut u64, good: &mut [u8]) -> u32
     ensures done { EndsBits good.old good.new piece.new (kind.Check check.old) result
         (kind.Check check.new) }
     ensures unwritten { result ≢ 10 → piece.new ≡ piece.old }
+    ensures kept { result ≢ 0 → result ≢ 9 → result ≢ 10 → good.new ≡ good.old }
     ensures size { length good.new ≡ length good.old }
 {
     if check.left() == 0 {
@@ -173,7 +174,7 @@ pub extern "C" fn btcheck_check_finish(alloc: Global, handle: &mut Handle, piece
 
 /// Ends a check as [`btcheck_check_finish`] does, and sets the last piece's bit too, if that is
 /// good. Status 9: the content ends before the pieces do; then the bits tell which of them are
-/// whole and good, and the check begins anew too.
+/// whole and good, and the check begins anew too. Status 1: bits and number stay as they are.
 #[unsafe(no_mangle)]
 pub extern "C" fn btcheck_check_finish_bits(
     alloc: Global,
@@ -184,6 +185,7 @@ pub extern "C" fn btcheck_check_finish_bits(
     ensures done { Through (EndsBits good.old good.new piece.new) handle.old.slot.held result
         handle.new.slot.held }
     ensures unwritten { result ≢ 10 → piece.new ≡ piece.old }
+    ensures kept { result ≢ 0 → result ≢ 9 → result ≢ 10 → good.new ≡ good.old }
     ensures size { length good.new ≡ length good.old }
 {
     lend!(handle, alloc, Check(check) => finish_bits(check, piece, good))

@@ -3,7 +3,7 @@
 
 ghost use Rattle.std.specs.Prelude.{◌≡◌, ◌≢◌, None};
 ghost use Rattle.btcheck_c.specs.Drafting.{AddsFileTo, DraftMade, DraftWritten, FileStarted, FinishesDraft, OnDraft, PushesPart, StartsFile, WithFile};
-ghost use Rattle.btcheck_c.specs.Holds.{Begun, Fills, Through, ThroughBoth};
+ghost use Rattle.btcheck_c.specs.Holds.{BegunFrom, FillsHandle, Through, ThroughBoth};
 ghost use Rattle.btcheck_c.specs.declared.thing.Kind.TheVariants as kind;
 
 use crate::handle::Handle;
@@ -21,7 +21,7 @@ fn file_of(alloc: Global, draft: &OpenDraft) -> Result<ComingFile, u32>
 }
 
 fn start_file(alloc: Global, draft: &mut Handle) -> Result<ComingFile, u32>
-    ensures { Begun StartsFile draft.old.slot.held result draft.new.slot.held }
+    ensures { BegunFrom StartsFile draft.old.slot.held result draft.new.slot.held }
 {
     lend!(draft, alloc, Draft(lent) => file_of(alloc, lent), else Err(WRONG_HANDLE))
 }
@@ -91,7 +91,7 @@ pub extern "C" fn btcheck_draft_new(
     piece_length: u64,
     hybrid: bool,
 ) -> u32
-    ensures { Fills (DraftMade name.now piece_length hybrid) handle.old.slot.held result
+    ensures { FillsHandle (DraftMade name.now piece_length hybrid) handle.old.slot.held result
         handle.new.slot.held }
 {
     if handle.is_full() {

@@ -6,7 +6,8 @@ ghost use Rattle.opening.specs.Sound.{IsSoundTree};
 ghost use Rattle.pieces.specs.Pieces.{pieces_of};
 ghost use Rattle.short_pushes.specs.RowChecks as rows;
 
-use crate::rows::{numbered, only_root, row_hashes, row_length, set_first};
+use crate::rows::{numbered, only_root, row_hashes, row_length};
+use c_layouts::bits::set_bit;
 use hashtree::{Hash, NoMemory, Shape};
 use opening::TreeInfo;
 use piece_marks::ends_with_piece;
@@ -22,12 +23,12 @@ pub struct FileCheck {
     check: RowCheck<'static>,
     first: u64,
     root: Option<Hash>,
-    ghost some: { 0 < rows.chosen_shape check },
-    ghost few: { first + length (rows.given_hashes check) ≤ 2 ^ 47 },
+    ghost some: { 0 < rows.shape_of_row check },
+    ghost few: { first + length (rows.hashes_of_row check) ≤ 2 ^ 47 },
 }
 
 impl FileCheck {
-    ghost use Rattle.btcheck_c.specs.FileChecks.{BeginsAnew, BeginsFile, FeedsFile, IsFileVerdict, IsShortFile, bytes_left};
+    ghost use Rattle.btcheck_c.specs.FileChecks.{BeginsFile, BeginsFileAnew, FeedsFileCheck, IsFileVerdict, IsShortFile, check_bytes_left};
 
     /// A check that was given nothing yet, of a file's pieces from one number up to another. It
     /// fails if memory is refused. Conditions: the tree is one of a torrent with this piece length,
@@ -56,7 +57,7 @@ impl FileCheck {
 
     /// How many bytes of the pieces are still to come.
     pub(crate) fn left(&self) -> u64
-        ensures { result ≡ bytes_left self.now }
+        ensures { result ≡ check_bytes_left self.now }
     {
         self.check.left()
     }
@@ -64,8 +65,8 @@ impl FileCheck {
     /// Takes the next bytes, and sets the bit of each piece of the row that is complete and good.
     /// Condition: they are no more than are still to come.
     pub(crate) fn push(&mut self, bytes: &[u8], good: &mut [u8])
-        requires { length bytes.now ≤ bytes_left self.old }
-        ensures { FeedsFile self.old good.old bytes.now self.new good.new }
+        requires { length bytes.now ≤ check_bytes_left self.old }
+        ensures { FeedsFileCheck self.old good.old bytes.now self.new good.new }
     {
         self.check.push(bytes, good);
     }
@@ -74,9 +75,9 @@ impl FileCheck {
     /// is. It sets the bit of the last piece if that is good, and the check begins anew. Condition:
     /// nothing is still to come.
     pub(crate) fn finish(&mut self, good: &mut [u8]) -> Option<u64>
-        requires { bytes_left self.old ≡ 0 }
+        requires { check_bytes_left self.old ≡ 0 }
         ensures verdict { IsFileVerdict self.old good.old good.new result }
-        ensures begins { BeginsAnew self.old self.new }
+        ensures begins { BeginsFileAnew self.old self.new }
         ensures size { length good.new ≡ length good.old }
     {
         match self.root {
@@ -87,7 +88,7 @@ impl FileCheck {
             Some(root) => {
                 let (_, found, _) = self.check.finish(&mut []);
                 if found == root {
-                    set_first(good);
+                    set_bit(good, 0);
                     None
                 } else {
                     Some(0)
@@ -99,9 +100,9 @@ impl FileCheck {
     /// Ends the check where the content ends: it sets the bit of the last piece if that is whole
     /// and good, and the check begins anew. Condition: bytes are still to come.
     pub(crate) fn stop(&mut self, good: &mut [u8])
-        requires { 0 < bytes_left self.old }
+        requires { 0 < check_bytes_left self.old }
         ensures verdict { IsShortFile self.old good.old good.new }
-        ensures begins { BeginsAnew self.old self.new }
+        ensures begins { BeginsFileAnew self.old self.new }
         ensures size { length good.new ≡ length good.old }
     {
         if ends_with_piece(self.check.len(), self.check.layer()) {

@@ -19,7 +19,7 @@ pub struct Handle {
 }
 
 impl Handle {
-    ghost use Rattle.btcheck_c.specs.Holds.{IsFilled};
+    ghost use Rattle.btcheck_c.specs.Holds.{IsHandleFilled};
 
     fn empty(alloc: Global) -> Handle
         ensures { result.slot.held ≡ None }
@@ -52,7 +52,7 @@ impl Handle {
     /// refused, and the handle is as before. Condition: it holds nothing.
     pub(crate) fn fill(&mut self, alloc: Global, kind: Kind) -> u32
         requires { self.old.slot.held ≡ None }
-        ensures { IsFilled kind self.old.slot.held result self.new.slot.held }
+        ensures { IsHandleFilled kind self.old.slot.held result self.new.slot.held }
     {
         match Box::new(alloc, Thing { kind }) {
             Err(_) => NO_MEMORY,

@@ -22,7 +22,7 @@ pub struct Held {
 }
 
 impl Cursor {
-    ghost use Rattle.btcheck_c.specs.Held.{all_pieces};
+    ghost use Rattle.holdings.specs.Holdings.{all_pieces};
 
     /// All pieces of a tree.
     pub(crate) fn of_tree(tree: usize) -> Cursor
@@ -44,8 +44,7 @@ impl Cursor {
 
 impl Held {
     ghost use Rattle.std.specs.FinMap.{empty};
-    ghost use Rattle.holdings.specs.Holdings.{most_pieces};
-    ghost use Rattle.btcheck_c.specs.Held.{all_pieces};
+    ghost use Rattle.holdings.specs.Holdings.{all_pieces, most_pieces};
 
     /// As [`Holdings::new`]. The pieces of the first tree are looked at.
     pub(crate) fn new(alloc: Global, bound: usize, longest: usize) -> Result<Held, NoMemory>

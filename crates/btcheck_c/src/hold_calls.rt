@@ -2,7 +2,7 @@
 
 ghost use Rattle.std.specs.Prelude.{◌≡◌, ◌≢◌, None};
 ghost use Rattle.btcheck_c.specs.Held.{CountsHeld, HoldingStarted, HoldsBlocks, LooksAt, OnBoth, SettlesHeld, StartsHolding, WithHoldings};
-ghost use Rattle.btcheck_c.specs.Holds.{Begun, Through, ThroughBoth};
+ghost use Rattle.btcheck_c.specs.Holds.{BegunFrom, Through, ThroughBoth};
 ghost use Rattle.btcheck_c.specs.declared.thing.Kind.TheVariants as kind;
 
 use crate::handle::Handle;
@@ -18,7 +18,7 @@ use session::OwnedSession;
 use std::alloc::Global;
 
 fn start_holdings(alloc: Global, session: &mut Handle, bound: usize) -> Result<Held, u32>
-    ensures { Begun (StartsHolding bound) session.old.slot.held result session.new.slot.held }
+    ensures { BegunFrom (StartsHolding bound) session.old.slot.held result session.new.slot.held }
 {
     lend!(session, alloc, Session(lent) => held_for(alloc, lent, bound), else Err(WRONG_HANDLE))
 }

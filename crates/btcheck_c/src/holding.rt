@@ -3,7 +3,7 @@
 ghost use Rattle.std.specs.Prelude.{◌≡◌, ◌≢◌, ◌<◌, ◌≤◌, ◌+◌, ◌*◌, ◌^◌, length, slice_get, Some, Option};
 ghost use Rattle.partial_tree.specs.declared.refusal.BlockRefusal.{BlockRefusal as Why};
 ghost use Rattle.holdings.specs.Holding.{IsTreeBlock};
-ghost use Rattle.btcheck_c.specs.Held.{ArePiecesOf, ArePlaced, EntryHeld, HeldBlocks, HoldsBlocks, SettlesHeld};
+ghost use Rattle.btcheck_c.specs.Held.{AreBlocksPlaced, ArePiecesOfRun, EntryHeld, HeldBlocks, HoldsBlocks, SettlesHeld};
 
 use crate::held::{Cursor, Held};
 use c_layouts::held_info::{HeldInfo, RunInfo, lay_out_unheld, write_hold, write_settled};
@@ -42,7 +42,7 @@ fn hold_unproved(
     blocks: &Blocks,
     bytes: &[u8],
 ) -> HeldInfo
-    requires { ArePlaced session.now blocks.now (length bytes.now) }
+    requires { AreBlocksPlaced session.now blocks.now (length bytes.now) }
     ensures { HeldBlocks session.now blocks.now bytes.now held.old result held.new }
 {
     session.torrent().recall_sound();
@@ -69,7 +69,7 @@ fn hold_unproved(
 fn pieces_of(session: &OwnedSession<Paged>, tree: usize, first: u64, count: u64) -> Pieces
     requires tree { tree < length session.now.torrent.trees }
     requires few { first + count < 2 ^ 64 }
-    ensures { ArePiecesOf session.now tree first count result }
+    ensures { ArePiecesOfRun session.now tree first count result }
 {
     Pieces::of_blocks(session, tree, first, count)
 }

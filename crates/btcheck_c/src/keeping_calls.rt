@@ -2,7 +2,7 @@
 //! and as layers.
 
 ghost use Rattle.std.specs.Prelude.{◌≡◌, ◌≢◌};
-ghost use Rattle.btcheck_c.specs.Keeping.{ExportWritten, Exports, TakesLayer};
+ghost use Rattle.btcheck_c.specs.Keeping.{ExportWritten, Exports, SessionTakesLayer};
 ghost use Rattle.btcheck_c.specs.Holds.{Through};
 ghost use Rattle.btcheck_c.specs.declared.thing.Kind.TheVariants as kind;
 
@@ -26,8 +26,8 @@ fn take_layer(
     hashes: &[Hash],
     places: &mut u64,
 ) -> u32
-    ensures done { TakesLayer tree layer hashes.now places.new (kind.Session session.old) result
-        (kind.Session session.new) }
+    ensures done { SessionTakesLayer tree layer hashes.now places.new (kind.Session session.old)
+        result (kind.Session session.new) }
     ensures unwritten { result ≢ 0 → places.new ≡ places.old }
 {
     if tree >= session.torrent().trees().len() {
@@ -81,7 +81,7 @@ pub extern "C" fn btcheck_session_fill(
     hashes: &[[u8; 32]],
     places: &mut u64,
 ) -> u32
-    ensures done { Through (TakesLayer tree layer hashes.now places.new) handle.old.slot.held
+    ensures done { Through (SessionTakesLayer tree layer hashes.now places.new) handle.old.slot.held
         result handle.new.slot.held }
     ensures unwritten { result ≢ 0 → places.new ≡ places.old }
 {

@@ -3,7 +3,7 @@
 ghost use Rattle.std.specs.Prelude.{◌≡◌, IsSome};
 ghost use Rattle.c_layouts.specs.Refusals.{nothing_more};
 ghost use Rattle.btcheck_c.specs.Openings.{OpensAs, SessionExplained, SessionOpened, refused};
-ghost use Rattle.btcheck_c.specs.Holds.{Fills};
+ghost use Rattle.btcheck_c.specs.Holds.{FillsHandle};
 
 use crate::handle::Handle;
 use crate::thing::Kind;
@@ -49,7 +49,10 @@ fn open_session(
             status: NO_MEMORY,
             more: NOTHING_MORE,
         }),
-        Ok(session) => Ok(session),
+        Ok(session) => {
+            session.recall_closed_trees();
+            Ok(session)
+        }
     }
 }
 
@@ -63,7 +66,7 @@ pub extern "C" fn btcheck_session_open(
     input: &'static [u8],
     with_layers: bool,
 ) -> u32
-    ensures { Fills (SessionOpened input.now with_layers) handle.old.slot.held result
+    ensures { FillsHandle (SessionOpened input.now with_layers) handle.old.slot.held result
         handle.new.slot.held }
 {
     if handle.is_full() {
@@ -86,8 +89,8 @@ pub extern "C" fn btcheck_session_open_explained(
     with_layers: bool,
     more: &mut RefusalInfo,
 ) -> u32
-    ensures done { Fills (SessionExplained input.now with_layers more.new) handle.old.slot.held
-        result handle.new.slot.held }
+    ensures done { FillsHandle (SessionExplained input.now with_layers more.new)
+        handle.old.slot.held result handle.new.slot.held }
     ensures none { IsSome handle.old.slot.held → more.new ≡ nothing_more }
 {
     *more = NOTHING_MORE;

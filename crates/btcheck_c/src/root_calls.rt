@@ -2,7 +2,7 @@
 
 ghost use Rattle.std.specs.Prelude.{◌≡◌, ◌≢◌, None};
 ghost use Rattle.btcheck_c.specs.RootCalls.{Pushed, RootMade, Finished};
-ghost use Rattle.btcheck_c.specs.Holds.{Fills, Through};
+ghost use Rattle.btcheck_c.specs.Holds.{FillsHandle, Through};
 ghost use Rattle.btcheck_c.specs.declared.thing.Kind.TheVariants as kind;
 
 use crate::handle::Handle;
@@ -39,7 +39,7 @@ fn finish(file: &mut FileRoot, length: &mut u64, root: &mut [u8; 32]) -> u32
 /// Then the handle is as before.
 #[unsafe(no_mangle)]
 pub extern "C" fn btcheck_root_new(alloc: Global, handle: &mut Handle) -> u32
-    ensures { Fills RootMade handle.old.slot.held result handle.new.slot.held }
+    ensures { FillsHandle RootMade handle.old.slot.held result handle.new.slot.held }
 {
     if handle.is_full() {
         return WRONG_HANDLE;

@@ -1,7 +1,6 @@
-//! The pieces of a file in a row: their bytes, hashes and bits.
+//! The pieces of a file in a row: their bytes and hashes.
 
-ghost use Rattle.std.specs.Prelude.{◌≡◌, ◌≢◌, ◌^◌, ◌<◌, ◌≤◌, ◌+◌, ◌-◌, ℕ, length, min, option_map, slice_range, Some, None};
-ghost use Rattle.hashtree.specs.Bits.{bit_of};
+ghost use Rattle.std.specs.Prelude.{◌≡◌, ◌^◌, ◌<◌, ◌≤◌, ◌+◌, ◌-◌, length, min, option_map, slice_range, Some, None};
 ghost use Rattle.pieces.specs.Pieces.{pieces_of};
 ghost use Rattle.btcheck_c.specs.FileChecks.{row_length};
 
@@ -62,16 +61,5 @@ pub(crate) fn numbered(first: u64, place: Option<u64>) -> Option<u64>
     match place {
         Some(place) => Some(first.saturating_add(place)),
         None => None,
-    }
-}
-
-/// Sets the first bit, if there is one.
-pub(crate) fn set_first(bits: &mut [u8])
-    ensures set { 0 < length bits.old → bit_of bits.new 0 ≡ 1 }
-    ensures others { (k : ℕ) → k ≢ 0 → bit_of bits.new k ≡ bit_of bits.old k }
-    ensures size { length bits.new ≡ length bits.old }
-{
-    if !bits.is_empty() {
-        bits[0] |= 1 << 7;
     }
 }

@@ -1,7 +1,7 @@
 //! The calls on a session: taking hashes and blocks, and what is known.
 
 ghost use Rattle.std.specs.Prelude.{◌≡◌, ◌≢◌, None};
-ghost use Rattle.btcheck_c.specs.SessionCalls.{TakesHashes, TakesBlock, Counted, AnswersIfMarked};
+ghost use Rattle.btcheck_c.specs.SessionCalls.{SessionTakesHashes, TakesBlock, Counted, AnswersIfMarked};
 ghost use Rattle.btcheck_c.specs.Holds.{Through};
 ghost use Rattle.btcheck_c.specs.declared.thing.Kind.TheVariants as kind;
 
@@ -47,8 +47,8 @@ fn take_hashes(
     hashes: &[Hash],
     places: &mut u64,
 ) -> u32
-    ensures done { TakesHashes ask.now hashes.now places.new (kind.Session session.old) result
-        (kind.Session session.new) }
+    ensures done { SessionTakesHashes ask.now hashes.now places.new (kind.Session session.old)
+        result (kind.Session session.new) }
     ensures unwritten { result ≢ 0 → places.new ≡ places.old }
 {
     status_of_hashes(session.take_hashes(ask, hashes), places)
@@ -85,7 +85,7 @@ pub extern "C" fn btcheck_session_take_hashes(
     hashes: &[[u8; 32]],
     places: &mut u64,
 ) -> u32
-    ensures done { Through (TakesHashes
+    ensures done { Through (SessionTakesHashes
         (record { root = root.now; base = base; index = index; length = length; proof = proof })
         hashes.now places.new) handle.old.slot.held result handle.new.slot.held }
     ensures unwritten { result ≢ 0 → places.new ≡ places.old }

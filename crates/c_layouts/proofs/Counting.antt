@@ -9,11 +9,11 @@ use Rattle.opening.specs.Places.{AreLaidOut}
 use Rattle.opening.specs.Seen.{file_entry}
 use Rattle.opening.specs.declared.torrent.File.{File}
 use Rattle.pieces.specs.Pieces.{pieces_of}
-use Rattle.c_layouts.specs.Torrents.{piece_count}
+use Rattle.c_layouts.specs.Torrents.{torrent_piece_count}
 
 -- the last file's pieces end where all do
 pub last_ends : (d : Description) (files : List File) (f : File) (p n : ℕ) → AreLaidOut d.piece_length d.files → map file_entry files ≡ d.files
-    → Some f ≡ slice_get files (length files - 1) → p ≡ d.piece_length → n ≡ pieces_of p f.length → f.first_piece + n ≡ piece_count d
+    → Some f ≡ slice_get files (length files - 1) → p ≡ d.piece_length → n ≡ pieces_of p f.length → f.first_piece + n ≡ torrent_piece_count d
 last_ends d files f p n laid are there same count =
     let k : ℕ = length files - 1 in
     let pieces = λ (g : FileEntry). pieces_of d.piece_length g.length in

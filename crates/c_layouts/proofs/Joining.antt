@@ -6,20 +6,20 @@ use Rattle.std.proofs.lemmas.List.{append-nil, drop-drop, drop_more, length-drop
 use Rattle.std.proofs.Math.Seq.{drop-append-add, take-append_seam}
 use Rattle.filetree.specs.FileTree.{slash}
 use Rattle.filetree.proofs.Folders.{texts}
-use Rattle.c_layouts.specs.Paths.{path_text}
+use Rattle.c_layouts.specs.Paths.{joined_path_text}
 
 -- the components after the first one
 abbrev pub tail_text : List (List ℕ) → List ℕ
 tail_text parts = flat_map (λ part. slash ∷ part) parts
 
 -- a path is its first component and those after it
-pub path_text-cons : (first : List ℕ) (others : List (List ℕ)) → path_text (first ∷ others) ≡ first ++ tail_text others
+pub path_text-cons : (first : List ℕ) (others : List (List ℕ)) → joined_path_text (first ∷ others) ≡ first ++ tail_text others
 path_text-cons first [] = sym (append-nil first)
 path_text-cons first (next ∷ others) = ap (λ t. first ++ (slash ∷ t)) (path_text-cons next others)
 
 pub from_first : (path : List (Bor (List ℕ))) (first : Bor (List ℕ)) (others : List (Bor (List ℕ))) → path ≡ first ∷ others
-    → path_text (texts path) ≡ first.now ++ tail_text (texts others)
-from_first path first others is = ap (λ ps. path_text (texts ps)) is ∙ path_text-cons first.now (texts others)
+    → joined_path_text (texts path) ≡ first.now ++ tail_text (texts others)
+from_first path first others is = ap (λ ps. joined_path_text (texts ps)) is ∙ path_text-cons first.now (texts others)
 
 -- the component at an index
 abbrev pub part_at : List (Bor (List ℕ)) → ℕ → Bor (List ℕ)

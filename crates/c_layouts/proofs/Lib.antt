@@ -3,3 +3,6 @@ pub mod Joining
 pub mod Entries
 pub mod Counting
 pub mod PartsPut
+pub mod FrameEnds
+pub mod Piecing
+pub mod Whole

@@ -6,7 +6,7 @@ use Rattle.holdings.specs.declared.holding.Hold.TheVariants as hold
 use Rattle.holdings.specs.declared.run.Run.{Run}
 use Rattle.holdings.specs.declared.run.Settled.{Settled}
 use Rattle.holdings.specs.declared.run.Settled.TheVariants as settled
-use Rattle.c_layouts.specs.Blocks.{AreLaidOut}
+use Rattle.c_layouts.specs.Blocks.{AreBlocksLaidOut}
 use Rattle.c_layouts.specs.declared.held_info.HeldInfo.{HeldInfo}
 use Rattle.c_layouts.specs.declared.held_info.RunInfo.{RunInfo}
 
@@ -25,7 +25,7 @@ dropped_info (Some run) = run_info run
 
 -- the blocks of a message, of which nothing is held
 pub record IsUnheld (v : BlocksSeen) (out : HeldInfo) : Type 0 where
-  pub blocks : AreLaidOut v out.blocks
+  pub blocks : AreBlocksLaidOut v out.blocks
   pub dropped : out.dropped ≡ replicate 17 no_run
 
 -- with another status of entry m

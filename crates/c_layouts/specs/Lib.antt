@@ -1,13 +1,19 @@
 -- What C is given of asks, blocks, files, paths and verdicts, and the status of each.
 pub mod Statuses
+pub mod TakenFrames
 pub mod Asks
+pub mod AskFrames
 pub mod Blocks
 pub mod Cursors
 pub mod Files
 pub mod HashesFrames
+pub mod AnswerFrames
 pub mod Held
 pub mod Paths
+pub mod Places
+pub mod Marks
 pub mod Refusals
 pub mod Torrents
 pub mod Verdicts
+pub mod WholeFrames
 pub mod Drafts

@@ -4,8 +4,8 @@ use Rattle.std.specs.List.{join_with_byte}
 use Rattle.filetree.specs.FileTree.{slash}
 
 -- the components of a path, joined by `/`
-abbrev pub path_text : List (List ℕ) → List ℕ
-path_text path = join_with_byte slash path
+abbrev pub joined_path_text : List (List ℕ) → List ℕ
+joined_path_text path = join_with_byte slash path
 
 -- the text at the front of the room, whose other bytes stay; or the room is too small, and stays as
 -- it is. The length is written in both cases, if it has a place in 64 bits

@@ -7,14 +7,14 @@ use Rattle.partial_tree.specs.declared.refusal.PieceRefusal.{PieceRefusal}
 use Rattle.partial_tree.specs.declared.refusal.PieceRefusal.TheVariants as piece
 
 -- 0 and how many places are newly known, or the number of the refusal
-abbrev pub HasHashes : Result ℕ HashRefusal → ℕ → ℕ → Type 0
-HasHashes (Ok c) status places = (status ≡ 0) × (places ≡ c)
-HasHashes (Err r) status places = status ≡ 200 + hash_refusal_number r
+abbrev pub HasHashesStatus : Result ℕ HashRefusal → ℕ → ℕ → Type 0
+HasHashesStatus (Ok c) status places = (status ≡ 0) × (places ≡ c)
+HasHashesStatus (Err r) status places = status ≡ 200 + hash_refusal_number r
 
 -- 0 with the file and its block, or the number of the refusal
-abbrev pub HasBlock : Result (ℕ × ℕ) BlockRefusal → ℕ → ℕ → ℕ → Type 0
-HasBlock (Ok p) status file block = (status ≡ 0) × ((file ≡ p.0) × (block ≡ p.1))
-HasBlock (Err r) status file block = status ≡ 300 + block_refusal_number r
+abbrev pub HasBlockStatus : Result (ℕ × ℕ) BlockRefusal → ℕ → ℕ → ℕ → Type 0
+HasBlockStatus (Ok p) status file block = (status ≡ 0) × ((file ≡ p.0) × (block ≡ p.1))
+HasBlockStatus (Err r) status file block = status ≡ 300 + block_refusal_number r
 
 -- the number of the refusal of a whole piece: that of a block for the same reason, or that memory
 -- was refused
@@ -26,9 +26,9 @@ piece_status piece.NoMemory = 2
 piece_status piece.BadPiece = 304
 
 -- 0 with the file and its first block of the piece, or the number of the refusal
-abbrev pub HasPiece : Result (ℕ × ℕ) PieceRefusal → ℕ → ℕ → ℕ → Type 0
-HasPiece (Ok p) status file block = (status ≡ 0) × ((file ≡ p.0) × (block ≡ p.1))
-HasPiece (Err r) status file block = status ≡ piece_status r
+abbrev pub HasPieceStatus : Result (ℕ × ℕ) PieceRefusal → ℕ → ℕ → ℕ → Type 0
+HasPieceStatus (Ok p) status file block = (status ≡ 0) × ((file ≡ p.0) × (block ≡ p.1))
+HasPieceStatus (Err r) status file block = status ≡ piece_status r
 
 -- 0 if it is so, and 6 if it is not
 abbrev pub IsAnswer : Bool → ℕ → Type 0

@@ -3,7 +3,7 @@ use Rattle.std.specs.Prelude.{◌≡◌, ℕ, ◌+◌}
 use Rattle.partial_tree.specs.Names.{hash_refusal_number, block_refusal_number}
 use Rattle.session.specs.declared.verdict.Verdict.{Verdict}
 use Rattle.session.specs.declared.verdict.Verdict.TheVariants as verdict
-use Rattle.c_layouts.specs.Blocks.{AreLaidOut}
+use Rattle.c_layouts.specs.Blocks.{AreBlocksLaidOut}
 use Rattle.c_layouts.specs.declared.verdict_info.VerdictInfo.{VerdictInfo}
 
 -- the struct as it was, but for its kind
@@ -20,7 +20,7 @@ HasVerdict (verdict.BlockRefused r) status old out =
 HasVerdict (verdict.Stored c) status old out =
     (status ≡ 0) × (out ≡ record old { kind = 1; places = c })
 HasVerdict (verdict.Blocks v) status old out = (status ≡ 0)
-    × (AreLaidOut v out.blocks × (out ≡ record old { kind = 2; blocks = out.blocks }))
+    × (AreBlocksLaidOut v out.blocks × (out ≡ record old { kind = 2; blocks = out.blocks }))
 HasVerdict verdict.Answered status old out = (status ≡ 0) × (out ≡ with_kind old 3)
 HasVerdict verdict.Rejected status old out = (status ≡ 0) × (out ≡ with_kind old 4)
 HasVerdict verdict.RejectNoted status old out = (status ≡ 0) × (out ≡ with_kind old 5)

@@ -1,7 +1,7 @@
 //! What a session makes of the blocks of one piece message, as C sees it.
 
 ghost use Rattle.std.specs.Prelude.{◌≡◌, ◌≢◌, length};
-ghost use Rattle.c_layouts.specs.Blocks.{entry_status, AreLaidOut, HasBlocks};
+ghost use Rattle.c_layouts.specs.Blocks.{entry_status, AreBlocksLaidOut, HasBlocksStatus};
 ghost use Rattle.partial_tree.specs.declared.refusal.BlockRefusal.{BlockRefusal as Why};
 
 use crate::status::{DONE, NO_SUCH, refused_block};
@@ -24,7 +24,7 @@ pub struct BlocksInfo {
 
 /// The status of the blocks of a piece message, and what is made of each.
 pub fn write_blocks(answer: Result<Blocks, BlockRefusal>, out: &mut BlocksInfo) -> u32
-    ensures done { HasBlocks answer result out.new }
+    ensures done { HasBlocksStatus answer result out.new }
     ensures unwritten { result ≢ 0 → out.new ≡ out.old }
 {
     match answer {
@@ -38,7 +38,7 @@ pub fn write_blocks(answer: Result<Blocks, BlockRefusal>, out: &mut BlocksInfo) 
 
 /// The same entries, for C.
 pub fn lay_out_blocks(blocks: &Blocks) -> BlocksInfo
-    ensures { AreLaidOut blocks.now result }
+    ensures { AreBlocksLaidOut blocks.now result }
 {
     let mut statuses = [NO_SUCH; MOST_BLOCKS];
     'entries: for entry in 0..blocks.len() {

@@ -10,7 +10,7 @@ use holdings::{Hold, Run, Settled};
 use session::Blocks;
 
 // The most blocks that one piece message carries.
-const MOST_BLOCKS: usize = 17;
+pub(crate) const MOST_BLOCKS: usize = 17;
 
 /// Blocks of a tree, from the first to the last. Where there are none, the tree's number is
 /// 2^64 - 1.

@@ -2,7 +2,7 @@
 
 ghost use Rattle.std.specs.Prelude.{◌≡◌, ◌≢◌, ◌+◌};
 ghost use Rattle.partial_tree.specs.Names.{hash_refusal_number, block_refusal_number};
-ghost use Rattle.c_layouts.specs.Statuses.{HasHashes, HasBlock, HasPiece, IsAnswer, piece_status};
+ghost use Rattle.c_layouts.specs.Statuses.{HasHashesStatus, HasBlockStatus, HasPieceStatus, IsAnswer, piece_status};
 
 use partial_tree::{BlockRefusal, HashRefusal, PieceRefusal};
 
@@ -53,7 +53,7 @@ const BLOCK: u32 = 300;
 
 /// The status of a hashes message, and how many places are newly known.
 pub fn status_of_hashes(answer: Result<u64, HashRefusal>, places: &mut u64) -> u32
-    ensures done { HasHashes answer result places.new }
+    ensures done { HasHashesStatus answer result places.new }
     ensures unwritten { result ≢ 0 → places.new ≡ places.old }
 {
     match answer {
@@ -71,7 +71,7 @@ pub fn status_of_block(
     file: &mut u64,
     block: &mut u64,
 ) -> u32
-    ensures done { HasBlock answer result file.new block.new }
+    ensures done { HasBlockStatus answer result file.new block.new }
     ensures unwritten { result ≢ 0 → (file.new ≡ file.old) × (block.new ≡ block.old) }
 {
     match answer {
@@ -90,7 +90,7 @@ pub fn status_of_piece(
     file: &mut u64,
     block: &mut u64,
 ) -> u32
-    ensures done { HasPiece answer result file.new block.new }
+    ensures done { HasPieceStatus answer result file.new block.new }
     ensures unwritten { result ≢ 0 → (file.new ≡ file.old) × (block.new ≡ block.old) }
 {
     match answer {

@@ -20,7 +20,7 @@ pub struct VerdictInfo {
 
 const STORED: u32 = 1;
 
-const BLOCKS: u32 = 2;
+pub(crate) const BLOCKS: u32 = 2;
 
 const ANSWERED: u32 = 3;
 

@@ -1,7 +1,12 @@
 -- Cases of numbers, of the items of lists, of options, tests, results and orderings.
 use Rattle.std.proofs.Common.{◌≡◌, ◌≢◌, ◌⊎◌, ℕ, zero, suc, ◌+◌, ◌<◌, Bool, true, false, ◌||◌, List, [], ◌∷◌, ◌++◌, length, take, drop, Option, Some}
-use Rattle.std.proofs.Common.{None, is_some, option_map, slice_get, Result, Ok, Err, OnErr, inl, inr, refl, sym, ap, ap₂, ◌∙◌, arith, take_at, drop_at}
+use Rattle.std.proofs.Common.{None, is_some, option_map, slice_get, Result, Ok, Err, OnErr, inl, inr, refl, sym, ap, ap₂, ◌∙◌}
+use Rattle.std.proofs.Common.{arith, get_or, subst, take_at, drop_at, drop-cons, add-one}
 use Rattle.std.proofs.lemmas.Bool.{cases_eq}
+use Rattle.std.proofs.lemmas.List.{take_more}
+use Rattle.std.proofs.lemmas.List.Elements.{All-push}
+use Rattle.std.proofs.lemmas.Option.{get_or_from_slice_get, slice_get_within}
+use Rattle.std.specs.List.{All}
 use Rattle.std.specs.Ordering.{ordering_then}
 use Rattle.std.specs.declared.cmp.Ordering.{Ordering}
 use Rattle.std.specs.declared.cmp.Ordering.TheVariants.{Less, Equal, Greater}
@@ -18,6 +23,21 @@ pub item_at : {A : Type 0} (xs : List A) (n : ℕ) → n < length xs → (x : A)
 item_at [] n lt = absurd (omega arith)
 item_at (x ∷ xs) zero lt = (x, refl)
 item_at (x ∷ xs) (suc n) lt = item_at xs n (omega arith)
+
+-- an item, and what follows it
+pub drop_item : {A : Type 0} (xs : List A) (n : ℕ) (x : A) → slice_get xs n ≡ Some x → drop n xs ≡ x ∷ drop (n + 1) xs
+drop_item xs n x there = drop-cons xs n x (slice_get_within xs n x there) ∙ ap (λ y. y ∷ drop (suc n) xs) (get_or_from_slice_get xs n x x there)
+    ∙ ap (λ k. x ∷ drop k xs) (sym (add-one n))
+
+-- the first items and one more
+pub taken_more : {A : Type 0} (xs : List A) (n : ℕ) (x : A) → slice_get xs n ≡ Some x → take (n + 1) xs ≡ take n xs ++ x ∷ []
+taken_more xs n x there =
+    take_more xs n x (slice_get_within xs n x there) ∙ ap (λ y. take n xs ++ y ∷ []) (get_or_from_slice_get xs n x x there)
+
+-- what holds of the first items and of the next
+pub All-next : {A : Type 0} (P : A → Type 0) (xs : List A) (n : ℕ) (d : A) → n < length xs → All P (take n xs) → P (get_or xs n d)
+    → All P (take (n + 1) xs)
+All-next P xs n d inside all here = subst (All P) (sym (take_more xs n d inside)) (All-push P (take n xs) (get_or xs n d) all here)
 
 -- what follows a list leaves its items in their places
 pub item_stays : {A : Type 0} (xs ys : List A) (n : ℕ) (x : A) → slice_get xs n ≡ Some x → slice_get (xs ++ ys) n ≡ Some x

@@ -5,7 +5,7 @@ pub use Rattle.printing.specs.Cut
 pub use Rattle.printing.specs.Text
 pub use Rattle.printing.specs.Fault
 pub use Rattle.torrent_lines.specs.Refused
-pub use Rattle.torrent_lines.specs.Show
+pub use Rattle.torrent_lines.specs.Rows
 pub use Rattle.folders.specs.Root
 pub use Rattle.folders.specs.Shelf
 pub use Rattle.folders.specs.MemShelf
@@ -22,7 +22,7 @@ pub use Rattle.gathering.specs.Gathering
 pub use Rattle.gathering.specs.declared.gather_fault.GatherFault
 pub use Rattle.replays.specs.Answering
 pub use Rattle.replays.specs.Replay
-pub use Rattle.replays.specs.ReplayLines
+pub use Rattle.replays.specs.ReplayRows
 pub use Rattle.replays.specs.Outcome
 pub use Rattle.seeding.specs.Seeding
 pub use Rattle.lines.specs.declared.out_fault.OutFault

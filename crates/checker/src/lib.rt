@@ -18,6 +18,6 @@ pub use parts::{
     check_with_bad_pieces, print_part,
 };
 pub use printing::{Fault, fault_line};
-pub use replays::{Outcome, replay, replay_as, replay_pieces};
+pub use replays::{Outcome, replay, replay_onto, replay_pieces};
 pub use seeding::{SeedFault, seed};
 pub use torrent_lines::{refusal_line, show};

@@ -6,16 +6,20 @@ use Rattle.std.specs.Box.{box_value}
 use Rattle.clap.specs.Simple.{subcommand_rows}
 use Rattle.clap.specs.declared.parser.matches.SubCommand.{SubCommand}
 use Rattle.clap.specs.declared.parser.matches.ArgMatches.TheViews.{out-SubCommand}
+use Rattle.std.specs.Borrow.{Bor}
 use Rattle.std.specs.Str.{bytes_eq}
 use Rattle.std.proofs.lemmas.Slice.Eq.{bytes_eq-Decides}
 use Rattle.clap.specs.Walk.{Row, Text, first_of}
 use Rattle.actions.specs.declared.command.Action.{Action}
 use Rattle.actions.specs.declared.command.Action.TheVariants as action
 use Rattle.actions.specs.declared.command.Asked.{Asked}
-use Rattle.actions.specs.declared.command.Part.{Part}
-use Rattle.actions.specs.declared.creation.PieceLength.{PieceLength}
-use Rattle.command_line.specs.CommandLine.{Asks, AsksFor, FindsArguments, command_of, IsAskedFor, IsAskedOf, IsPieceLength, IsPlain}
-use Rattle.command_line.specs.PartTexts.{IsPartText}
+use Rattle.actions.specs.declared.command.NumberedPart.{NumberedPart}
+use Rattle.actions.specs.declared.creation.Origin.{Origin}
+use Rattle.actions.specs.declared.creation.Origin.TheVariants as origin
+use Rattle.actions.specs.declared.creation.PieceLengthChoice.{PieceLengthChoice}
+use Rattle.command_line.specs.CommandLine.{Asks, AsksFor, FindsArguments, command_of, IsAskedFor, IsAskedOf}
+use Rattle.command_line.specs.Found.{ArePlaces, IsPieceLengthUnder, IsPlain}
+use Rattle.command_line.specs.PartTexts.{NamesPart}
 
 -- what is known of the name and of the rows of what was found
 pub both_found : {Z : Type 0} (o : Option (Box SubCommand Z)) (name : Text) (rows : List Row)
@@ -63,7 +67,7 @@ needed_texts name = beside name ((codes "root", codes "FILE" ∷ [])
     ∷ (codes "show", codes "TORRENT" ∷ [])
     ∷ (codes "check", codes "TORRENT" ∷ codes "DIR" ∷ [])
     ∷ (codes "join", codes "TORRENT" ∷ [])
-    ∷ (codes "create", codes "DIR" ∷ codes "OUT" ∷ codes "name" ∷ [])
+    ∷ (codes "create", codes "DIR" ∷ codes "name" ∷ [])
     ∷ (codes "assemble", codes "OUT" ∷ [])
     ∷ (codes "replay", codes "TORRENT" ∷ codes "RECORD" ∷ [])
     ∷ (codes "convert", codes "RECORD" ∷ codes "OUT" ∷ []) ∷ [])
@@ -73,6 +77,12 @@ abbrev pub HasTexts : List Row → List Text → Type 0
 HasTexts rows [] = ⊤
 HasTexts rows (name ∷ names) =
     ((text : Text) × (first_of name rows ≡ Some text)) × HasTexts rows names
+
+-- a new torrent has a path where the folder stands
+has_first : (rows : List Row) (where_from : Origin) (out : Bor Text) → ArePlaces rows where_from out
+    → (text : Text) × (first_of (codes "DIR") rows ≡ Some text)
+has_first rows (origin.Folder dir) out places = (dir.now, places.1)
+has_first rows (origin.File file) out places = (out.now, places.2)
 
 -- an action that is found has the texts that its command needs
 has_texts : (rows : List Row) (a : Action) → FindsArguments rows a
@@ -85,9 +95,9 @@ has_texts rows (action.CheckPart asked) found =
     ((asked.torrent.now, found.0), ((asked.dir.now, found.1), tt))
 has_texts rows (action.Join asked) found = ((asked.torrent.now, found.0), tt)
 has_texts rows (action.Create asked) found =
-    ((asked.dir.now, found.0.0), ((asked.out.now, found.0.1), ((asked.name.now, found.0.2), tt)))
+    (has_first rows asked.origin asked.out found.0.0, ((asked.name.now, found.0.1), tt))
 has_texts rows (action.CreatePart asked part) found =
-    ((asked.dir.now, found.0.0), ((asked.out.now, found.0.1), ((asked.name.now, found.0.2), tt)))
+    (has_first rows asked.origin asked.out found.0.0, ((asked.name.now, found.0.1), tt))
 has_texts rows (action.Assemble asked) found = ((asked.out.now, found.0), tt)
 has_texts rows (action.Replay asked) found =
     ((asked.torrent.now, found.0), ((asked.record.now, found.1), tt))
@@ -115,24 +125,39 @@ needs_text command name rows needed absent a asks =
     none_absent rows name absent (needed_texts (command_of a)) (has_texts rows a asks.1)
     (subst (λ c. list_any (bytes_eq name) (needed_texts c) ≡ true) asks.0 needed)
 
+-- without places, `create` asks for nothing
+pub needs_places : (rows : List Row)
+    → ((where_from : Origin) (out : Bor Text) → ArePlaces rows where_from out → ⊥)
+    → (a : Action) → Asks (codes "create") rows a → ⊥
+needs_places rows none (action.Root file json) asks = differs _ _ refl asks.0
+needs_places rows none (action.Show torrent json long) asks = differs _ _ refl asks.0
+needs_places rows none (action.Check asked) asks = differs _ _ refl asks.0
+needs_places rows none (action.CheckPart asked) asks = differs _ _ refl asks.0
+needs_places rows none (action.Join asked) asks = differs _ _ refl asks.0
+needs_places rows none (action.Create asked) asks = none asked.origin asked.out asks.1.0.0
+needs_places rows none (action.CreatePart asked part) asks = none asked.origin asked.out asks.1.0.0
+needs_places rows none (action.Assemble asked) asks = differs _ _ refl asks.0
+needs_places rows none (action.Replay asked) asks = differs _ _ refl asks.0
+needs_places rows none (action.Convert asked) asks = differs _ _ refl asks.0
+
 -- without a piece length, `create` asks for nothing
 pub needs_piece_length : (rows : List Row)
-    → ((pieces : PieceLength) → IsPieceLength (codes "piece-length") rows pieces → ⊥)
+    → ((pieces : PieceLengthChoice) → IsPieceLengthUnder (codes "piece-length") rows pieces → ⊥)
     → (a : Action) → Asks (codes "create") rows a → ⊥
 needs_piece_length rows none (action.Root file json) asks = differs _ _ refl asks.0
 needs_piece_length rows none (action.Show torrent json long) asks = differs _ _ refl asks.0
 needs_piece_length rows none (action.Check asked) asks = differs _ _ refl asks.0
 needs_piece_length rows none (action.CheckPart asked) asks = differs _ _ refl asks.0
 needs_piece_length rows none (action.Join asked) asks = differs _ _ refl asks.0
-needs_piece_length rows none (action.Create asked) asks = none asked.piece_length asks.1.0.3
-needs_piece_length rows none (action.CreatePart asked part) asks = none asked.piece_length asks.1.0.3
+needs_piece_length rows none (action.Create asked) asks = none asked.piece_length asks.1.0.2
+needs_piece_length rows none (action.CreatePart asked part) asks = none asked.piece_length asks.1.0.2
 needs_piece_length rows none (action.Assemble asked) asks = differs _ _ refl asks.0
 needs_piece_length rows none (action.Replay asked) asks = differs _ _ refl asks.0
 needs_piece_length rows none (action.Convert asked) asks = differs _ _ refl asks.0
 
 -- with a part, `check` asks for nothing but that part, and for nothing if it cannot
 pub needs_part : (rows : List Row) (text : Text) → first_of (codes "part") rows ≡ Some text
-    → ((part : Part) → IsPartText text part → IsPlain rows → ⊥)
+    → ((part : NumberedPart) → NamesPart text part → IsPlain rows → ⊥)
     → (a : Action) → Asks (codes "check") rows a → ⊥
 needs_part rows text found none (action.Root file json) asks = differs _ _ refl asks.0
 needs_part rows text found none (action.Show torrent json long) asks = differs _ _ refl asks.0
@@ -142,7 +167,7 @@ needs_part rows text found none (action.Check asked) asks =
 needs_part rows text found none (action.CheckPart asked) asks =
     let is = asks.1.2 in
     let same : text ≡ is.0 = ap (λ (o : Option Text). unwrap_or o text) (sym found ∙ is.1) in
-    none asked.part (subst (λ t. IsPartText t asked.part) (sym same) is.2) asks.1.5
+    none asked.part (subst (λ t. NamesPart t asked.part) (sym same) is.2) asks.1.5
 needs_part rows text found none (action.Join asked) asks = differs _ _ refl asks.0
 needs_part rows text found none (action.Create asked) asks = differs _ _ refl asks.0
 needs_part rows text found none (action.CreatePart asked part) asks = differs _ _ refl asks.0
@@ -152,7 +177,7 @@ needs_part rows text found none (action.Convert asked) asks = differs _ _ refl a
 
 -- with a part, `create` asks for nothing but that part
 pub needs_created_part : (rows : List Row) (text : Text) → first_of (codes "part") rows ≡ Some text
-    → ((part : Part) → IsPartText text part → ⊥)
+    → ((part : NumberedPart) → NamesPart text part → ⊥)
     → (a : Action) → Asks (codes "create") rows a → ⊥
 needs_created_part rows text found none (action.Root file json) asks = differs _ _ refl asks.0
 needs_created_part rows text found none (action.Show torrent json long) asks = differs _ _ refl asks.0
@@ -165,7 +190,7 @@ needs_created_part rows text found none (action.Create asked) asks =
 needs_created_part rows text found none (action.CreatePart asked part) asks =
     let is = asks.1.1 in
     let same : text ≡ is.0 = ap (λ (o : Option Text). unwrap_or o text) (sym found ∙ is.1) in
-    none part (subst (λ t. IsPartText t part) (sym same) is.2)
+    none part (subst (λ t. NamesPart t part) (sym same) is.2)
 needs_created_part rows text found none (action.Assemble asked) asks = differs _ _ refl asks.0
 needs_created_part rows text found none (action.Replay asked) asks = differs _ _ refl asks.0
 needs_created_part rows text found none (action.Convert asked) asks = differs _ _ refl asks.0

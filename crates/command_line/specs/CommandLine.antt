@@ -1,10 +1,9 @@
 -- What the program's command line is to clap, and what it asks for. Words are the arguments as
 -- texts, the program's name first; rows are what clap's definition of simple commands finds in
 -- them.
-use Rattle.std.specs.Prelude.{◌≡◌, ◌≢◌, ◌⊎◌, ℕ, List, [], ◌∷◌, Bool, true, false, Option, Some, None}
-use Rattle.std.specs.Prelude.{codes, map, option_map, unwrap_or, ◌++◌}
-use Rattle.std.specs.Borrow.{Bor}
-use Rattle.clap.specs.Walk.{Row, Rule, Text, all_of, first_of, one_of, rule_of}
+use Rattle.std.specs.Prelude.{◌≡◌, ◌⊎◌, ℕ, List, [], ◌∷◌, true, false, Option, Some, None}
+use Rattle.std.specs.Prelude.{codes, ◌++◌}
+use Rattle.clap.specs.Walk.{Row, Rule, Text, first_of, rule_of}
 use Rattle.clap.specs.Simple.{App, Shape, app_of, new_rule, new_shape, subcommand_of}
 use Rattle.clap.specs.Kinds.{IsAmong}
 use Rattle.clap.specs.Faults.{fault_of}
@@ -13,22 +12,23 @@ use Rattle.clap.specs.declared.builder.command.Command.{Command}
 use Rattle.clap.specs.declared.builder.command.Command.TheViews.{out-Command}
 use Rattle.clap.specs.declared.error.kind.ErrorKind.{ErrorKind}
 use Rattle.clap.specs.declared.error.kind.ErrorKind.TheVariants.{OutOfMemory}
-pub use Rattle.command_line.specs.ErrorKinds.{IsShown, IsUnaskedKind}
 use Rattle.clap.specs.declared.builder.action.ArgAction.TheVariants.{Append, Set, SetTrue}
 use Rattle.actions.specs.declared.command.Action.{Action}
 use Rattle.actions.specs.declared.command.Action.TheVariants as action
 use Rattle.actions.specs.declared.command.Asked.{Asked}
-use Rattle.actions.specs.declared.command.Part.{Part}
 use Rattle.actions.specs.declared.creation.NewTorrent.{NewTorrent}
-use Rattle.actions.specs.declared.creation.PieceLength.{PieceLength}
-use Rattle.command_line.specs.Lengths.{IsPieceLengthText}
-use Rattle.command_line.specs.PartTexts.{IsPartText}
+use Rattle.command_line.specs.Found.{ArePlaces, AreTextsUnder, IsFlag, IsPartUnder, IsPieceLengthUnder, IsPlain, IsTextIfThere, IsTextUnder}
+use Rattle.command_line.specs.Reasons.{IsUnaskedKind}
 
 -- ---- the command line
 
--- an argument that has to be there
+-- an argument that may be there
+abbrev pub possible : Text → Rule
+possible name = record (new_rule name) { action = Some Set }
+
+-- one that has to be there
 abbrev pub needed : Text → Rule
-needed name = record (new_rule name) { required = true; action = Some Set }
+needed name = record (possible name) { required = true }
 
 -- the same, which may be there many times
 abbrev pub needed_list : Text → Rule
@@ -86,9 +86,10 @@ join_command = command (codes "join")
 
 abbrev pub create_command : Shape
 create_command = command (codes "create")
-    (needed (codes "DIR") ∷ needed (codes "OUT") ∷ needed_option (codes "name")
-    ∷ needed_option (codes "piece-length") ∷ flag (codes "hybrid")
-    ∷ list_option (codes "exclude") ∷ flag (codes "no-clobber") ∷ option (codes "part")
+    (needed (codes "DIR") ∷ possible (codes "OUT") ∷ option (codes "file")
+    ∷ needed_option (codes "name") ∷ needed_option (codes "piece-length")
+    ∷ flag (codes "hybrid") ∷ list_option (codes "exclude") ∷ flag (codes "follow-symlinks")
+    ∷ flag (codes "skip-special") ∷ flag (codes "no-clobber") ∷ option (codes "part")
     ∷ reasons_flag ∷ [])
 
 abbrev pub assemble_command : Shape
@@ -103,7 +104,7 @@ abbrev pub replay_command : Shape
 replay_command = command (codes "replay")
     (needed (codes "TORRENT") ∷ needed (codes "RECORD") ∷ flag (codes "info-only")
     ∷ option (codes "seed") ∷ short 111 (option (codes "answers")) ∷ flag (codes "padded")
-    ∷ flag (codes "pieces") ∷ json_flag ∷ reasons_flag ∷ [])
+    ∷ flag (codes "pieces") ∷ flag (codes "summary") ∷ json_flag ∷ reasons_flag ∷ [])
 
 -- the program, with a version and a command that is required
 abbrev pub program : App
@@ -135,53 +136,6 @@ with_more shape rule = record shape { rules = shape.rules ++ rule ∷ [] }
 
 -- ---- what is asked for
 
--- an option that is there or not, as clap gives it
-abbrev pub IsFlag : Text → List Row → Bool → Type 0
-IsFlag name rows given =
-    (one_of name rows ≡ Some (codes "true") → given ≡ true)
-    × (one_of name rows ≡ Some (codes "false") → given ≡ false)
-    × (one_of name rows ≡ None → given ≡ false)
-
--- the text that is found under a name
-abbrev pub IsText : Text → List Row → Bor Text → Type 0
-IsText name rows text = first_of name rows ≡ Some text.now
-
--- the same of a text that may be absent
-abbrev pub IsTextIfThere : Text → List Row → Option (Bor Text) → Type 0
-IsTextIfThere name rows text = first_of name rows ≡ option_map (λ t. t.now) text
-
--- the texts that are found under a name, in order
-abbrev pub texts_of : Text → List Row → List Text
-texts_of name rows = unwrap_or (all_of name rows) []
-
--- these are they
-abbrev pub AreTexts : Text → List Row → List (Bor Text) → Type 0
-AreTexts name rows texts = map (λ t. t.now) texts ≡ texts_of name rows
-
--- the piece length that is found under a name
-abbrev pub IsPieceLength : Text → List Row → PieceLength → Type 0
-IsPieceLength name rows pieces =
-    (text : Text) × (first_of name rows ≡ Some text) × IsPieceLengthText text pieces
-
--- the same, or there is none
-abbrev pub IsPieceLengthFound : Text → List Row → Option PieceLength → Type 0
-IsPieceLengthFound name rows (Some pieces) = IsPieceLength name rows pieces
-IsPieceLengthFound name rows None =
-    (pieces : PieceLength) → IsPieceLength name rows pieces → ⊥
-
--- the part that is found under a name
-abbrev pub IsPart : Text → List Row → Part → Type 0
-IsPart name rows part = (text : Text) × (first_of name rows ≡ Some text) × IsPartText text part
-
--- the option with this name is not given
-abbrev pub IsNotGiven : Text → List Row → Type 0
-IsNotGiven name rows = first_of name rows ≢ Some (codes "true")
-
--- none of the options is given that a part of a check has not
-abbrev pub IsPlain : List Row → Type 0
-IsPlain rows = IsNotGiven (codes "quiet") rows × IsNotGiven (codes "extra") rows
-    × IsNotGiven (codes "summary") rows
-
 -- the name of the command that does this
 abbrev pub command_of : Action → Text
 command_of (action.Root file json) = codes "root"
@@ -198,56 +152,61 @@ command_of (action.Convert asked) = codes "convert"
 -- the texts and flags of a torrent that is to be made are what is found in the arguments
 abbrev pub FindsTorrent : List Row → NewTorrent → Type 0
 FindsTorrent rows asked =
-    IsText (codes "DIR") rows asked.dir × IsText (codes "OUT") rows asked.out
-    × IsText (codes "name") rows asked.name
-    × IsPieceLength (codes "piece-length") rows asked.piece_length
+    ArePlaces rows asked.origin asked.out
+    × IsTextUnder (codes "name") rows asked.name
+    × IsPieceLengthUnder (codes "piece-length") rows asked.piece_length
     × IsFlag (codes "hybrid") rows asked.hybrid
-    × AreTexts (codes "exclude") rows asked.exclude.items
+    × AreTextsUnder (codes "exclude") rows asked.exclude.items
     × IsFlag (codes "no-clobber") rows asked.no_clobber
+    × IsFlag (codes "follow-symlinks") rows asked.follow_symlinks
+    × IsFlag (codes "skip-special") rows asked.skip_special
 
 -- the texts and flags of this action are what is found in the arguments of its command
 abbrev pub FindsArguments : List Row → Action → Type 0
 FindsArguments rows (action.Root file json) =
-    IsText (codes "FILE") rows file × IsFlag (codes "json") rows json
+    IsTextUnder (codes "FILE") rows file × IsFlag (codes "json") rows json
 FindsArguments rows (action.Show torrent json long) =
-    IsText (codes "TORRENT") rows torrent × IsFlag (codes "json") rows json
+    IsTextUnder (codes "TORRENT") rows torrent × IsFlag (codes "json") rows json
     × IsFlag (codes "long") rows long
 FindsArguments rows (action.Check asked) =
-    IsText (codes "TORRENT") rows asked.torrent × IsText (codes "DIR") rows asked.dir
+    IsTextUnder (codes "TORRENT") rows asked.torrent × IsTextUnder (codes "DIR") rows asked.dir
     × IsFlag (codes "quiet") rows asked.quiet × IsFlag (codes "json") rows asked.json
     × IsFlag (codes "bad") rows asked.bad × (first_of (codes "part") rows ≡ None)
     × IsFlag (codes "extra") rows asked.extra × IsFlag (codes "summary") rows asked.summary
 FindsArguments rows (action.CheckPart asked) =
-    IsText (codes "TORRENT") rows asked.torrent × IsText (codes "DIR") rows asked.dir
-    × IsPart (codes "part") rows asked.part × IsFlag (codes "bad") rows asked.bad
+    IsTextUnder (codes "TORRENT") rows asked.torrent × IsTextUnder (codes "DIR") rows asked.dir
+    × IsPartUnder (codes "part") rows asked.part × IsFlag (codes "bad") rows asked.bad
     × IsFlag (codes "json") rows asked.json × IsPlain rows
 FindsArguments rows (action.Join asked) =
-    IsText (codes "TORRENT") rows asked.torrent
-    × AreTexts (codes "REPORT") rows asked.reports.items × IsFlag (codes "json") rows asked.json
+    IsTextUnder (codes "TORRENT") rows asked.torrent
+    × AreTextsUnder (codes "REPORT") rows asked.reports.items
+    × IsFlag (codes "json") rows asked.json
 FindsArguments rows (action.Create asked) =
     FindsTorrent rows asked × (first_of (codes "part") rows ≡ None)
 FindsArguments rows (action.CreatePart asked part) =
-    FindsTorrent rows asked × IsPart (codes "part") rows part
+    FindsTorrent rows asked × IsPartUnder (codes "part") rows part
 FindsArguments rows (action.Assemble asked) =
-    IsText (codes "OUT") rows asked.out × AreTexts (codes "PART") rows asked.parts.items
+    IsTextUnder (codes "OUT") rows asked.out × AreTextsUnder (codes "PART") rows asked.parts.items
 FindsArguments rows (action.Convert asked) =
-    IsText (codes "RECORD") rows asked.record × IsText (codes "OUT") rows asked.out
+    IsTextUnder (codes "RECORD") rows asked.record × IsTextUnder (codes "OUT") rows asked.out
 FindsArguments rows (action.Replay asked) =
-    IsText (codes "TORRENT") rows asked.torrent × IsText (codes "RECORD") rows asked.record
+    IsTextUnder (codes "TORRENT") rows asked.torrent
+    × IsTextUnder (codes "RECORD") rows asked.record
     × IsFlag (codes "info-only") rows asked.info_only
     × IsTextIfThere (codes "seed") rows asked.seed
     × IsTextIfThere (codes "answers") rows asked.answers
     × IsFlag (codes "padded") rows asked.padded
     × IsFlag (codes "pieces") rows asked.pieces
     × IsFlag (codes "json") rows asked.json
+    × IsFlag (codes "summary") rows asked.summary
 
 -- the command of this name, with what is found in its arguments, is this action
 abbrev pub Asks : Text → List Row → Action → Type 0
 Asks name rows a = (name ≡ command_of a) × FindsArguments rows a
 
 -- what the command of this name asks for; nothing only if there is no such command, a text that it
--- needs is not found, its part or its piece length is none, or an option is given that a part has
--- not
+-- needs is not found, one is found that it has not, its part or its piece length is none, or an
+-- option is given that a part has not
 abbrev pub IsActionOf : Text → List Row → Option Action → Type 0
 IsActionOf name rows (Some a) = Asks name rows a
 IsActionOf name rows None = (a : Action) → Asks name rows a → ⊥
@@ -281,17 +240,17 @@ abbrev pub IsFoundIn : List Text → Asked → Type 0
 IsFoundIn words asked = IsAskedIn (subcommand_of program words) asked
 
 -- clap's definition has no fault to find with these words
-abbrev pub IsTaken : List Text → Type 0
-IsTaken words = fault_of program words ≡ []
+abbrev pub AreWordsTaken : List Text → Type 0
+AreWordsTaken words = fault_of program words ≡ []
 
 -- the words are taken, and this is what is found in them
 abbrev pub IsAskedBy : List Text → Asked → Type 0
-IsAskedBy words asked = IsTaken words × IsFoundIn words asked
+IsAskedBy words asked = AreWordsTaken words × IsFoundIn words asked
 
 -- Why these words ask for no action: out of memory; or one of the kinds that clap's definition
--- gives for their first fault, as that help is asked for; or they are taken, and no action is
--- found in them: the part of `check` is none, or is given with an option that it has not, or the
--- piece length of `create` is none.
+-- gives for their first fault, as that help is asked for; or they are taken, no action is found in
+-- them, and the kind says why.
 abbrev pub IsRefusalOf : List Text → ErrorKind → Type 0
 IsRefusalOf words kind = ((kind ≡ OutOfMemory) ⊎ IsAmong kind (fault_of program words))
-    ⊎ (IsTaken words × ((asked : Asked) → IsFoundIn words asked → ⊥) × IsUnaskedKind kind)
+    ⊎ (AreWordsTaken words × ((asked : Asked) → IsFoundIn words asked → ⊥)
+    × IsUnaskedKind (subcommand_of program words) kind)

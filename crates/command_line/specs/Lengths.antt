@@ -1,9 +1,9 @@
 -- Which piece length a text names.
-use Rattle.std.specs.Prelude.{◌≡◌, ◌⊎◌, ℕ, List, [], Option, Some, None, codes, eqb, length, ◌<◌, ◌^◌, ◌*◌}
+use Rattle.std.specs.Prelude.{◌≡◌, ◌⊎◌, ℕ, [], Option, Some, None, codes, eqb, length, ◌<◌, ◌^◌, ◌*◌}
 use Rattle.std.specs.List.{after_first, before_first, position_or_len}
 use Rattle.clap.specs.Walk.{Text}
-use Rattle.actions.specs.declared.creation.PieceLength.{PieceLength}
-use Rattle.actions.specs.declared.creation.PieceLength.TheVariants as pieces
+use Rattle.actions.specs.declared.creation.PieceLengthChoice.{PieceLengthChoice}
+use Rattle.actions.specs.declared.creation.PieceLengthChoice.TheVariants as pieces
 use Rattle.command_line.specs.Texts.{IsNumberText}
 
 -- The text is a number and behind it this letter, of units of this many bytes each.
@@ -20,10 +20,11 @@ abbrev pub IsUnitsIfThere : ℕ → ℕ → Text → Option ℕ → Type 0
 IsUnitsIfThere letter factor text (Some bytes) = IsUnits letter factor text bytes
 IsUnitsIfThere letter factor text None = (bytes : ℕ) → IsUnits letter factor text bytes → ⊥
 
--- a number of bytes: digits alone, or before a `K` of 1,024 or a `M` of 1,048,576 bytes
+-- a number of bytes: digits alone, or before a `K` of 1,024, a `M` of 1,048,576 or a `G` of
+-- 1,073,741,824 bytes
 abbrev pub IsSize : Text → ℕ → Type 0
 IsSize text bytes = IsUnits 75 1024 text bytes ⊎ IsUnits 77 1048576 text bytes
-    ⊎ IsNumberText text bytes
+    ⊎ IsUnits 71 1073741824 text bytes ⊎ IsNumberText text bytes
 
 -- the same, or there is none
 abbrev pub IsSizeIfThere : Text → Option ℕ → Type 0
@@ -31,11 +32,11 @@ IsSizeIfThere text (Some bytes) = IsSize text bytes
 IsSizeIfThere text None = (bytes : ℕ) → IsSize text bytes → ⊥
 
 -- which piece length a text names
-abbrev pub IsPieceLengthText : Text → PieceLength → Type 0
+abbrev pub IsPieceLengthText : Text → PieceLengthChoice → Type 0
 IsPieceLengthText text (pieces.Bytes bytes) = IsSize text bytes
 IsPieceLengthText text pieces.Auto = text ≡ codes "auto"
 
 -- the same, or there is none
-abbrev pub IsPieceLengthIfThere : Text → Option PieceLength → Type 0
+abbrev pub IsPieceLengthIfThere : Text → Option PieceLengthChoice → Type 0
 IsPieceLengthIfThere text (Some length) = IsPieceLengthText text length
-IsPieceLengthIfThere text None = (length : PieceLength) → IsPieceLengthText text length → ⊥
+IsPieceLengthIfThere text None = (length : PieceLengthChoice) → IsPieceLengthText text length → ⊥

@@ -6,11 +6,12 @@ ghost use Rattle.command_line.specs.Table.{action_for, leaf_of, needs, rule_for}
 
 use crate::help::{
     ABOUT, ANSWERS_HELP, ASSEMBLE_ABOUT, ASSEMBLE_HELP, BAD_HELP, CHECK_ABOUT, CHECK_HELP,
-    CONVERT_ABOUT, CONVERT_HELP, CREATE_ABOUT, CREATE_HELP, CREATE_PART_HELP, EXAMPLES,
-    EXCLUDE_HELP, EXTRA_HELP, HYBRID_HELP, INFO_ONLY_HELP, JOIN_ABOUT, JOIN_HELP, JSON_HELP,
-    LONG_HELP, NAME_HELP, NO_CLOBBER_HELP, PADDED_HELP, PART_HELP, PIECE_LENGTH_HELP, PIECES_HELP,
-    QUIET_HELP, REASONS_HELP, REPLAY_ABOUT, REPLAY_HELP, ROOT_ABOUT, ROOT_HELP, SEED_HELP,
-    SHOW_ABOUT, SHOW_HELP, STATUSES, SUMMARY_HELP, VERSION,
+    CONVERT_ABOUT, CONVERT_HELP, CREATE_ABOUT, CREATE_DIR_HELP, CREATE_HELP, CREATE_PART_HELP,
+    EXAMPLES, EXCLUDE_HELP, EXTRA_HELP, FILE_HELP, FOLLOW_SYMLINKS_HELP, HYBRID_HELP,
+    INFO_ONLY_HELP, JOIN_ABOUT, JOIN_HELP, JSON_HELP, LONG_HELP, NAME_HELP, NO_CLOBBER_HELP,
+    PADDED_HELP, PART_HELP, PIECE_LENGTH_HELP, PIECES_HELP, QUIET_HELP, REASONS_HELP, REPLAY_ABOUT,
+    REPLAY_HELP, REPLAYED_HELP, ROOT_ABOUT, ROOT_HELP, SEED_HELP, SHOW_ABOUT, SHOW_HELP,
+    SKIP_SPECIAL_HELP, STATUSES, SUMMARY_HELP, VERSION,
 };
 use Kind::{Flag, ShortFlag, ShortText, Text, Word};
 use Times::{Any, AtLeastOnce, AtMostOnce, Once};
@@ -21,11 +22,53 @@ use std::alloc::{AllocError, Global};
 #[derive(Clone, Copy)]
 struct Subcommand<'a> {
     name: &'a str,
-    // What it does.
-    about: &'a str,
-    // More help on it.
-    help: &'a str,
+    // What help says of it.
+    texts: Texts,
     arguments: &'a [Argument<'a>],
+}
+
+// Which command help speaks of. Its texts stand apart from the table, whose value is computed in
+// each proof that reads it.
+#[derive(Clone, Copy)]
+enum Texts {
+    Root,
+    Show,
+    Check,
+    Join,
+    Create,
+    Assemble,
+    Replay,
+    Convert,
+}
+
+impl Texts {
+    // What it does.
+    fn in_short(self) -> &'static str {
+        match self {
+            Texts::Root => ROOT_ABOUT,
+            Texts::Show => SHOW_ABOUT,
+            Texts::Check => CHECK_ABOUT,
+            Texts::Join => JOIN_ABOUT,
+            Texts::Create => CREATE_ABOUT,
+            Texts::Assemble => ASSEMBLE_ABOUT,
+            Texts::Replay => REPLAY_ABOUT,
+            Texts::Convert => CONVERT_ABOUT,
+        }
+    }
+
+    // More help on it.
+    fn at_length(self) -> &'static str {
+        match self {
+            Texts::Root => ROOT_HELP,
+            Texts::Show => SHOW_HELP,
+            Texts::Check => CHECK_HELP,
+            Texts::Join => JOIN_HELP,
+            Texts::Create => CREATE_HELP,
+            Texts::Assemble => ASSEMBLE_HELP,
+            Texts::Replay => REPLAY_HELP,
+            Texts::Convert => CONVERT_HELP,
+        }
+    }
 }
 
 // An argument: its name, what it is, how often it is there, and what it means.
@@ -59,8 +102,7 @@ enum Times {
 const COMMANDS: &[Subcommand<'static>] = &[
     Subcommand {
         name: "root",
-        about: ROOT_ABOUT,
-        help: ROOT_HELP,
+        texts: Texts::Root,
         arguments: &[
             ("FILE", Word, Once, "The file to hash"),
             ("json", ShortFlag('j'), AtMostOnce, JSON_HELP),
@@ -69,8 +111,7 @@ const COMMANDS: &[Subcommand<'static>] = &[
     },
     Subcommand {
         name: "show",
-        about: SHOW_ABOUT,
-        help: SHOW_HELP,
+        texts: Texts::Show,
         arguments: &[
             ("TORRENT", Word, Once, "The torrent file"),
             ("long", Flag, AtMostOnce, LONG_HELP),
@@ -80,8 +121,7 @@ const COMMANDS: &[Subcommand<'static>] = &[
     },
     Subcommand {
         name: "check",
-        about: CHECK_ABOUT,
-        help: CHECK_HELP,
+        texts: Texts::Check,
         arguments: &[
             ("TORRENT", Word, Once, "The torrent file"),
             ("DIR", Word, Once, "The folder that holds the files"),
@@ -96,8 +136,7 @@ const COMMANDS: &[Subcommand<'static>] = &[
     },
     Subcommand {
         name: "join",
-        about: JOIN_ABOUT,
-        help: JOIN_HELP,
+        texts: Texts::Join,
         arguments: &[
             ("TORRENT", Word, Once, "The torrent file"),
             (
@@ -112,15 +151,17 @@ const COMMANDS: &[Subcommand<'static>] = &[
     },
     Subcommand {
         name: "create",
-        about: CREATE_ABOUT,
-        help: CREATE_HELP,
+        texts: Texts::Create,
         arguments: &[
-            ("DIR", Word, Once, "The folder that holds the files"),
-            ("OUT", Word, Once, "The torrent file that is written"),
+            ("DIR", Word, Once, CREATE_DIR_HELP),
+            ("OUT", Word, AtMostOnce, "The torrent file that is written"),
+            ("file", Text("FILE"), AtMostOnce, FILE_HELP),
             ("name", Text("N"), Once, NAME_HELP),
             ("piece-length", Text("K"), Once, PIECE_LENGTH_HELP),
             ("hybrid", Flag, AtMostOnce, HYBRID_HELP),
             ("exclude", Text("GLOB"), Any, EXCLUDE_HELP),
+            ("follow-symlinks", Flag, AtMostOnce, FOLLOW_SYMLINKS_HELP),
+            ("skip-special", Flag, AtMostOnce, SKIP_SPECIAL_HELP),
             ("no-clobber", Flag, AtMostOnce, NO_CLOBBER_HELP),
             ("part", Text("I/N"), AtMostOnce, CREATE_PART_HELP),
             ("reasons", Flag, AtMostOnce, REASONS_HELP),
@@ -128,8 +169,7 @@ const COMMANDS: &[Subcommand<'static>] = &[
     },
     Subcommand {
         name: "assemble",
-        about: ASSEMBLE_ABOUT,
-        help: ASSEMBLE_HELP,
+        texts: Texts::Assemble,
         arguments: &[
             ("OUT", Word, Once, "The torrent file that is written"),
             ("PART", Word, AtLeastOnce, "What each `create --part` wrote"),
@@ -138,8 +178,7 @@ const COMMANDS: &[Subcommand<'static>] = &[
     },
     Subcommand {
         name: "replay",
-        about: REPLAY_ABOUT,
-        help: REPLAY_HELP,
+        texts: Texts::Replay,
         arguments: &[
             ("TORRENT", Word, Once, "The torrent file"),
             ("RECORD", Word, Once, "The record, a file or a pipe"),
@@ -148,14 +187,14 @@ const COMMANDS: &[Subcommand<'static>] = &[
             ("answers", ShortText('o', "OUT"), AtMostOnce, ANSWERS_HELP),
             ("padded", Flag, AtMostOnce, PADDED_HELP),
             ("pieces", Flag, AtMostOnce, PIECES_HELP),
+            ("summary", Flag, AtMostOnce, REPLAYED_HELP),
             ("json", ShortFlag('j'), AtMostOnce, JSON_HELP),
             ("reasons", Flag, AtMostOnce, REASONS_HELP),
         ],
     },
     Subcommand {
         name: "convert",
-        about: CONVERT_ABOUT,
-        help: CONVERT_HELP,
+        texts: Texts::Convert,
         arguments: &[
             ("RECORD", Word, Once, "The record, a file or a pipe"),
             ("OUT", Word, Once, "The record that is written"),
@@ -176,6 +215,18 @@ pub(crate) fn command<'a>(alloc: Global) -> Result<Command<'a>, AllocError>
         .after_long_help(EXAMPLES)
         .subcommand_required(true)
         .subcommands(leaves)
+}
+
+/// The command of this name as it stands behind the program's, for what is said of its arguments;
+/// the program's own if there is none.
+pub(crate) fn command_named<'a>(alloc: Global, name: &str) -> Result<Command<'a>, AllocError> {
+    for row in rows() {
+        if row.name == name {
+            let usage_name = format!(in alloc; "btcheck {name}")?;
+            return leaf(alloc, row)?.bin_name(usage_name.as_str());
+        }
+    }
+    command(alloc)
 }
 
 // The table, whose rows are the program's commands.
@@ -201,8 +252,8 @@ fn leaf<'a>(alloc: Global, row: &Subcommand<'a>) -> Result<Command<'a>, AllocErr
     ensures { IfOk result (IsLeaf (leaf_of row.now)) }
 {
     let mut command = Command::new(alloc, row.name)
-        .about(row.about)
-        .after_help(row.help);
+        .about(row.texts.in_short())
+        .after_help(row.texts.at_length());
     for &(name, kind, times, help) in row.arguments {
         command = command.arg(arg(alloc, name, kind, times, help))?;
     }

@@ -2,7 +2,7 @@
 ghost use Rattle.std.specs.Prelude.{◌≡◌, ◌≢◌, ◌⊎◌, ◌↔◌, Err, IfOk};
 ghost use Rattle.clap.specs.Values.{kind_of};
 ghost use Rattle.clap.specs.declared.error.kind.ErrorKind.TheVariants.{OutOfMemory};
-ghost use Rattle.command_line.specs.CommandLine.{IsShown};
+ghost use Rattle.command_line.specs.ErrorKinds.{IsHelpOrVersion};
 ghost use Rattle.command_line.specs.declared.explaining.ExplainFault.TheVariants.{NoMemory, Write};
 
 use clap::Error;
@@ -22,10 +22,10 @@ pub enum ExplainFault {
 /// Prints the help or the version that the arguments ask for, or on standard error why they were
 /// refused. Gives the exit status. What cannot be written to standard error is lost.
 pub fn explain(rt: &HostRuntime, error: &Error) -> Result<u8, ExplainFault>
-    ensures shown { IsShown (kind_of error.now) → IfOk result (λ s. s ≡ 0) }
-    ensures refused { (IsShown (kind_of error.now) → ⊥) → IfOk result (λ s. s ≡ 2) }
+    ensures shown { IsHelpOrVersion (kind_of error.now) → IfOk result (λ s. s ≡ 0) }
+    ensures refused { (IsHelpOrVersion (kind_of error.now) → ⊥) → IfOk result (λ s. s ≡ 2) }
     ensures no_memory { (kind_of error.now ≡ OutOfMemory) ↔ (result ≡ Err NoMemory) }
-    ensures write { result ≡ Err Write → IsShown (kind_of error.now) }
+    ensures write { result ≡ Err Write → IsHelpOrVersion (kind_of error.now) }
 {
     if error.kind() == ErrorKind::OutOfMemory {
         return Err(ExplainFault::NoMemory);

@@ -3,20 +3,17 @@ ghost use Rattle.std.specs.Prelude.{◌↔◌, codes, IfOk, IsFalse, IsTrue};
 ghost use Rattle.clap.specs.Simple.{subcommand_rows_of};
 ghost use Rattle.clap.specs.Walk.{rows_of};
 ghost use Rattle.clap.specs.Matches.{found_of};
-ghost use Rattle.command_line.specs.CommandLine.{AreTexts, IsActionOf, IsAskedFor, IsAskedOf, IsFlag, IsNotGiven, IsPieceLengthFound, IsPlain, IsTextIfThere, IsUnaskedKind};
+ghost use Rattle.command_line.specs.CommandLine.{IsActionOf, IsAskedFor, IsAskedOf};
+ghost use Rattle.command_line.specs.Found.{ArePlacesFound, AreTextsUnder, IsFlag, IsNotGiven, IsPieceLengthFound, IsPlain, IsTextIfThere};
 ghost use Rattle.command_line.specs.PartTexts.{IsPartIfThere};
 
 use crate::sizes::piece_length_in;
 use actions::{
-    Action, Asked, Assemble, Check, CheckPart, Convert, Join, NewTorrent, Part, PieceLength, Replay,
+    Action, Asked, Assemble, Check, CheckPart, Convert, Join, NewTorrent, NumberedPart, Origin,
+    PieceLengthChoice, Replay,
 };
 use clap::ArgMatches;
-use clap::error::ErrorKind;
 use std::alloc::{AllocError, Global};
-
-// What is said of a part that is none.
-const NO_PART: &str = "invalid value for '--part <I/N>': it is not the number of a part, at least \
-                       1, and how many there are, as in 1/4";
 
 /// What the command that was found asks for.
 pub(crate) fn asked_in<'a>(
@@ -29,45 +26,6 @@ pub(crate) fn asked_in<'a>(
         Some((name, found)) => asked_of(alloc, name, found),
         None => Ok(None),
     }
-}
-
-/// Why nothing is asked for: the kind of the error, and what it says.
-pub(crate) fn unasked(matches: &ArgMatches<'_>) -> (ErrorKind, &'static str)
-    ensures { IsUnaskedKind result.0 }
-{
-    match matches.subcommand() {
-        Some(("check", found)) => unasked_part(found),
-        Some(("create", found)) => unasked_torrent(found),
-        _ => (ErrorKind::MissingSubcommand, "a command is missing"),
-    }
-}
-
-// Why no part is asked for.
-fn unasked_part(found: &ArgMatches<'_>) -> (ErrorKind, &'static str)
-    ensures { IsUnaskedKind result.0 }
-{
-    if is_plain(found) {
-        (ErrorKind::ValueValidation, NO_PART)
-    } else {
-        (
-            ErrorKind::ArgumentConflict,
-            "the argument '--part <I/N>' cannot be used with '--quiet', '--extra' or '--summary'",
-        )
-    }
-}
-
-// Why no torrent is asked for.
-fn unasked_torrent(found: &ArgMatches<'_>) -> (ErrorKind, &'static str)
-    ensures { IsUnaskedKind result.0 }
-{
-    if piece_length(found).is_some() {
-        return (ErrorKind::ValueValidation, NO_PART);
-    }
-    (
-        ErrorKind::ValueValidation,
-        "invalid value for '--piece-length <K>': it is not a number of bytes, as 65536, 64K or \
-         1M, nor `auto`",
-    )
 }
 
 // What the command of this name asks for, and whether reasons are printed.
@@ -159,8 +117,8 @@ fn whole_or_part_of<'a>(found: &ArgMatches<'a>) -> Option<Action<'a>>
     }
 }
 
-// Whether none of the options is given that a part of a check has not.
-fn is_plain(found: &ArgMatches<'_>) -> bool
+/// Whether none of the options is given that a part of a check has not.
+pub(crate) fn is_plain(found: &ArgMatches<'_>) -> bool
     ensures { IsTrue result ↔ IsPlain (rows_of (found_of found.now)) }
 {
     !(is_true(found, "quiet") || is_true(found, "extra") || is_true(found, "summary"))
@@ -173,12 +131,12 @@ fn is_true(found: &ArgMatches<'_>, name: &str) -> bool
     text(found, name) == Some("true")
 }
 
-// The part that a text names.
-fn part_in(text: &str) -> Option<Part>
+/// The part that a text names.
+pub(crate) fn part_in(text: &str) -> Option<NumberedPart>
     ensures { IsPartIfThere text.now result }
 {
     let (number, count) = text.split_once('/')?;
-    let part = Part {
+    let part = NumberedPart {
         number: number.parse::<u64>().ok()?,
         count: count.parse::<u64>().ok()?,
     };
@@ -191,7 +149,7 @@ fn part_in(text: &str) -> Option<Part>
 
 // What the arguments after `join` ask for.
 fn join_of<'a>(found: &ArgMatches<'a>, reports: Vec<&'a str>) -> Option<Action<'a>>
-    requires { AreTexts (codes "REPORT") (rows_of (found_of found.now)) reports.items }
+    requires { AreTextsUnder (codes "REPORT") (rows_of (found_of found.now)) reports.items }
     ensures { IsActionOf (codes "join") (rows_of (found_of found.now)) result }
 {
     let torrent = text(found, "TORRENT")?;
@@ -204,21 +162,22 @@ fn join_of<'a>(found: &ArgMatches<'a>, reports: Vec<&'a str>) -> Option<Action<'
 
 // What the arguments after `create` ask for.
 fn create_of<'a>(found: &ArgMatches<'a>, exclude: Vec<&'a str>) -> Option<Action<'a>>
-    requires { AreTexts (codes "exclude") (rows_of (found_of found.now)) exclude.items }
+    requires { AreTextsUnder (codes "exclude") (rows_of (found_of found.now)) exclude.items }
     ensures { IsActionOf (codes "create") (rows_of (found_of found.now)) result }
 {
-    let dir = text(found, "DIR")?;
-    let out = text(found, "OUT")?;
+    let (origin, out) = places(found)?;
     let name = text(found, "name")?;
     let piece_length = piece_length(found)?;
     let asked = NewTorrent {
-        dir,
+        origin,
         out,
         name,
         piece_length,
         hybrid: is_given(found, "hybrid"),
         exclude,
         no_clobber: is_given(found, "no-clobber"),
+        follow_symlinks: is_given(found, "follow-symlinks"),
+        skip_special: is_given(found, "skip-special"),
     };
     match text(found, "part") {
         None => Some(Action::Create(asked)),
@@ -226,9 +185,22 @@ fn create_of<'a>(found: &ArgMatches<'a>, exclude: Vec<&'a str>) -> Option<Action
     }
 }
 
+// Where the files of a new torrent are, and where it goes.
+fn places<'a>(found: &ArgMatches<'a>) -> Option<(Origin<'a>, &'a str)>
+    ensures { ArePlacesFound (rows_of (found_of found.now)) result }
+{
+    let first = text(found, "DIR")?;
+    let second = text(found, "OUT");
+    match text(found, "file") {
+        None => Some((Origin::Folder(first), second?)),
+        Some(file) if second.is_none() => Some((Origin::File(file), first)),
+        Some(_) => None,
+    }
+}
+
 // What the arguments after `assemble` ask for.
 fn assemble_of<'a>(found: &ArgMatches<'a>, parts: Vec<&'a str>) -> Option<Action<'a>>
-    requires { AreTexts (codes "PART") (rows_of (found_of found.now)) parts.items }
+    requires { AreTextsUnder (codes "PART") (rows_of (found_of found.now)) parts.items }
     ensures { IsActionOf (codes "assemble") (rows_of (found_of found.now)) result }
 {
     let out = text(found, "OUT")?;
@@ -236,7 +208,7 @@ fn assemble_of<'a>(found: &ArgMatches<'a>, parts: Vec<&'a str>) -> Option<Action
 }
 
 // The piece length that was found.
-fn piece_length(found: &ArgMatches<'_>) -> Option<PieceLength>
+fn piece_length(found: &ArgMatches<'_>) -> Option<PieceLengthChoice>
     ensures { IsPieceLengthFound (codes "piece-length") (rows_of (found_of found.now)) result }
 {
     piece_length_in(text(found, "piece-length")?)
@@ -265,12 +237,13 @@ fn replay_of<'a>(found: &ArgMatches<'a>) -> Option<Action<'a>>
         answers: text(found, "answers"),
         padded: is_given(found, "padded"),
         pieces: is_given(found, "pieces"),
+        summary: is_given(found, "summary"),
         json: is_given(found, "json"),
     }))
 }
 
-// The text that was found under this name.
-fn text<'a>(found: &ArgMatches<'a>, name: &str) -> Option<&'a str>
+/// The text that was found under this name.
+pub(crate) fn text<'a>(found: &ArgMatches<'a>, name: &str) -> Option<&'a str>
     ensures { IsTextIfThere name.now (rows_of (found_of found.now)) result }
 {
     found.get_str(name)
@@ -278,7 +251,8 @@ fn text<'a>(found: &ArgMatches<'a>, name: &str) -> Option<&'a str>
 
 // All texts that were found under this name.
 fn texts<'a>(alloc: Global, found: &ArgMatches<'a>, name: &str) -> Result<Vec<&'a str>, AllocError>
-    ensures { IfOk result (λ texts. AreTexts name.now (rows_of (found_of found.now)) texts.items) }
+    ensures { IfOk result
+        (λ texts. AreTextsUnder name.now (rows_of (found_of found.now)) texts.items) }
 {
     match found.get_strs(name) {
         Some(texts) => Ok(Vec::from_slice(alloc, texts)?),

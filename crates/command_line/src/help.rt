@@ -1,6 +1,6 @@
 //! What help says.
 
-pub(crate) const VERSION: &str = "1.0.0 (proved with logic dac8208d650f15bf)";
+pub(crate) const VERSION: &str = "1.1.0~dev (proved with logic dac8208d650f15bf)";
 
 pub(crate) const ABOUT: &str =
     "Checks BitTorrent version 2: torrents, folders and messages of peers";
@@ -19,6 +19,8 @@ Examples:
                                              whether all parts together hold it
   btcheck create some some.torrent --name some --piece-length 1048576
                                              makes a torrent of a folder
+  btcheck create --file movie.mkv movie.torrent --name movie.mkv --piece-length auto
+                                             makes a torrent of one file
   btcheck create some part1 --name some --piece-length 1048576 --part 1/4
                                              hashes the first of four parts for that
   btcheck assemble some.torrent part1 part2 part3 part4
@@ -35,12 +37,13 @@ Faults, and what to do:
   fault: cannot read PATH             it is missing, a folder, or not yours to read
   fault: cannot write PATH            the disk is full, PATH is not yours to write, or is an input
   fault: name is not UTF-8            give the file a name in UTF-8
-  fault: not a file or folder: PATH   put the file itself in place of the link, pipe or device
+  fault: not a file or folder: PATH   give --exclude, --follow-symlinks or --skip-special
   fault: record is truncated: PATH    it ends inside a frame; the frames before are in OUT
   fault: part I of N is missing       run it, or give its report to `join` too
   fault: part I is there twice        give one of the two reports
   fault: no whole report of a part: PATH
-                                      it was cut or changed: run the part again
+                                      it was cut or changed: run the part again; or it has `--bad`
+                                      and others have not, or all have `--json`
   fault: no whole part: PATH          it was cut or changed: hash the part again
   fault: part I is of another folder  a file came, went or grew between the parts: hash them again
   fault: a part of another number of parts: PATH
@@ -88,14 +91,16 @@ pub(crate) const JOIN_HELP: &str = "\
 A REPORT is what `btcheck check TORRENT DIR --part I/N` printed; the reports of all N parts are
 needed, in any order. Prints what one `btcheck check TORRENT DIR` prints, with its status.";
 
-pub(crate) const JSON_HELP: &str = "Print each line as a JSON object";
+pub(crate) const JSON_HELP: &str =
+    "Print each line as a JSON object (in btcheck-many `-j` is how many run at once)";
 
-pub(crate) const CREATE_ABOUT: &str = "Makes a torrent of all files in a folder";
+pub(crate) const CREATE_ABOUT: &str = "Makes a torrent of all files in a folder, or of one file";
 
 pub(crate) const CREATE_HELP: &str = "\
 Hashes all files below DIR, hidden ones too, then writes the torrent to OUT and prints nothing.
+For one file: `btcheck create --file FILE OUT ..`, without DIR.
 A folder that cannot be a torrent prints `refused NUMBER NAME`, and the path of the file, status 1.
-Symbolic links, pipes and devices in DIR are a fault.
+Symbolic links, pipes and devices in DIR are a fault, but for those that an option speaks of.
 In a GLOB `*` and `?` match no `/`, `**` does, `[a-z]` and `[!a-z]` are one character, and `\\`
 makes the next one plain. Without a `/`, or with one at its end alone, it matches at any depth.";
 
@@ -141,10 +146,21 @@ pub(crate) const PADDED_HELP: &str =
 pub(crate) const NAME_HELP: &str = "The display name that the torrent suggests";
 
 pub(crate) const PIECE_LENGTH_HELP: &str =
-    "Bytes per piece, a power of two from 16384 to 1073741824; `64K`, `1M`; or `auto`";
+    "Bytes per piece, a power of two from 16384 to 1073741824; `64K`, `1M`, `1G`; or `auto`";
 
 pub(crate) const EXCLUDE_HELP: &str =
     "Leave out the files and folders that match: `*.tmp` at any depth, `/a/*.txt` from DIR";
+
+pub(crate) const CREATE_DIR_HELP: &str = "The folder that holds the files; none with --file";
+
+pub(crate) const FILE_HELP: &str =
+    "Make a torrent of this file, the one that a folder of this file alone gives";
+
+pub(crate) const FOLLOW_SYMLINKS_HELP: &str =
+    "Take what a symbolic link leads to, files and folders, in its place";
+
+pub(crate) const SKIP_SPECIAL_HELP: &str =
+    "Leave out what is neither file nor folder, and say so on standard error";
 
 pub(crate) const HYBRID_HELP: &str = "Make a hybrid, which clients of version 1 can use too";
 
@@ -161,6 +177,9 @@ pub(crate) const EXTRA_HELP: &str =
 
 pub(crate) const SUMMARY_HELP: &str =
     "Print on standard error how many files have each verdict, and how fast they were read";
+
+pub(crate) const REPLAYED_HELP: &str =
+    "Print on standard error how many blocks were verified, and how many pieces are whole";
 
 pub(crate) const PIECES_HELP: &str =
     "Hold blocks that cannot be proved yet until their piece is whole, and judge them then";

@@ -7,6 +7,7 @@ mod explaining;
 mod finding;
 mod help;
 mod sizes;
+mod unasked;
 
 pub use arguments::action;
 pub use explaining::{ExplainFault, explain};

@@ -3,16 +3,16 @@ ghost use Rattle.std.specs.Prelude.{◌<◌};
 ghost use Rattle.command_line.specs.Lengths.{IsPieceLengthIfThere, IsSizeIfThere, IsUnitsIfThere};
 ghost use Rattle.command_line.specs.Texts.{IsNumberTextIfThere};
 
-use actions::PieceLength;
+use actions::PieceLengthChoice;
 
 /// The piece length that a text names.
-pub(crate) fn piece_length_in(text: &str) -> Option<PieceLength>
+pub(crate) fn piece_length_in(text: &str) -> Option<PieceLengthChoice>
     ensures { IsPieceLengthIfThere text.now result }
 {
     if text == "auto" {
-        return Some(PieceLength::Auto);
+        return Some(PieceLengthChoice::Auto);
     }
-    Some(PieceLength::Bytes(size_in(text)?))
+    Some(PieceLengthChoice::Bytes(size_in(text)?))
 }
 
 // The number of bytes that a text names.
@@ -23,6 +23,9 @@ fn size_in(text: &str) -> Option<u64>
         return Some(bytes);
     }
     if let Some(bytes) = units_in(text, 'M', 1_048_576) {
+        return Some(bytes);
+    }
+    if let Some(bytes) = units_in(text, 'G', 1_073_741_824) {
         return Some(bytes);
     }
     number_in(text)

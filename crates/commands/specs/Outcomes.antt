@@ -40,8 +40,8 @@ use Rattle.lines.specs.Table.{already_form_2_row}
 use Rattle.lines.specs.Texts.{text_of}
 use Rattle.part_reports.specs.Joined.{AreJoined}
 use Rattle.part_reports.specs.MarkedJoins.{AreJoinedAs}
-use Rattle.part_reports.specs.Reasons.{HasReason, HasReasonOf}
-use Rattle.part_reports.specs.WholeLines.{SaysWhole, StopsSaying}
+use Rattle.part_reports.specs.Reasons.{HasJoinReason, HasReasonOf}
+use Rattle.part_reports.specs.WholeLines.{SaysWholeReport, StopsSaying}
 use Rattle.part_reports.specs.declared.join_fault.JoinFault.{JoinFault}
 use Rattle.part_reports.specs.declared.join_fault.JoinFault.TheVariants as joining
 use Rattle.part_reports.specs.declared.kind.Kind.TheVariants as kind
@@ -160,7 +160,7 @@ JoinsParts words t texts out out' (Ok (Ok status)) = (files : List FileVerdict)
     × SentAndFlushed out out' (report_as words lines.All t.files files v1)
     × (status ≡ answer_status (is_yes files v1))
 JoinsParts words t texts out out' (Ok (Err fault)) =
-    (fault ≢ joining.NoMemory) × HasReason t texts fault × (out' ≡ out)
+    (fault ≢ joining.NoMemory) × HasJoinReason t texts fault × (out' ≡ out)
 JoinsParts words t texts out out' (Err (faults.Write path)) = (path.now ≡ codes "-")
     × (files : List FileVerdict) × (v1 : Option V1Verdict) × AreJoined t texts files v1
     × BrokeOrUnflushed out out' (report_as words lines.All t.files files v1)
@@ -172,7 +172,7 @@ JoinsParts words t texts out out' (Err fault) = ⊥
 abbrev pub JoinsMarkedParts : Words → Description → List (List ℕ) → SinkSeen → SinkSeen
     → Result (Result ℕ JoinFault) Fault → Type 0
 JoinsMarkedParts words t texts out out' (Ok (Ok status)) = (joined : MarkedReport)
-    × AreJoinedAs kind.Marked t texts joined × SaysWhole words t joined out out'
+    × AreJoinedAs kind.Marked t texts joined × SaysWholeReport words t joined out out'
     × (status ≡ answer_status (is_yes joined.report.files.items joined.report.v1))
 JoinsMarkedParts words t texts out out' (Ok (Err fault)) =
     (fault ≢ joining.NoMemory) × HasReasonOf kind.Marked t texts fault × (out' ≡ out)

@@ -1,16 +1,18 @@
 //! What the making of a torrent in parts answers.
-ghost use Rattle.std.specs.Prelude.{◌≡◌, ◌-◌, ◌<◌, length, map};
+ghost use Rattle.std.specs.Prelude.{◌≡◌, ◌-◌, ◌<◌, IfOk, length, map};
 ghost use Rattle.assembling.specs.Outcome.{IsAssembled};
-ghost use Rattle.commands.specs.Creations.{AnswersPart, AssemblesDraft, ListsFiles, NamesListed};
-ghost use Rattle.part_texts.specs.Listings.{listed};
+ghost use Rattle.commands.specs.Creations.{AnswersPart, AssemblesDraft, CanBeAssembled, ListsFiles, NamesFile, WritesPart};
+ghost use Rattle.part_drafts.specs.Visits.{HashesPart};
+ghost use Rattle.part_texts.specs.Listings.{inventory, listed};
 
-use crate::outcomes::{fault_of_listing, refuse};
-use actions::{Create, Part};
+use crate::outcomes::{fault_of_listing, refuse, status};
+use actions::{Create, NumberedPart};
 use assembling::AssembleFault;
-use benc::Sink;
+use benc::{Sink, write_all};
 use drafts::Draft;
 use filetree::Refusal;
 use folders::{SeekShelf, Shelf};
+use lines::finish_after;
 use part_drafts::PartFault;
 use part_texts::{ListedFile, Listing};
 use pieces::PieceLength;
@@ -42,17 +44,20 @@ pub fn list_files<'a, S: Shelf, W: Sink>(
 }
 
 /// Hashes one part of the listed files, and gives its text. If there is no torrent of the piece
-/// length, it prints the refusal and answers the exit status, 1. A fault names the file that could
-/// not be read.
+/// length, it prints the refusal and answers the exit status, 1. A fault names the first file that
+/// could not be read, or is not as long as it is listed.
 pub fn hash_part<'a, S: SeekShelf, W: Sink>(
     alloc: Global,
     listing: &Listing,
     shelf: &mut S,
-    part: Part,
+    part: NumberedPart,
     out: &mut W,
 ) -> Result<Result<Vec<u8>, u8>, Fault<'a>>
-    ensures text { AnswersPart (S.Shelf.contents shelf.old).under listing.now (part.number - 1)
-        part.count (W.seen out.old) (W.seen out.new) result }
+    ensures text { AnswersPart (HashesPart S.Shelf S.opens_at S.File.seen (inventory listing.now)
+        (part.number - 1) part.count shelf.old shelf.new) (inventory listing.now) (W.seen out.old)
+        (W.seen out.new) result }
+    ensures listed { IfOk result (λ done. IfOk done (λ _.
+        CanBeAssembled (inventory listing.now))) }
     ensures stays { S.Shelf.contents shelf.new ≡ S.Shelf.contents shelf.old }
 {
     match part_drafts::hash_part(alloc, shelf, listing, part.number - 1, part.count) {
@@ -60,9 +65,8 @@ pub fn hash_part<'a, S: SeekShelf, W: Sink>(
         Err(PartFault::PieceLength) => {
             Ok(Err(refuse(&Refusal::PieceLength, &Vec::new(alloc), out)?))
         }
-        Err(PartFault::Device(place) | PartFault::Changed(place)) => {
-            Err(unread(&listing.files, place))
-        }
+        Err(PartFault::Device(place)) => Err(unread(&listing.files, place)),
+        Err(PartFault::Changed(place)) => Err(unread(&listing.files, place)),
         Err(PartFault::NoMemory) => Err(Fault::NoMemory),
     }
 }
@@ -70,12 +74,24 @@ pub fn hash_part<'a, S: SeekShelf, W: Sink>(
 // The fault that this listed file cannot be read.
 fn unread<'a>(files: &[ListedFile], place: usize) -> Fault<'a>
     requires { place < length files.now }
-    ensures { NamesListed (map listed files.now) result }
+    ensures { NamesFile (map listed files.now) place result }
 {
     let file = &files[place];
     match file.path.clone() {
         Ok(path) => Fault::ReadBelow(path),
         Err(_) => Fault::NoMemory,
+    }
+}
+
+/// Writes the text of a part to the sink with this path and flushes it, status 0. A fault names the
+/// sink.
+pub fn write_part<'a, W: Sink>(text: &[u8], path: &'a str, part: &mut W) -> Result<u8, Fault<'a>>
+    ensures { WritesPart text.now path.now (W.seen part.old) (W.seen part.new) result }
+{
+    let written = write_all(part, text);
+    match finish_after(part, written) {
+        Ok(()) => Ok(status(true)),
+        Err(_) => Err(Fault::Write(path)),
     }
 }
 

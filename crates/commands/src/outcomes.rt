@@ -5,7 +5,6 @@ ghost use Rattle.benc.specs.Device.{BrokeOrUnflushed, SentAndFlushed, WroteAndFl
 ghost use Rattle.gathering.specs.Gathering.{Gathers};
 ghost use Rattle.lines.specs.Rows.{spell};
 ghost use Rattle.lines.specs.Table.{refusal_row};
-ghost use Rattle.torrent_lines.specs.Refused.{refusal_text};
 ghost use Rattle.torrent_lines.specs.Rows.{show_rows};
 ghost use Rattle.replays.specs.Replay.{IsCutReport, replay_seen};
 ghost use Rattle.replays.specs.Telling.{plain_as};
@@ -15,7 +14,7 @@ ghost use Rattle.parts.specs.Words.{words_as};
 ghost use Rattle.seeding.specs.Seeding.{IsSeededAs, SeedsAs, seed_line_as, shelf_and_session};
 ghost use Rattle.folders.specs.TakeAll.{IsReadWithin};
 ghost use Rattle.session.specs.Fresh.{IsFresh};
-ghost use Rattle.part_reports.specs.Heads.{AreMarked};
+ghost use Rattle.part_reports.specs.Heads.{AreMarkedTexts};
 ghost use Rattle.commands.specs.Outcomes.{BlamesOne, ConvertsRecord, EndsRoot, IsReplayed, IsListingFault, IsSeedingFault, IsUnprinted, JoinsMarkedParts, JoinsParts, MakesDraft, NamesOutput, NamesSink, WritesTorrent, answer_status, form_2_text, wanted_draft};
 
 use crate::joins::{join_marked, join_plain};
@@ -74,23 +73,9 @@ pub fn show<'a, L: LineSink>(torrent: &Torrent<'_>, out: &mut L) -> Result<u8, F
     }
 }
 
-/// Prints why a torrent was refused, or the file with this path that was to be in one, status 1. A
-/// refusal out of memory prints nothing, and is that fault.
-pub fn refuse<'a, W: Sink>(refusal: &Refusal, path: &[String], out: &mut W) -> Result<u8, Fault<'a>>
-    requires sink { refusal.now ≢ Refusal.Write }
-    ensures status { IfOk result (λ s. s ≡ answer_status false) }
-    ensures line { OnOk result (SentAndFlushed (W.seen out.old) (W.seen out.new)
-        (refusal_text refusal.now (map string_bytes path.now))) }
-    ensures known { OnOk result (refusal.now ≢ Refusal.NoMemory) }
-    ensures fault { IfErr result (IsUnprinted refusal.now
-        (refusal_text refusal.now (map string_bytes path.now))
-        (W.seen out.old) (W.seen out.new)) }
-{
-    refuse_onto(refusal, path, out)
-}
-
-/// Does what `refuse` does, onto what takes lines.
-pub fn refuse_onto<'a, L: LineSink>(
+/// Says why a torrent was refused, or the file with this path that was to be in one, status 1. Of a
+/// refusal out of memory it says nothing, and that is the fault.
+pub fn refuse<'a, L: LineSink>(
     refusal: &Refusal,
     path: &[String],
     out: &mut L,
@@ -123,10 +108,10 @@ pub fn join<'a, L: LineSink>(
     texts: &[&[u8]],
     out: &mut L,
 ) -> Result<Result<u8, JoinFault>, Fault<'a>>
-    ensures plain { let given = map (λ x. x.now) texts.now in (AreMarked given → ⊥)
+    ensures plain { let given = map (λ x. x.now) texts.now in (AreMarkedTexts given → ⊥)
         → JoinsParts (worded L.spelled) torrent.now given
         (L.seen out.old) (L.seen out.new) result }
-    ensures marked { let given = map (λ x. x.now) texts.now in AreMarked given
+    ensures marked { let given = map (λ x. x.now) texts.now in AreMarkedTexts given
         → JoinsMarkedParts (words_as L.spelled) torrent.now given
         (L.seen out.old) (L.seen out.new) result }
 {
@@ -166,7 +151,7 @@ pub fn seed<'a, N: NodeMap, S: Shelf, P: Pace, L: LineSink>(
         (shelf_and_session shelf.old session.old) (shelf_and_session shelf.new session.new)
         (L.seen out.old) (L.seen out.new) (Err e) × IsSeedingFault e f) }
 {
-    match seeding::seed_onto_at_pace(alloc, session, shelf, pace, out) {
+    match seeding::seed_onto(alloc, session, shelf, pace, out) {
         Ok(()) => Ok(()),
         Err(SeedFault::NoMemory) => Err(Fault::NoMemory),
         Err(SeedFault::Write) => Err(Fault::Write(OUTPUT)),

@@ -10,7 +10,7 @@ ghost use Rattle.parts.specs.Shares.{share};
 ghost use Rattle.parts.specs.Checking.{shelf_and_sink};
 
 use crate::outcomes::status;
-use actions::Part;
+use actions::NumberedPart;
 use folders::SeekShelf;
 use lines::LineSink;
 use opening::Torrent;
@@ -24,7 +24,7 @@ pub fn check_part<'a, S: SeekShelf, L: LineSink>(
     alloc: Global,
     torrent: &Torrent<'_>,
     shelf: &mut S,
-    part: Part,
+    part: NumberedPart,
     out: &mut L,
 ) -> Result<u8, Fault<'a>>
     ensures checks { ChecksPart (part_words L.spelled) torrent.now (part.number - 1) part.count
@@ -54,7 +54,7 @@ pub fn check_part_bad<'a, S: SeekShelf, L: LineSink>(
     alloc: Global,
     torrent: &Torrent<'_>,
     shelf: &mut S,
-    part: Part,
+    part: NumberedPart,
     out: &mut L,
 ) -> Result<u8, Fault<'a>>
     ensures checks { ChecksPartInTurn (part_words L.spelled) S.Shelf S.opens_at S.File.seen

@@ -31,7 +31,7 @@ pub fn replay_pieces<'a, N: NodeMap, R: Source, L: LineSink>(
     ensures fault { IfErr result NamesOutput }
 {
     let answers = None::<&mut Nowhere>;
-    match replays::replay_pieces_onto(alloc, session, holdings, source, out, answers, cuts) {
+    match replays::replay_pieces(alloc, session, holdings, source, out, answers, cuts) {
         Ok(outcome) => Ok(outcome.status()),
         Err(_) => Err(Fault::Write(OUTPUT)),
     }
@@ -63,7 +63,7 @@ pub fn replay_pieces_and_answer<'a, N: NodeMap, R: Source, L: LineSink, A: Sink>
         → IfErr result (NamesSink path.now) }
 {
     let faults = out.faults();
-    match replays::replay_pieces_onto(alloc, session, holdings, source, out, Some(answers), cuts) {
+    match replays::replay_pieces(alloc, session, holdings, source, out, Some(answers), cuts) {
         Ok(outcome) => Ok(outcome.status()),
         Err(_) if out.faults() != faults => Err(Fault::Write(OUTPUT)),
         Err(_) => Err(Fault::Write(path)),

@@ -14,7 +14,7 @@ use Rattle.wire.specs.Records.{header, record_frame}
 use Rattle.wire.proofs.OneReading.{same_from_frame}
 use Rattle.wire.proofs.Partial.{length-frame}
 use Rattle.conversions.specs.Converting.{IsPrefixOf, IsSoundText, Sends}
-use Rattle.conversions.specs.Steps.{BreaksOff, IsHeadOf, BeginsFrame, Reached, Stands, Waits, converted_bytes}
+use Rattle.conversions.specs.Steps.{BreaksOff, IsHeadOf, BeginsFrame, Reached, StandsAtFrame, Waits, converted_bytes}
 use Rattle.conversions.proofs.Opening.{opens_more, opens_none, opens_partial, opens_sound}
 
 -- ---- conversions of more frames
@@ -154,7 +154,7 @@ sound_begun left part sent more (c ∷ later) each o e =
           ∙ append_assoc sent s.0 (converted_frames later),
     )
 
-sound_part : (left : ℕ) (part sent more : List ℕ) (later : List (List ℕ)) → AllByRecursion IsBody later → Stands left part sent
+sound_part : (left : ℕ) (part sent more : List ℕ) (later : List (List ℕ)) → AllByRecursion IsBody later → StandsAtFrame left part sent
     → part ++ more ≡ flat_map frame later → IsPrefixOf sent (converted_frames later)
 sound_part left part sent more later each (inl none) e = (converted_frames later, ap (λ t. t ++ converted_frames later) (sym none.2))
 sound_part left part sent more later each (inr some) e = sound_begun left part sent more later each some.1 e

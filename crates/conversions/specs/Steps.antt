@@ -62,8 +62,8 @@ GoesBefore head request = (len : ℕ) → len < 2 ^ 32 → four_bytes len ≡ ta
 -- ---- frames, one after the other
 
 -- a frame has begun, or none has
-abbrev pub Stands : ℕ → List ℕ → List ℕ → Type 0
-Stands left part sent =
+abbrev pub StandsAtFrame : ℕ → List ℕ → List ℕ → Type 0
+StandsAtFrame left part sent =
     ((left ≡ 0) × (part ≡ []) × (sent ≡ [])) ⊎ ((0 < left) × BeginsFrame left part sent)
 
 -- the bytes that were fed, of which this many are left of a body, and the text for them
@@ -74,7 +74,7 @@ pub record Reached (left : ℕ) (fed text : List ℕ) : Type 0 where
   pub sent : List ℕ
   pub fed_is : fed ≡ flat_map frame bodies ++ part
   pub text_is : text ≡ conversion_bytes bodies ++ sent
-  pub stands : Stands left part sent
+  pub stands : StandsAtFrame left part sent
 
 -- what was not fed is less than a head, and nothing if a frame has begun
 pub record Waits (left : ℕ) (rest : List ℕ) : Type 0 where

@@ -9,13 +9,13 @@ use Rattle.std.proofs.lemmas.Nat.{le-div}
 use Rattle.std.proofs.lemmas.List.{drop-drop, drop-take, get_or-drop, get_or-take, length-drop, length-take, take_all}
 use Rattle.std.proofs.lemmas.List.FromFn.{fill_by_all}
 use Rattle.std.proofs.lemmas.Simd.{map-map}
-use Rattle.std.proofs.lemmas.Option.{slice_get-get_or}
+use Rattle.std.proofs.lemmas.Option.{same_Some, slice_get-get_or}
 use Rattle.sha1.specs.Sha1.{sha1}
-use Rattle.sha1_lanes.specs.Batches.{filled_at, message_at}
+use Rattle.sha1_lanes.specs.Batches.{filled_at}
 use Rattle.pieces.specs.Cuts.{cut, cut_digests, filled_up}
 use Rattle.pieces.specs.FileCuts.{IsV1File}
 use Rattle.pieces.specs.Pieces.{pieces_of}
-use Rattle.cut_windows.specs.Windows.{AreListed, AreOwnHashed, HasCuts, IsCut, IsHashed, StandsIn, bytes_at}
+use Rattle.cut_windows.specs.Windows.{AreCutsHashed, AreFileCutsListed, AreOwnHashed, HasCuts, IsCut, StandsIn, bytes_at}
 use Rattle.pieces.proofs.Cutting.{cut_count_none}
 use Rattle.pieces.specs.declared.v1_cuts.V1File.{V1File}
 use Rattle.cut_windows.specs.declared.window.CutWindow.{CutWindow}
@@ -29,7 +29,7 @@ cut_begins p n j some lt =
 
 -- a cut of a file that stands in a buffer stands there too
 own_cut_there : (buffer : List ℕ) (start size p j : ℕ) → 0 < p → j < pieces_of p size
-    → message_at buffer (start + p * j) (min (size - p * j) p) ≡ cut p (message_at buffer start size) j
+    → bytes_at buffer (start + p * j) (min (size - p * j) p) ≡ cut p (bytes_at buffer start size) j
 own_cut_there buffer start size p j some lt =
     let n : ℕ = p * j in
     let m : ℕ = size - n in
@@ -38,7 +38,7 @@ own_cut_there buffer start size p j some lt =
     let own : List ℕ = drop (start + n) buffer in
     let rest : drop n (take size (drop start buffer)) ≡ take m own =
     ap (λ k. drop n (take k (drop start buffer))) (sym split) ∙ drop-take n m (drop start buffer) ∙ ap (take m) (drop-drop n start buffer) in
-    let short : cut p (message_at buffer start size) j ≡ take (min m p) own =
+    let short : cut p (bytes_at buffer start size) j ≡ take (min m p) own =
     ap (take p) rest ∙ elim (cases_lt m p) [
       | inr whole ↦ take-take p m own whole ∙ ap (λ k. take k own) (let e : p ≡ min m p = omega (arith, whole) in e)
       | inl less ↦ take_all p (take m own) (omega (arith, length-take m own, less)) ∙ ap (λ k. take k own) (let e : m ≡ min m p = omega (arith, less) in e)
@@ -47,17 +47,17 @@ own_cut_there buffer start size p j some lt =
 
 -- the same, filled up with zeros
 cut_there : (buffer : List ℕ) (start size p j : ℕ) → 0 < p → j < pieces_of p size → start + size ≤ length buffer
-    → filled_at buffer (start + p * j) (min (size - p * j) p) p ≡ filled_up p (cut p (message_at buffer start size) j)
+    → filled_at buffer (start + p * j) (min (size - p * j) p) p ≡ filled_up p (cut p (bytes_at buffer start size) j)
 cut_there buffer start size p j some lt inside =
     let own : List ℕ = drop (start + p * j) buffer in
     let count : ℕ = min (size - p * j) p in
-    let same : take count own ≡ cut p (message_at buffer start size) j = own_cut_there buffer start size p j some lt in
-    let long : length (cut p (message_at buffer start size) j) ≡ count =
+    let same : take count own ≡ cut p (bytes_at buffer start size) j = own_cut_there buffer start size p j some lt in
+    let long : length (cut p (bytes_at buffer start size) j) ≡ count =
     ap length (sym same) ∙ length-take count own ∙ omega (arith, length-drop (start + p * j) buffer, inside, cut_begins p size j some lt) in
     ap₂ (λ (b : List ℕ) k. b ++ replicate (p - k) 0) same (sym long)
 
 -- the digest of a cut that is filled up with zeros is in the window
-filled_digest : (w : CutWindow) (first : ℕ) (buffer : List ℕ) (start size k : ℕ) → HasCuts w first start size → IsHashed w buffer
+filled_digest : (w : CutWindow) (first : ℕ) (buffer : List ℕ) (start size k : ℕ) → HasCuts w first start size → AreCutsHashed w buffer
     → start + size ≤ length buffer → k < pieces_of w.piece_length size
     → slice_index_or w.digests (first + k) [] ≡ sha1 (filled_up w.piece_length (cut w.piece_length (bytes_at buffer start size) k))
 filled_digest w first buffer start size k has hashed inside there =
@@ -73,7 +73,7 @@ own_digest : (w : CutWindow) (first : ℕ) (buffer : List ℕ) (start size k : �
 own_digest w first buffer start size k has hashed there =
     let place = has.cuts k there in
     hashed (first + k) (omega (arith, has.within, there))
-    ∙ ap₂ (λ s z. sha1 (message_at buffer s z)) place.start_is place.size_is
+    ∙ ap₂ (λ s z. sha1 (bytes_at buffer s z)) place.start_is place.size_is
     ∙ ap sha1 (own_cut_there buffer start size w.piece_length k w.some there)
 
 -- a file has the size that it is given
@@ -83,10 +83,20 @@ size_is buffer start size inside = length-take size (drop start buffer) ∙ omeg
 -- the digests of a file's cuts are those that are listed
 pub listed_cuts : (w : CutWindow) (first : ℕ) (listed : List (List ℕ)) (buffer : List ℕ) (start size : ℕ)
     → ((i : ℕ) → i < length listed → slice_index_or w.digests (first + i) [] ≡ slice_index_or listed i [])
-    → HasCuts w first start size → IsHashed w buffer → start + size ≤ length buffer → AreListed w.piece_length listed (bytes_at buffer start size)
+    → HasCuts w first start size → AreCutsHashed w buffer → start + size ≤ length buffer → AreFileCutsListed w.piece_length listed (bytes_at buffer start size)
 listed_cuts w first listed buffer start size same has hashed inside k lt below =
     let there : k < pieces_of w.piece_length size = subst (λ n. k < pieces_of w.piece_length n) (size_is buffer start size inside) below in
     slice_get-get_or listed k [] lt ∙ ap (λ d. Some d) (sym (same k lt) ∙ filled_digest w first buffer start size k has hashed inside there)
+
+-- a digest that is listed for a cut of a file is in the window
+pub listed_there : (w : CutWindow) (first k : ℕ) (listed : List (List ℕ)) (buffer : List ℕ) (start size : ℕ) → HasCuts w first start size
+    → AreCutsHashed w buffer → start + size ≤ length buffer → k < length listed → length listed ≤ pieces_of w.piece_length size
+    → AreFileCutsListed w.piece_length listed (bytes_at buffer start size) → slice_index_or w.digests (first + k) [] ≡ slice_index_or listed k []
+listed_there w first k listed buffer start size has hashed inside lt few are =
+    let there : k < pieces_of w.piece_length size = omega (arith, lt, few) in
+    let below : k < pieces_of w.piece_length (length (bytes_at buffer start size)) =
+    subst (λ n. k < pieces_of w.piece_length n) (sym (size_is buffer start size inside)) there in
+    filled_digest w first buffer start size k has hashed inside there ∙ sym (same_Some _ _ (sym (slice_get-get_or listed k [] lt) ∙ are k lt below))
 
 -- an empty file has no digests
 pub no_file : (p : ℕ) (f : V1File) (buffer : List ℕ) (start size : ℕ) → 0 < p → size ≡ 0 → f.cuts.items ≡ [] → IsV1File p (bytes_at buffer start size) f
@@ -100,7 +110,7 @@ no_file p f buffer start size some none cuts =
 -- digests of own cuts in the window, and that of the last one filled up, are those of a version 1 file
 pub file_there : (w : CutWindow) (first count last : ℕ) (f : V1File) (buffer : List ℕ) (start size : ℕ) → 0 < size → count ≡ pieces_of w.piece_length size
     → last ≡ first + count - 1 → f.cuts.items ≡ take count (drop first w.own) → f.padded ≡ slice_index_or w.digests last []
-    → HasCuts w first start size → AreOwnHashed w buffer → IsHashed w buffer → length w.own ≡ 64 → start + size ≤ length buffer
+    → HasCuts w first start size → AreOwnHashed w buffer → AreCutsHashed w buffer → length w.own ≡ 64 → start + size ≤ length buffer
     → IsV1File w.piece_length (bytes_at buffer start size) f
 file_there w first count last f buffer start size some count_is last_is cuts padded has own hashed whole inside =
     let p : ℕ = w.piece_length in

@@ -4,25 +4,25 @@ use Rattle.std.proofs.Common.{sym, ap, arith, length-drop, inl, inr}
 use Rattle.std.proofs.lemmas.Bool.{cases_lt}
 use Rattle.std.proofs.lemmas.List.{ext_get_or, get_or-drop, get_or-take, length-take-le, take-append-drop, take-append-le}
 use Rattle.std.proofs.Math.Seq.{take-add}
-use Rattle.sha1_lanes.specs.Batches.{filled_at, message_at}
+use Rattle.sha1_lanes.specs.Batches.{bytes_at, filled_at}
 use Rattle.sha1_lanes.proofs.Zeros.{byte_with_zeros, length-filled_at, message_within, past_end}
 
 -- the byte of a message that is filled up
-filled_byte : (bytes : List ℕ) (start size whole i : ℕ) → slice_index (filled_at bytes start size whole) i ≡ slice_index (message_at bytes start size) i
-filled_byte bytes start size whole i = sym (byte_with_zeros (message_at bytes start size) (whole - size) i)
+filled_byte : (bytes : List ℕ) (start size whole i : ℕ) → slice_index (filled_at bytes start size whole) i ≡ slice_index (bytes_at bytes start size) i
+filled_byte bytes start size whole i = sym (byte_with_zeros (bytes_at bytes start size) (whole - size) i)
 
 -- a byte within a message is the buffer's
-byte_within : (bytes : List ℕ) (start size i : ℕ) → i < size → slice_index (message_at bytes start size) i ≡ slice_index bytes (start + i)
+byte_within : (bytes : List ℕ) (start size i : ℕ) → i < size → slice_index (bytes_at bytes start size) i ≡ slice_index bytes (start + i)
 byte_within bytes start size i lt = get_or-take size (drop start bytes) i 0 lt ∙ get_or-drop start bytes i 0
 
 -- and one past it is zero
-byte_past : (bytes : List ℕ) (start size i : ℕ) → size ≤ i → slice_index (message_at bytes start size) i ≡ 0
-byte_past bytes start size i le = past_end (message_at bytes start size) i (omega (arith, message_within bytes start size, le))
+byte_past : (bytes : List ℕ) (start size i : ℕ) → size ≤ i → slice_index (bytes_at bytes start size) i ≡ 0
+byte_past bytes start size i le = past_end (bytes_at bytes start size) i (omega (arith, message_within bytes start size, le))
 
 -- a byte behind the first ones of a message that is filled up is one of the part that begins there
 part_byte : (bytes : List ℕ) (start size from most i : ℕ) → i < most
-    → slice_index (message_at bytes start size) (from + i)
-    ≡ slice_index (message_at bytes (start + min from size) (min (size - from) most)) i
+    → slice_index (bytes_at bytes start size) (from + i)
+    ≡ slice_index (bytes_at bytes (start + min from size) (min (size - from) most)) i
 part_byte bytes start size from most i lt = elim (cases_lt (from + i) size) [
   | inl before ↦
       let spot : start + (from + i) ≡ start + min from size + i = omega (arith, before) in

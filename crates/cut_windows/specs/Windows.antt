@@ -1,14 +1,11 @@
 -- The cuts of several files that stand in a buffer (BEP 3, "pieces"; BEP 47, "Padding Files").
-use Rattle.std.specs.Prelude.{◌≡◌, ℕ, ◌+◌, ◌-◌, ◌*◌, ◌<◌, ◌≤◌, min, List, drop, length, slice_get, slice_index, take, Some}
+use Rattle.std.specs.Prelude.{◌≡◌, ℕ, ◌+◌, ◌-◌, ◌*◌, ◌<◌, ◌≤◌, min, List, length, slice_get, slice_index, Some}
+pub use Rattle.lanes.specs.Lanes.{bytes_at}
 use Rattle.pieces.specs.Cuts.{cut, filled_up}
 use Rattle.pieces.specs.Pieces.{pieces_of}
 use Rattle.sha1.specs.Sha1.{sha1}
 use Rattle.cut_windows.specs.Digests.{IsDigest, IsOwnDigest}
 use Rattle.cut_windows.specs.declared.window.CutWindow.{CutWindow}
-
--- the bytes of a file of this size at this byte of a buffer
-abbrev pub bytes_at : List ℕ → ℕ → ℕ → List ℕ
-bytes_at buffer start size = take size (drop start buffer)
 
 -- how many cuts there are
 abbrev pub cut_total : CutWindow → ℕ
@@ -34,12 +31,12 @@ pub record StandsIn (w : CutWindow) (bytes i : ℕ) : Type 0 where
   pub fits : slice_index w.sizes i ≤ w.piece_length
 
 -- and so do all cuts
-abbrev pub IsWithin : CutWindow → ℕ → Type 0
-IsWithin w bytes = (i : ℕ) → i < w.count → StandsIn w bytes i
+abbrev pub AreCutsWithin : CutWindow → ℕ → Type 0
+AreCutsWithin w bytes = (i : ℕ) → i < w.count → StandsIn w bytes i
 
 -- each digest is that of a cut in this buffer, filled up with zeros
-abbrev pub IsHashed : CutWindow → List ℕ → Type 0
-IsHashed w buffer = (i : ℕ) → i < w.count
+abbrev pub AreCutsHashed : CutWindow → List ℕ → Type 0
+AreCutsHashed w buffer = (i : ℕ) → i < w.count
     → IsDigest buffer w.piece_length w.starts w.sizes w.digests i
 
 -- each own digest is that of a cut in this buffer, as it is
@@ -48,7 +45,7 @@ AreOwnHashed w buffer = (i : ℕ) → i < w.count → IsOwnDigest buffer w.start
 
 -- for the cuts of this file, each filled up with zeros to the piece length, these digests are
 -- listed, as far as the list goes
-abbrev pub AreListed : ℕ → List (List ℕ) → List ℕ → Type 0
-AreListed piece_length listed file = (k : ℕ) → k < length listed
+abbrev pub AreFileCutsListed : ℕ → List (List ℕ) → List ℕ → Type 0
+AreFileCutsListed piece_length listed file = (k : ℕ) → k < length listed
     → k < pieces_of piece_length (length file)
     → slice_get listed k ≡ Some (sha1 (filled_up piece_length (cut piece_length file k)))

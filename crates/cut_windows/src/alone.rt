@@ -2,7 +2,7 @@
 
 ghost use Rattle.std.specs.Prelude.{◌≡◌, ℕ, ◌+◌, ◌-◌, ◌≤◌, ◌++◌, List, length, replicate};
 ghost use Rattle.sha1.specs.Sha1.{Holds, sha1};
-ghost use Rattle.sha1_lanes.specs.Batches.{filled_at, message_at};
+ghost use Rattle.sha1_lanes.specs.Batches.{bytes_at, filled_at};
 
 use sha1::Sha1;
 
@@ -35,7 +35,7 @@ pub(crate) fn digests_alone(
 ) -> ([u8; 20], [u8; 20])
     requires inside { start + size ≤ length buffer.now }
     requires fits { size ≤ piece_length }
-    ensures own { result.0 ≡ sha1 (message_at buffer.now start size) }
+    ensures own { result.0 ≡ sha1 (bytes_at buffer.now start size) }
     ensures filled { result.1 ≡ sha1 (filled_at buffer.now start size piece_length) }
 {
     let mut hasher = Sha1::new();

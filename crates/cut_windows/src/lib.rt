@@ -9,4 +9,4 @@ mod stretches;
 mod together;
 mod window;
 
-pub use window::{CutWindow, WINDOW};
+pub use window::CutWindow;

@@ -1,6 +1,6 @@
 //! The cuts of several small files in a buffer.
 
-ghost use Rattle.std.specs.Prelude.{◌≡◌, ℕ, ◌+◌, ◌-◌, ◌*◌, ◌%◌, ◌^◌, ◌<◌, ◌≤◌, IfOk, IsTrue, List, OnErr, length, min};
+ghost use Rattle.std.specs.Prelude.{◌≡◌, ℕ, ◌+◌, ◌-◌, ◌*◌, ◌%◌, ◌^◌, ◌<◌, ◌≤◌, ◌↔◌, IfOk, IsTrue, List, OnErr, length, min};
 ghost use Rattle.pieces.specs.FileCuts.{IsV1File};
 ghost use Rattle.pieces.specs.Pieces.{pieces_of};
 
@@ -10,8 +10,8 @@ use hashtree::NoMemory;
 use pieces::V1File;
 use std::alloc::Global;
 
-/// How many cuts a window has at most.
-pub const WINDOW: usize = 64;
+// How many cuts a window has at most.
+const WINDOW: usize = 64;
 
 /// The cuts of files that stand in a buffer, a window of them at most: a `push` for each file, one
 /// `hash` for all cuts, and then each file's digests can be compared with those that are listed; or
@@ -30,7 +30,7 @@ pub struct CutWindow {
 }
 
 impl CutWindow {
-    ghost use Rattle.cut_windows.specs.Windows.{AreListed, AreOwnHashed, HasCuts, IsHashed, IsWithin, bytes_at, cut_total, length_of_cuts};
+    ghost use Rattle.cut_windows.specs.Windows.{AreCutsHashed, AreCutsWithin, AreFileCutsListed, AreOwnHashed, HasCuts, bytes_at, cut_total, length_of_cuts};
 
     /// No file, of a torrent with this piece length. Conditions: it is a multiple of 64, and not 0.
     pub fn new(piece_length: usize) -> CutWindow
@@ -38,7 +38,7 @@ impl CutWindow {
         requires whole_blocks { piece_length % 64 ≡ 0 }
         ensures none { cut_total result ≡ 0 }
         ensures piece_length { length_of_cuts result ≡ piece_length }
-        ensures within { (size : ℕ) → IsWithin result size }
+        ensures within { (size : ℕ) → AreCutsWithin result size }
     {
         CutWindow {
             piece_length,
@@ -53,7 +53,7 @@ impl CutWindow {
     /// Whether there is room for the cuts of one more file of this size.
     pub fn has_room(&self, size: usize) -> bool
         ensures { IsTrue result
-            → cut_total self.now + pieces_of (length_of_cuts self.now) size ≤ 64 }
+            ↔ (cut_total self.now + pieces_of (length_of_cuts self.now) size ≤ 64) }
     {
         cut_count(self.piece_length, size) <= WINDOW - self.count
     }
@@ -63,12 +63,14 @@ impl CutWindow {
     pub fn push(&mut self, start: usize, size: usize) -> usize
         requires room { cut_total self.old + pieces_of (length_of_cuts self.old) size ≤ 64 }
         requires fits { start + size < 2 ^ 64 }
+        ensures more { cut_total self.new
+            ≡ cut_total self.old + pieces_of (length_of_cuts self.old) size }
         ensures piece_length { length_of_cuts self.new ≡ length_of_cuts self.old }
         ensures has { HasCuts self.new result start size }
         ensures kept { (first from many : ℕ) → HasCuts self.old first from many
             → HasCuts self.new first from many }
-        ensures within { (bytes : ℕ) → IsWithin self.old bytes → start + size ≤ bytes
-            → IsWithin self.new bytes }
+        ensures within { (bytes : ℕ) → AreCutsWithin self.old bytes → start + size ≤ bytes
+            → AreCutsWithin self.new bytes }
     {
         let first = self.count;
         let cuts = cut_count(self.piece_length, size);
@@ -84,9 +86,11 @@ impl CutWindow {
     /// Hashes all cuts, each filled up with zeros to the piece length. Condition: they stand in the
     /// buffer.
     pub fn hash(&mut self, buffer: &[u8])
-        requires { IsWithin self.old (length buffer.now) }
-        ensures hashed { IsHashed self.new buffer.now }
+        requires { AreCutsWithin self.old (length buffer.now) }
+        ensures hashed { AreCutsHashed self.new buffer.now }
         ensures piece_length { length_of_cuts self.new ≡ length_of_cuts self.old }
+        ensures total { cut_total self.new ≡ cut_total self.old }
+        ensures within { (bytes : ℕ) → AreCutsWithin self.old bytes → AreCutsWithin self.new bytes }
         ensures kept { (first start size : ℕ) → HasCuts self.old first start size
             → HasCuts self.new first start size }
     {
@@ -107,10 +111,12 @@ impl CutWindow {
     /// Hashes all cuts twice: as they are, and filled up with zeros to the piece length. Condition:
     /// they stand in the buffer.
     pub fn hash_both(&mut self, buffer: &[u8])
-        requires { IsWithin self.old (length buffer.now) }
+        requires { AreCutsWithin self.old (length buffer.now) }
         ensures own { AreOwnHashed self.new buffer.now }
-        ensures hashed { IsHashed self.new buffer.now }
+        ensures hashed { AreCutsHashed self.new buffer.now }
         ensures piece_length { length_of_cuts self.new ≡ length_of_cuts self.old }
+        ensures total { cut_total self.new ≡ cut_total self.old }
+        ensures within { (bytes : ℕ) → AreCutsWithin self.old bytes → AreCutsWithin self.new bytes }
         ensures kept { (first start size : ℕ) → HasCuts self.old first start size
             → HasCuts self.new first start size }
     {
@@ -141,7 +147,7 @@ impl CutWindow {
         requires { first + pieces_of (length_of_cuts self.now) size ≤ 64 }
         ensures file { IfOk result (λ file. (buffer : List ℕ) (start : ℕ)
             → HasCuts self.now first start size → AreOwnHashed self.now buffer
-            → IsHashed self.now buffer → start + size ≤ length buffer
+            → AreCutsHashed self.now buffer → start + size ≤ length buffer
             → IsV1File (length_of_cuts self.now) (bytes_at buffer start size) file) }
         ensures memory { OnErr result (0 < size) }
     {
@@ -160,13 +166,20 @@ impl CutWindow {
     }
 
     /// Whether these are the digests of the cuts from this one on: those of a file that begins
-    /// there, each filled up with zeros.
+    /// there, each filled up with zeros. If the file has a cut for each of them, the answer is yes
+    /// whenever they are.
     pub fn are_listed(&self, first: usize, listed: &[[u8; 20]]) -> bool
         requires { first + length listed.now ≤ 64 }
-        ensures { IsTrue result → (buffer : List ℕ) (start size : ℕ)
-            → HasCuts self.now first start size → IsHashed self.now buffer
+        ensures listed { IsTrue result → (buffer : List ℕ) (start size : ℕ)
+            → HasCuts self.now first start size → AreCutsHashed self.now buffer
             → start + size ≤ length buffer
-            → AreListed (length_of_cuts self.now) listed.now (bytes_at buffer start size) }
+            → AreFileCutsListed (length_of_cuts self.now) listed.now (bytes_at buffer start size) }
+        ensures always { (buffer : List ℕ) (start size : ℕ)
+            → HasCuts self.now first start size → AreCutsHashed self.now buffer
+            → start + size ≤ length buffer
+            → length listed.now ≤ pieces_of (length_of_cuts self.now) size
+            → AreFileCutsListed (length_of_cuts self.now) listed.now (bytes_at buffer start size)
+            → IsTrue result }
     {
         'cuts: for k in 0..listed.len() {
             if self.digests[first + k] != listed[k] {

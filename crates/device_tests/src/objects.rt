@@ -3,12 +3,12 @@ use crate::trial::sink;
 use crate::world::World;
 use benc::memory::{MemSink, MemSource};
 use benc::{DeviceFault, Sink, WriteFault};
-use folders::Lines;
 use folders::memory::MemShelf;
+use folders::{Lines, Unhurried};
 use holdings::Holdings;
 use lines::Objects;
 use parts::say_check_with_bad_pieces;
-use replays::{Outcome, replay_onto, replay_pieces_onto};
+use replays::{Outcome, replay_onto, replay_pieces};
 use seeding::{SeedFault, seed_onto};
 use session::{Flat, Session};
 use std::io;
@@ -56,7 +56,7 @@ pub(crate) fn seed(
 ) -> io::Result<Result<(), SeedFault>> {
     let mut session: Session<'_, Flat> = Session::new(rt.alloc(), world.torrent, true)?;
     let mut lines = Objects::new(Lent { sink: out });
-    Ok(seed_onto(rt.alloc(), &mut session, shelf, &mut lines))
+    Ok(seed_onto(rt.alloc(), &mut session, shelf, &mut Unhurried, &mut lines))
 }
 
 /// Seeds a new session from the shelf: how many faults it tells of by files that are not seeded.
@@ -99,7 +99,7 @@ pub(crate) fn replay(
         return Ok(replay_onto(rt.alloc(), &mut session, source, &mut lines, answers, true));
     }
     let mut held = Holdings::new(rt.alloc(), HELD, HELD)?;
-    Ok(replay_pieces_onto(
+    Ok(replay_pieces(
         rt.alloc(),
         &mut session,
         &mut held,

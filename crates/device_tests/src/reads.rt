@@ -62,7 +62,7 @@ fn name(call: Call) -> &'static str {
         Call::NextRecord => "RecordReader::next",
         Call::Replay => "replay",
         Call::ReplayOnto => "replay_onto",
-        Call::ReplayPiecesOnto => "replay_pieces_onto",
+        Call::ReplayPiecesOnto => "replay_pieces",
         Call::Convert => "convert",
     }
 }

@@ -102,7 +102,7 @@ fn name(call: Call) -> &'static str {
         Call::ReplayAnswers => "replay with answers",
         Call::ReplayOnto => "replay_onto",
         Call::ReplayOntoAnswers => "replay_onto with answers",
-        Call::ReplayPiecesOnto => "replay_pieces_onto",
+        Call::ReplayPiecesOnto => "replay_pieces",
         Call::Finish => "finish",
         Call::Convert => "convert",
     }

@@ -4,21 +4,21 @@ use Rattle.std.proofs.lemmas.List.{nil_from_length}
 use Rattle.gathering.proofs.Digests.{kept_digests}
 use Rattle.gathering.specs.Hashing.{Hashes, MayEndWithout}
 use Rattle.gathering.specs.HashingLaws.{hashed_both, hashed_none}
-use Rattle.gathering.specs.Hashing.{Begins}
+use Rattle.gathering.specs.Hashing.{BeginsHashing}
 use Rattle.gathering.specs.declared.hashing.Hashing.{Hashing}
 use Rattle.hashtree.specs.LayerBuilder.{FeedsLayer}
-use Rattle.drafting.specs.Stages.{Advances, IsAt, IsHashing, LacksMemory}
+use Rattle.drafting.specs.Stages.{AdvancesStage, IsHashing, IsStageAt, LacksMemory}
 use Rattle.drafting.specs.declared.stage.Stage.{Stage}
 use Rattle.drafting.specs.declared.stage.Stage.TheVariants as stage
 
-pub begun : (piece_length : ℕ) (hybrid : Bool) (h : Hashing) → Begins piece_length hybrid h → IsHashing piece_length hybrid [] h
+pub begun : (piece_length : ℕ) (hybrid : Bool) (h : Hashing) → BeginsHashing piece_length hybrid h → IsHashing piece_length hybrid [] h
 begun piece_length hybrid h begins = record { first = h; begins = begins; hashes = hashed_none h; works = begins.tree.works }
 
 both : (piece_length : ℕ) (hybrid : Bool) (content bytes : List ℕ) (x y : Hashing) (at : IsHashing piece_length hybrid content x) → Hashes x bytes y
     → Hashes at.first (content ++ bytes) y
 both piece_length hybrid content bytes x y at hashes = hashed_both at.first x y content bytes at.hashes hashes
 
-pub advanced : (x y : Hashing) (bytes : List ℕ) → Hashes x bytes y → FeedsLayer x.tree bytes y.tree → Advances (stage.Coming x) bytes (stage.Coming y)
+pub advanced : (x y : Hashing) (bytes : List ℕ) → Hashes x bytes y → FeedsLayer x.tree bytes y.tree → AdvancesStage (stage.Coming x) bytes (stage.Coming y)
 advanced x y bytes hashes fed = record {
   left = omega (arith, fed.count);
   given = λ piece_length hybrid content at. record {
@@ -29,11 +29,11 @@ advanced x y bytes hashes fed = record {
   };
 }
 
-pub advanced_none : (s : Stage) (bytes : List ℕ) → length bytes ≡ 0 → Advances s bytes s
+pub advanced_none : (s : Stage) (bytes : List ℕ) → length bytes ≡ 0 → AdvancesStage s bytes s
 advanced_none s bytes none = record {
   left = omega (arith, none);
   given = λ piece_length hybrid content at.
-      subst (IsAt piece_length hybrid s) (sym (ap (λ more. content ++ more) (nil_from_length bytes none) ∙ append-nil content)) at;
+      subst (IsStageAt piece_length hybrid s) (sym (ap (λ more. content ++ more) (nil_from_length bytes none) ∙ append-nil content)) at;
 }
 
 -- if memory was refused, digests were to be kept

@@ -10,7 +10,7 @@ use Rattle.filetree.specs.declared.refusal.Refusal.{Refusal}
 use Rattle.filetree.specs.declared.refusal.Refusal.TheVariants as refusals
 use Rattle.gathering.specs.Gathered.{DraftAdds, DraftRefuses, DraftTakes}
 use Rattle.pieces.specs.Pieces.{IsPieceLength}
-use Rattle.drafting.specs.Coming.{HasRefused, IsGivenFile, IsNewFile, IsSameKind, TakesMemory, is_hybrid, piece_length_of}
+use Rattle.drafting.specs.Coming.{FileTakesMemory, HasFileRefused, IsGivenFile, IsNewFile, IsSameKind, is_for_hybrids, piece_length_of}
 use Rattle.drafting.specs.declared.coming_file.ComingFile.{ComingFile}
 
 -- the tests of a new draft, in their order
@@ -21,8 +21,8 @@ new_rows name piece_length =
     ∷ []
 
 -- the file is for drafts of the piece length and the kind of this one
-abbrev pub IsFileOf : Outline → ComingFile → Type 0
-IsFileOf d f = (piece_length_of f ≡ d.piece_length) × (is_hybrid f ≡ d.hybrid)
+abbrev pub IsFileForDraft : Outline → ComingFile → Type 0
+IsFileForDraft d f = (piece_length_of f ≡ d.piece_length) × (is_for_hybrids f ≡ d.hybrid)
 
 -- the components of a path: what stands between its slashes
 abbrev pub components_of : List ℕ → List (List ℕ)
@@ -30,23 +30,34 @@ components_of path = slice_split (λ b. b == slash) path
 
 -- ---- adding
 
--- the draft d takes the content that the file was given, and is e with it; the file begins anew
+-- memory was not refused to the file; the draft d takes the content that it was given, and is e
+-- with it; the file begins anew
 pub record IsAdded (d : Outline) (f : ComingFile) (path : List (List ℕ)) (e : Outline)
     (g : ComingFile) : Type 0 where
+  pub works : HasFileRefused f → ⊥
   pub added : (content : List ℕ) → IsGivenFile f content → DraftAdds d path content e
   pub anew : IsNewFile d.piece_length d.hybrid g
 
--- the draft d refuses the content that the file was given, and it has that content still
-abbrev pub Declines : Outline → ComingFile → List (List ℕ) → ComingFile → Refusal → Type 0
-Declines d f path g r = (content : List ℕ) → IsGivenFile f content
-    → DraftRefuses d path content r × IsGivenFile g content
+-- memory was not refused to the file; the draft d refuses the content that it was given, and it has
+-- that content still
+pub record DraftDeclines (d : Outline) (f : ComingFile) (path : List (List ℕ)) (g : ComingFile)
+    (r : Refusal) : Type 0 where
+  pub works : HasFileRefused f → ⊥
+  pub declined : (content : List ℕ) → IsGivenFile f content
+      → DraftRefuses d path content r × IsGivenFile g content
 
--- memory was refused to the file, which is lost then, or to the draft d, which takes the content
--- that the file was given
+-- memory was refused to the draft d alone, which takes the content that the file was given; the
+-- file has that content still
+pub record DraftLacksMemory (d : Outline) (f : ComingFile) (path : List (List ℕ)) (g : ComingFile)
+    : Type 0 where
+  pub works : HasFileRefused f → ⊥
+  pub takes : (content : List ℕ) → IsGivenFile f content
+      → DraftTakes d path content × IsGivenFile g content
+
+-- memory was refused to the file, now or before, and it is lost; or to the draft d alone
 abbrev pub LacksMemoryFor : Outline → ComingFile → List (List ℕ) → ComingFile → Type 0
-LacksMemoryFor d f path g = (HasRefused g × TakesMemory f [])
-    ⊎ ((content : List ℕ) → IsGivenFile f content
-    → DraftTakes d path content × IsGivenFile g content)
+LacksMemoryFor d f path g =
+    (HasFileRefused g × FileTakesMemory f []) ⊎ DraftLacksMemory d f path g
 
 -- what comes of adding the file f under the path of these components to the draft d: draft and file
 -- are e and g afterwards
@@ -54,7 +65,7 @@ abbrev pub AddsParts : Outline → ComingFile → List (List ℕ) → Outline �
     → Result (Unit {0}) Refusal → Type 0
 AddsParts d f path e g (Ok u) = IsAdded d f path e g
 AddsParts d f path e g (Err r) = (e ≡ d) × (IsSameKind f g
-    × ((r ≢ refusals.NoMemory → Declines d f path g r)
+    × ((r ≢ refusals.NoMemory → DraftDeclines d f path g r)
     × (r ≡ refusals.NoMemory → LacksMemoryFor d f path g)))
 
 -- the path is no text, or memory for its components was refused; the file is as before

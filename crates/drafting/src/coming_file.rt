@@ -1,7 +1,7 @@
 //! A file for a draft, whose bytes come in parts of any size.
 
 ghost use Rattle.std.specs.Prelude.{◌≡◌, ◌≤◌, [], IfOk, OnErr, OnOk, length};
-ghost use Rattle.drafting.specs.Stages.{HasContent};
+ghost use Rattle.drafting.specs.Stages.{HasSomeContent};
 
 use crate::stage::Stage;
 use gathering::{FileHashes, Hashing, TorrentKind};
@@ -11,16 +11,16 @@ use std::mem::replace;
 
 /// A file for drafts of one kind. Its bytes come in parts of any size, until it is added to a draft
 /// or refused by one: then it has all its bytes. Once memory was refused, every later call fails
-/// again.
+/// again: no draft takes the file.
 #[derive(Drop)]
 pub struct ComingFile {
     kind: TorrentKind,
     stage: Stage,
-    ghost given: { HasContent kind.piece_length kind.hybrid stage },
+    ghost given: { HasSomeContent kind.piece_length kind.hybrid stage },
 }
 
 impl ComingFile {
-    ghost use Rattle.drafting.specs.Coming.{AreFoundIn, FeedsFile, HasRefused, IsNewFile, IsOfSome, IsSameKind, KeepsWhole, TakesMemory, bytes_left, is_hybrid, piece_length_of};
+    ghost use Rattle.drafting.specs.Coming.{AreFoundIn, FeedsFile, FileTakesMemory, HasFileRefused, IsNewFile, IsOfSome, IsSameKind, KeepsWhole, file_bytes_left, is_for_hybrids, piece_length_of};
 
     /// A file of which nothing came yet, for drafts of this kind. It takes no memory.
     pub fn new(alloc: Global, kind: TorrentKind) -> ComingFile
@@ -36,14 +36,14 @@ impl ComingFile {
     /// The kind of the drafts that it is for.
     pub(crate) fn kind(&self) -> &TorrentKind
         ensures piece_length { result.now.piece_length ≡ piece_length_of self.now }
-        ensures hybrid { result.now.hybrid ≡ is_hybrid self.now }
+        ensures hybrid { result.now.hybrid ≡ is_for_hybrids self.now }
     {
         &self.kind
     }
 
     /// How many bytes may still come: 2^46 in all, and none once it was refused by a draft.
     pub fn left(&self) -> u64
-        ensures { result ≡ bytes_left self.now }
+        ensures { result ≡ file_bytes_left self.now }
     {
         self.stage.left()
     }
@@ -54,11 +54,11 @@ impl ComingFile {
     ///
     /// It fails only if memory for its digests was refused, in this call or an earlier one.
     pub fn push(&mut self, bytes: &[u8]) -> Result<(), NoMemory>
-        requires { length bytes.now ≤ bytes_left self.old }
+        requires { length bytes.now ≤ file_bytes_left self.old }
         ensures kind { IsSameKind self.old self.new }
         ensures fed { OnOk result (FeedsFile self.old bytes.now self.new) }
-        ensures refused { OnErr result (HasRefused self.new) }
-        ensures memory { OnErr result (TakesMemory self.old bytes.now) }
+        ensures refused { OnErr result (HasFileRefused self.new) }
+        ensures memory { OnErr result (FileTakesMemory self.old bytes.now) }
     {
         if let Err(refused) = self.stage.push(bytes) {
             self.stage = Stage::Refused;
@@ -72,8 +72,8 @@ impl ComingFile {
     pub(crate) fn take_found(&mut self, alloc: Global) -> Result<FileHashes, NoMemory>
         ensures kind { IsSameKind self.old self.new }
         ensures found { IfOk result (AreFoundIn self.old) }
-        ensures refused { HasRefused self.new }
-        ensures memory { OnErr result (TakesMemory self.old []) }
+        ensures refused { HasFileRefused self.new }
+        ensures memory { OnErr result (FileTakesMemory self.old []) }
     {
         let stage = replace(&mut self.stage, Stage::Refused);
         stage.found(alloc)

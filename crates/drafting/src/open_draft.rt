@@ -6,7 +6,7 @@ ghost use Rattle.drafts.specs.Finishing.{finish_rows};
 ghost use Rattle.drafts.specs.Outline.{empty_outline};
 ghost use Rattle.drafts.specs.Written.{torrent_of, value_of};
 ghost use Rattle.drafting.specs.Coming.{IsNewFile};
-ghost use Rattle.drafting.specs.Drafted.{AddsFile, AddsParts, IsFileOf, new_rows};
+ghost use Rattle.drafting.specs.Drafted.{AddsFile, AddsParts, IsFileForDraft, new_rows};
 ghost use Rattle.filetree.specs.Tests.{First, NoneHolds, PassesUnlessNoMemory};
 ghost use Rattle.opening.specs.Describes.{Describes};
 
@@ -83,7 +83,7 @@ impl OpenDraft {
 
     /// Whether a file is for drafts of this one's piece length and kind.
     pub fn fits(&self, file: &ComingFile) -> bool
-        ensures { IsTrue result ↔ IsFileOf self.now file.now }
+        ensures { IsTrue result ↔ IsFileForDraft self.now file.now }
     {
         let kind = file.kind();
         kind.piece_length == self.kind.piece_length && kind.hybrid == self.kind.hybrid
@@ -97,9 +97,10 @@ impl OpenDraft {
     /// The draft is unchanged then. `Path` if the path is not UTF-8, and the file is unchanged too.
     /// Else the first of the refusals of [`Draft::add`], and the file is whole: it can be added
     /// under another path, and takes no more bytes. `NoMemory` only if memory was refused, in this
-    /// call or while the file came; if it was refused to the file, that is lost.
+    /// call or while the file came; if it was refused to the file, that is lost, and each later
+    /// call with a path in UTF-8 answers this too.
     pub fn add(&mut self, alloc: Global, file: &mut ComingFile, path: &[u8]) -> Result<(), Refusal>
-        requires { IsFileOf self.old file.old }
+        requires { IsFileForDraft self.old file.old }
         ensures { AddsFile self.old file.old path.now self.new file.new result }
     {
         let Ok(path) = str::from_utf8(path) else {
@@ -116,7 +117,7 @@ impl OpenDraft {
         file: &mut ComingFile,
         parts: &[&str],
     ) -> Result<(), Refusal>
-        requires { IsFileOf self.old file.old }
+        requires { IsFileForDraft self.old file.old }
         ensures { AddsParts self.old file.old (map (λ s. s.now) parts.now) self.new file.new
             result }
     {

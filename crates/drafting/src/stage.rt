@@ -1,7 +1,7 @@
 //! How far a file is that is hashed for a draft.
 
 ghost use Rattle.std.specs.Prelude.{◌≡◌, ◌≢◌, ◌≤◌, [], IfOk, OnErr, OnOk, length};
-ghost use Rattle.drafting.specs.Stages.{Advances, FoundOf, LacksMemory, stage_left};
+ghost use Rattle.drafting.specs.Stages.{AdvancesStage, FoundOf, LacksMemory, stage_left};
 
 use crate::feeding::feed;
 use gathering::{FileHashes, Hashing};
@@ -35,7 +35,7 @@ impl Stage {
     /// [`Stage::left`] says.
     pub(crate) fn push(&mut self, bytes: &[u8]) -> Result<(), NoMemory>
         requires { length bytes.now ≤ stage_left self.old }
-        ensures fed { OnOk result (Advances self.old bytes.now self.new) }
+        ensures fed { OnOk result (AdvancesStage self.old bytes.now self.new) }
         ensures worked { OnOk result (self.old ≢ Stage.Refused) }
         ensures works { OnOk result (self.new ≢ Stage.Refused) }
         ensures memory { OnErr result (LacksMemory self.old bytes.now) }

@@ -11,7 +11,7 @@ use Rattle.drafts.specs.Written.{file_tree_of, file_value, walk_to_file, list_pa
 use Rattle.drafts.specs.Written.{first_length}
 use Rattle.filetree.proofs.Bytes.{true_or_false}
 use Rattle.filetree.specs.Dictionary.{get, under, as_int}
-use Rattle.filetree.specs.FileTree.{Walk, is_symlink, length_at, length_of, lacks_root, root_at, stated_root, listed, is_directory, HasBadPath}
+use Rattle.filetree.specs.FileTree.{Walk, is_symlink, length_at, length_of, lacks_root, root_at, stated_root, file_of_walk, is_directory, HasBadPath}
 use Rattle.filetree.specs.Tests.{NoneHolds}
 use Rattle.filetree.specs.TreeTests.{shape_rows, file_rows}
 use Rattle.filetree.specs.declared.files.ListedFile.{ListedFile}
@@ -115,15 +115,15 @@ root_same f long =
     root_is_in : (f : OutlineFile) → nat_lt 0 f.length ≡ true → length f.root ≡ 32 → (if nat_lt 0 f.length then root_at (file_value f) else None) ≡ Some f.root
     root_is_in f some long = ap (λ b. if b then root_at (file_value f) else None) some ∙ root_is f some long
 
-pub listed_is : (p : ℕ) (f : OutlineFile) → IsOutlineFile f → listed (walk_to_file f) ≡ listed_file f
+pub listed_is : (p : ℕ) (f : OutlineFile) → IsOutlineFile f → file_of_walk (walk_to_file f) ≡ listed_file f
 listed_is p f o =
     ap (λ n. record { path = f.path; length = n; root = stated_root n (file_value f) }) (size_is f o.bound)
     ∙ ap (λ (r : Option (List ℕ)). record { path = f.path; length = f.length; root = r }) (root_same f o.root_length)
 
-pub all_listed : (p : ℕ) (fs : List OutlineFile) → AreOutlineFiles p fs → map listed (map walk_to_file fs) ≡ map listed_file fs
+pub all_listed : (p : ℕ) (fs : List OutlineFile) → AreOutlineFiles p fs → map file_of_walk (map walk_to_file fs) ≡ map listed_file fs
 all_listed p [] files = refl
 all_listed p (f ∷ fs) files =
-    ap (λ (x : ListedFile). x ∷ map listed (map walk_to_file fs)) (listed_is p f (files 0 f refl))
+    ap (λ (x : ListedFile). x ∷ map file_of_walk (map walk_to_file fs)) (listed_is p f (files 0 f refl))
     ∙ ap (λ xs. listed_file f ∷ xs) (all_listed p fs (λ n g e. files (suc n) g e))
 
 no_any : (p : ℕ) (test : Walk → Bool) (fs : List OutlineFile) → AreOutlineFiles p fs → ((f : OutlineFile) → IsOutlineFile f → test (walk_to_file f) ≡ false)

@@ -1,5 +1,5 @@
 -- What a draft writes describes the draft's torrent.
-use Rattle.std.proofs.Common.{◌≡◌, ◌≢◌, ◌≤◌, [], ◌++◌, length, map, Option, Some, None, if◌then◌else◌, refl, sym, ap, subst, ◌∙◌, arith}
+use Rattle.std.proofs.Common.{◌≡◌, ◌≢◌, ◌≤◌, [], length, map, Option, Some, None, if◌then◌else◌, refl, sym, ap, subst, ◌∙◌, arith}
 use Rattle.benc.specs.Laws.{CanonicalHasSpelling}
 use Rattle.benc.specs.Text.{spelling}
 use Rattle.benc.specs.Value.{Bencode, dict, no_pairs}
@@ -11,15 +11,15 @@ use Rattle.drafts.proofs.DraftStream.{hybrid_none, v1_is}
 use Rattle.drafts.proofs.Tidy.{value_canonical}
 use Rattle.drafts.specs.Outline.{IsOutline, Outline, listed_file}
 use Rattle.drafts.specs.Written.{info_value, torrent_of, value_of, walk_to_file, pairs_of_layers}
-use Rattle.filetree.proofs.Tables.{none_both}
-use Rattle.filetree.specs.FileTree.{listed}
+use Rattle.filetree.specs.FileTree.{file_of_walk}
 use Rattle.filetree.specs.Tests.{NoneHolds}
-use Rattle.filetree.specs.TreeTests.{file_rows, shape_rows}
+use Rattle.filetree.specs.TreeTests.{file_rows}
+use Rattle.opening.proofs.Legal.{legal_if_accepted, table_none}
 use Rattle.opening.proofs.Listing.{are_files}
 use Rattle.opening.specs.Describes.{Describes, IsDescribed}
 use Rattle.opening.specs.PieceLayers.{tree_at}
-use Rattle.opening.specs.Refusals.{count_rows, file_tree_in, files_of, hybrid_rows, info_in, kind_rows, layer_rows, layers_in, layers_rows, max_torrent}
-use Rattle.opening.specs.Refusals.{name_in, number_in, piece_length_in, piece_length_rows, present_rows, table, text_in, top_rows, version_rows, walks_of}
+use Rattle.opening.specs.Refusals.{count_rows, files_of, hybrid_rows, layer_rows, max_torrent, name_in, number_in, piece_length_in, piece_length_rows}
+use Rattle.opening.specs.Refusals.{table, text_in, walks_of}
 use Rattle.opening.specs.Stream.{is_hybrid, parts_in, the_parts, version1_of}
 use Rattle.opening.specs.Trees.{AreFiles, roots_in}
 
@@ -39,34 +39,9 @@ walks_are : (d : Outline) → IsOutline d → walks_of (value_of d) ≡ map walk
 walks_are d o = file_tree_walks d.piece_length d.files o.files
 
 files_are : (d : Outline) → IsOutline d → files_of (value_of d) ≡ map listed_file d.files
-files_are d o = ap (map listed) (walks_are d o) ∙ all_listed d.piece_length d.files o.files
+files_are d o = ap (map file_of_walk) (walks_are d o) ∙ all_listed d.piece_length d.files o.files
 
 -- ---- the tests
-
-table_none : (v : Bencode) → NoneHolds (top_rows v) → NoneHolds (version_rows (info_in v)) → NoneHolds (present_rows (info_in v))
-    → NoneHolds (kind_rows (info_in v)) → NoneHolds (layers_rows v)
-    → NoneHolds (piece_length_rows (piece_length_in v)) → NoneHolds (shape_rows (file_tree_in v)) → NoneHolds (file_rows (walks_of v))
-    → NoneHolds (count_rows (piece_length_in v) (files_of v))
-    → NoneHolds (layer_rows (piece_length_in v) (layers_in v) (roots_in (files_of v)))
-    → NoneHolds (hybrid_rows (piece_length_in v) (info_in v) (name_in v) (files_of v)) → NoneHolds (table v)
-table_none v a b c d e f g h i j k =
-    let r11 = hybrid_rows (piece_length_in v) (info_in v) (name_in v) (files_of v) in
-    let r10 = layer_rows (piece_length_in v) (layers_in v) (roots_in (files_of v)) in
-    let r9 = count_rows (piece_length_in v) (files_of v) in
-    let r8 = file_rows (walks_of v) in
-    let r7 = shape_rows (file_tree_in v) in
-    let r6 = piece_length_rows (piece_length_in v) in
-    let r5 = layers_rows v in
-    let r4 = kind_rows (info_in v) in
-    let r3 = present_rows (info_in v) in
-    let r2 = version_rows (info_in v) in
-    none_both (top_rows v) (r2 ++ (r3 ++ (r4 ++ (r5 ++ (r6 ++ (r7 ++ (r8 ++ (r9 ++ (r10 ++ r11))))))))) a
-    (none_both r2 (r3 ++ (r4 ++ (r5 ++ (r6 ++ (r7 ++ (r8 ++ (r9 ++ (r10 ++ r11)))))))) b
-    (none_both r3 (r4 ++ (r5 ++ (r6 ++ (r7 ++ (r8 ++ (r9 ++ (r10 ++ r11))))))) c
-    (none_both r4 (r5 ++ (r6 ++ (r7 ++ (r8 ++ (r9 ++ (r10 ++ r11)))))) d
-    (none_both r5 (r6 ++ (r7 ++ (r8 ++ (r9 ++ (r10 ++ r11))))) e
-    (none_both r6 (r7 ++ (r8 ++ (r9 ++ (r10 ++ r11)))) f
-    (none_both r7 (r8 ++ (r9 ++ (r10 ++ r11))) g (none_both r8 (r9 ++ (r10 ++ r11)) h (none_both r9 (r10 ++ r11) i (none_both r10 r11 j k)))))))))
 
 pub draft_accepted : (d : Outline) → IsOutline d → d.files ≢ [] → NoneHolds (table (value_of d))
 draft_accepted d o some =
@@ -110,6 +85,6 @@ draft_describes spelled d o some small = record {
   small = small;
   value = value_of d;
   spelled = spelled (value_of d) (value_canonical d o (omega (arith, small)));
-  accepted = draft_accepted d o some;
+  legal = legal_if_accepted (value_of d) (draft_accepted d o some);
   described = draft_described d o;
 }

@@ -21,7 +21,7 @@ use Rattle.filetree.specs.Tests.{NoneHolds}
 use Rattle.pieces.specs.Pieces.{pieces_of}
 use Rattle.opening.specs.Trees.{pieces_in}
 use Rattle.drafts.specs.Adding.{IsGiven, IsWith, ReusesRoot, add_rows, with_layer}
-use Rattle.drafts.specs.DraftSeen.{AreRootsOf, Entries, HasRoot, IsKept, KeepsRoot, kept_at, outline, outline_file, outline_layers}
+use Rattle.drafts.specs.DraftSeen.{AreRootsOf, Entries, HasRoot, IsDraftKept, KeepsRoot, kept_at, outline, outline_file, outline_layers}
 use Rattle.drafts.specs.Orders.{IsPlaceOf}
 use Rattle.drafts.specs.Outline.{Outline, OutlineFile, listed_file}
 use Rattle.drafts.specs.declared.draft.DraftFile.{DraftFile}
@@ -263,12 +263,12 @@ made_with name p hybrid fs gs es xs place f layer order at is layers = record {
 
 pub made_kept : (name : List ℕ) (p : ℕ) (hybrid : Bool) (fs gs : List DraftFile) (es xs : Entries) (pieces more : ℕ) (place : ℕ) (f : DraftFile)
     (layer : List (List ℕ))
-    → IsKept name p hybrid fs es pieces → NoneHolds (add_rows (outline name p hybrid fs es) (outline_file f)) → IsFilePath (outline_file f).path
+    → IsDraftKept name p hybrid fs es pieces → NoneHolds (add_rows (outline name p hybrid fs es) (outline_file f)) → IsFilePath (outline_file f).path
     → IsGiven (outline name p hybrid fs es) (outline_file f) layer
     → gs ≡ insert fs place f → more ≡ pieces + pieces_of p f.length
     → AreRootsOf (take place (map outline_file fs) ++ outline_file f ∷ drop place (map outline_file fs)) xs
     → IsWith (outline name p hybrid fs es) (outline name p hybrid gs xs) (outline_file f) layer
-    → IsKept name p hybrid gs xs more
+    → IsDraftKept name p hybrid gs xs more
 made_kept name p hybrid fs gs es xs pieces more place f layer kept none path given is count roots w =
     let files : map outline_file gs ≡ take place (map outline_file fs) ++ outline_file f ∷ drop place (map outline_file fs) = ap (map outline_file) is
     ∙ map_put outline_file place f fs in
@@ -283,11 +283,11 @@ made_kept name p hybrid fs gs es xs pieces more place f layer kept none path giv
 -- a file is put at its place, and its root is kept
 pub put_file : (name : List ℕ) (p : ℕ) (hybrid : Bool) (fs gs : List DraftFile) (es xs : Entries) (pieces more : ℕ) (place : ℕ) (f : DraftFile)
     (layer : List (List ℕ)) (q : ℕ)
-    → IsKept name p hybrid fs es pieces → NoneHolds (add_rows (outline name p hybrid fs es) (outline_file f)) → IsFilePath (outline_file f).path
+    → IsDraftKept name p hybrid fs es pieces → NoneHolds (add_rows (outline name p hybrid fs es) (outline_file f)) → IsFilePath (outline_file f).path
     → IsGiven (outline name p hybrid fs es) (outline_file f) layer → IsPlaceOf (outline_file f).path (paths_of fs) place
     → gs ≡ insert fs place f → more ≡ pieces + pieces_of p f.length
     → ((d : Outline) → AreRootsOf d.files es → (ReusesRoot d f.length f.root → ⊥) → KeepsRoot q d.files (outline_file f) layer es xs) → q ≡ p
-    → IsWith (outline name p hybrid fs es) (outline name p hybrid gs xs) (outline_file f) layer × IsKept name p hybrid gs xs more
+    → IsWith (outline name p hybrid fs es) (outline name p hybrid gs xs) (outline_file f) layer × IsDraftKept name p hybrid gs xs more
 put_file name p hybrid fs gs es xs pieces more place f layer q kept none path given at is count keeps same =
     let d : Outline = outline name p hybrid fs es in
     let k : KeepsRoot p d.files (outline_file f) layer es xs = subst (λ n. KeepsRoot n d.files (outline_file f) layer es xs) same

@@ -15,6 +15,7 @@ pub mod Kept
 pub mod Keys
 pub mod OneMore
 pub mod Ordering
+pub mod OwnRooms
 pub mod Passing
 pub mod Penned
 pub mod Starting

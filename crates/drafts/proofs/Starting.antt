@@ -5,7 +5,7 @@ use Rattle.std.specs.List.Sorted.{IsStrictlySortedBy}
 use Rattle.std.specs.Ordering.{nat_cmp}
 use Rattle.std.specs.Str.{IsUtf8}
 use Rattle.std.specs.Map.{keys_of}
-use Rattle.drafts.specs.DraftSeen.{Entries, IsKept, kept_at, outline, outline_file, outline_layers}
+use Rattle.drafts.specs.DraftSeen.{Entries, IsDraftKept, kept_at, outline, outline_file, outline_layers}
 use Rattle.drafts.specs.declared.draft.DraftFile.{DraftFile}
 use Rattle.drafts.specs.declared.draft.KeptRoot.{KeptRoot}
 use Rattle.drafts.specs.Outline.{IsOutline, Outline, OutlineFile, OutlineLayer, listed_file}
@@ -35,7 +35,7 @@ empty_is_outline d name legal files layers = record {
 }
 
 pub empty_is_kept : (name : List ℕ) (p : ℕ) (hybrid : Bool) (fs : List DraftFile) (es : Entries) → IsUtf8 name → IsPieceLength p → fs ≡ [] → es ≡ []
-    → IsKept name p hybrid fs es 0
+    → IsDraftKept name p hybrid fs es 0
 unfolding IsStrictlySortedBy
 empty_is_kept name p hybrid fs es utf8 legal files entries = record {
   outline_is = empty_is_outline (outline name p hybrid fs es) utf8 legal (ap (map outline_file) files) (ap (outline_layers p) entries);

@@ -60,8 +60,8 @@ given_file d path n root v1 = record {
 }
 
 -- a hybrid's file that is not empty has all its cuts
-abbrev pub HasCuts : Outline → OutlineFile → Type 0
-HasCuts d f = d.hybrid ≡ true → 0 < f.length → length f.cuts ≡ pieces_of d.piece_length f.length
+abbrev pub HasAllCuts : Outline → OutlineFile → Type 0
+HasAllCuts d f = d.hybrid ≡ true → 0 < f.length → length f.cuts ≡ pieces_of d.piece_length f.length
 
 -- the layer of a file that is longer than a piece is that of its root and length
 abbrev pub FitsLayer : Outline → OutlineFile → List (List ℕ) → Type 0
@@ -70,7 +70,7 @@ FitsLayer d f layer = d.piece_length < f.length
 
 -- what is given of a file fits it: the digests of its cuts, and its layer
 pub record MayAdd (d : Outline) (f : OutlineFile) (layer : List (List ℕ)) : Type 0 where
-  pub cuts : HasCuts d f
+  pub cuts : HasAllCuts d f
   pub fits : FitsLayer d f layer
 
 -- the same, and digests have their lengths

@@ -1,12 +1,13 @@
 -- A draft without where it lies in memory, and what holds of what it keeps. Public clauses do not
 -- name these.
-use Rattle.std.specs.Prelude.{◌≡◌, ℕ, ◌<◌, Bool, if◌then◌else◌, nat_lt, List, [], ◌∷◌, ◌++◌, map, take, drop, Option, Some, slice_get}
+use Rattle.std.specs.Prelude.{◌≡◌, ℕ, ◌<◌, Bool, if◌then◌else◌, nat_lt, List, [], ◌∷◌, ◌++◌, map, take, drop, Option, Some, slice_get, vec_len}
 use Rattle.std.specs.Cmp.Lexicographic.{slice_cmp}
 use Rattle.std.specs.List.Sorted.{IsStrictlySortedBy}
 use Rattle.std.specs.Map.{keys_of, lookup}
 use Rattle.std.specs.BTreeMap.{is_at}
 use Rattle.std.specs.Ordering.{nat_cmp}
 use Rattle.std.specs.String.{string_bytes}
+use Rattle.std.specs.Vec.{vec_capacity}
 use Rattle.opening.specs.Trees.{pieces_in}
 use Rattle.drafts.specs.Adding.{with_layer}
 use Rattle.drafts.specs.Outline.{IsOutline, Outline, OutlineFile, OutlineLayer, listed_file}
@@ -76,8 +77,20 @@ pub record KeepsRoot (piece_length : ℕ) (files : List OutlineFile) (f : Outlin
       else outline_layers piece_length old)
   pub roots : (place : ℕ) → AreRootsOf (take place files ++ f ∷ drop place files) new
 
-pub record IsKept (name : List ℕ) (piece_length : ℕ) (hybrid : Bool) (files : List DraftFile)
+pub record IsDraftKept (name : List ℕ) (piece_length : ℕ) (hybrid : Bool) (files : List DraftFile)
     (es : Entries) (pieces : ℕ) : Type 0 where
   pub outline_is : IsOutline (outline name piece_length hybrid files es)
   pub roots : AreRootsOf (map outline_file files) es
   pub pieces_are : pieces ≡ pieces_in piece_length (map listed_file (map outline_file files))
+
+-- ---- the room of what is kept
+
+-- the lists of a file have room for what they hold alone
+pub record HasOwnRoom (f : DraftFile) : Type 0 where
+  pub path : vec_capacity f.path ≡ vec_len f.path
+  pub cuts : vec_capacity f.cuts ≡ vec_len f.cuts
+
+-- so have the layers of roots
+abbrev pub HaveOwnRooms : Entries → Type 0
+HaveOwnRooms [] = Unit {0}
+HaveOwnRooms (e ∷ es) = (vec_capacity e.1.layer ≡ vec_len e.1.layer) × HaveOwnRooms es

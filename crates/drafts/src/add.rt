@@ -1,6 +1,6 @@
 //! Adding a file to a draft: its tests in their order, and its place (BEP 52, "file tree").
 
-ghost use Rattle.std.specs.Prelude.{◌≡◌, ◌<◌, ◌≤◌, ◌+◌, ◌^◌, All, List, length, map, MatchResult, IfErr, OnErr, OnOk};
+ghost use Rattle.std.specs.Prelude.{◌≡◌, ◌<◌, ◌≤◌, ◌+◌, ◌^◌, ◌&&◌, if◌then◌else◌, nat_lt, [], All, List, length, map, vec_len, MatchResult, IfErr, OnErr, OnOk};
 ghost use Rattle.std.specs.String.{string_bytes};
 ghost use Rattle.std.specs.Vec.{vec_capacity};
 ghost use Rattle.filetree.specs.Paths.{IsFilePath};
@@ -9,7 +9,7 @@ ghost use Rattle.pieces.specs.Pieces.{pieces_of};
 ghost use Rattle.drafts.specs.Adding.{Adds, IsGiven, IsWith, MayAdd, ReusesRoot, add_rows, given_file, pieces_in_all};
 ghost use Rattle.drafts.specs.Orders.{IsPlaceOf};
 ghost use Rattle.drafts.specs.Outline.{Outline, OutlineFile};
-ghost use Rattle.drafts.specs.DraftSeen.{AreRootsOf, KeepsRoot, outline_file};
+ghost use Rattle.drafts.specs.DraftSeen.{AreRootsOf, HasOwnRoom, HaveOwnRooms, KeepsRoot, outline_file};
 
 use crate::component::test_path;
 use crate::draft::{Draft, DraftFile, KeptRoot};
@@ -94,14 +94,12 @@ impl Draft {
         root: Hash,
         v1: &V1File,
     ) -> Result<DraftFile, Refusal>
-        ensures { GivesUnlessNoMemory result (λ f. outline_file f
+        ensures given { GivesUnlessNoMemory result (λ f. outline_file f
             ≡ given_file self.now (map (λ s. s.now) path.now) length root v1.now) }
+        ensures room { GivesUnlessNoMemory result HasOwnRoom }
     {
         let path = texts(self.alloc, path)?;
-        let mut cuts = Vec::new(self.alloc);
-        if self.hybrid && length > 0 {
-            cuts.extend_from_slice(&v1.cuts)?;
-        }
+        let cuts = self.kept_cuts(length, &v1.cuts)?;
         Ok(DraftFile {
             path,
             length,
@@ -109,6 +107,18 @@ impl Draft {
             cuts,
             padded: v1.padded,
         })
+    }
+
+    // The digests of cuts that a draft keeps of a file of this length.
+    fn kept_cuts(&self, length: u64, cuts: &[[u8; 20]]) -> Result<Vec<[u8; 20]>, Refusal>
+        ensures cuts { GivesUnlessNoMemory result (λ cs. cs.items
+            ≡ (if self.now.hybrid && nat_lt 0 length then cuts.now else [])) }
+        ensures room { GivesUnlessNoMemory result (λ cs. vec_capacity cs ≡ vec_len cs) }
+    {
+        if self.hybrid && length > 0 {
+            return copies(self.alloc, cuts);
+        }
+        Ok(Vec::new(self.alloc))
     }
 
     // Puts a file at its place among the others, and keeps its root.
@@ -119,6 +129,7 @@ impl Draft {
         requires path { IsFilePath (outline_file file).path }
         requires tests { NoneHolds (add_rows self.old (outline_file file)) }
         requires fits { IsGiven self.old (outline_file file) layer.now }
+        requires own_room { HasOwnRoom file }
         ensures added { OnOk result
             (IsWith self.old self.new (outline_file file) layer.now) }
         ensures refused { IfErr result (λ r. r ≡ Refusal.NoMemory) }
@@ -148,6 +159,7 @@ fn keep_root(
         roots.old.entries roots.new.entries) }
     ensures refused { IfErr result (λ r. r ≡ Refusal.NoMemory) }
     ensures unchanged { OnErr result (roots.new.entries ≡ roots.old.entries) }
+    ensures room { HaveOwnRooms roots.old.entries → HaveOwnRooms roots.new.entries }
 {
     if file.length == 0 || roots.contains_key(&file.root) {
         return Ok(());
@@ -167,9 +179,10 @@ fn kept_root(
     ensures length { GivesUnlessNoMemory result (λ k. k.length ≡ length) }
     ensures layer { GivesUnlessNoMemory result
         (λ k. piece_length < length → k.layer.items ≡ layer.now) }
+    ensures room { GivesUnlessNoMemory result (λ k. vec_capacity k.layer ≡ vec_len k.layer) }
 {
     let layer = if length > piece_length {
-        Vec::from_slice(alloc, layer)?
+        copies(alloc, layer)?
     } else {
         Vec::new(alloc)
     };
@@ -180,13 +193,28 @@ fn kept_root(
 fn texts(alloc: Global, parts: &[&str]) -> Result<Vec<String>, Refusal>
     ensures texts { GivesUnlessNoMemory result
         (λ ts. map string_bytes ts.items ≡ map (λ s. s.now) parts.now) }
-    ensures room { GivesUnlessNoMemory result (λ ts. vec_capacity ts ≡ length parts.now) }
+    ensures room { GivesUnlessNoMemory result (λ ts. vec_capacity ts ≡ vec_len ts) }
 {
     let mut texts = Vec::with_capacity(alloc, parts.len())?;
     'parts: for part in parts {
         texts.push_reserved(String::from_str(alloc, part)?);
     }
     Ok(texts)
+}
+
+// Copies of digests.
+fn copies<const WIDTH: usize>(
+    alloc: Global,
+    digests: &[[u8; WIDTH]],
+) -> Result<Vec<[u8; WIDTH]>, Refusal>
+    ensures digests { GivesUnlessNoMemory result (λ ds. ds.items ≡ digests.now) }
+    ensures room { GivesUnlessNoMemory result (λ ds. vec_capacity ds ≡ vec_len ds) }
+{
+    let mut copies = Vec::with_capacity(alloc, digests.len())?;
+    'digests: for digest in digests {
+        copies.push_reserved(*digest);
+    }
+    Ok(copies)
 }
 
 // Each digest has 20 bytes, as its type says.

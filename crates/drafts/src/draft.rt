@@ -30,7 +30,8 @@ pub(crate) struct KeptRoot {
 /// A torrent that is put together, to which files are added.
 ///
 /// Its files stand in the order of their paths, whatever the order in which they are added. It has
-/// room for at most twice as many, and one.
+/// room for at most twice as many, and one. Of a file it has room for its components and its
+/// digests alone, and of a layer for its hashes alone.
 #[derive(Drop)]
 pub struct Draft {
     pub(crate) alloc: Global,
@@ -44,10 +45,10 @@ pub struct Draft {
 }
 
 impl Model for Draft {
-    ghost use Rattle.std.specs.Prelude.{◌*◌, ◌+◌, ◌≤◌, vec_len};
+    ghost use Rattle.std.specs.Prelude.{◌*◌, ◌+◌, ◌≤◌, All, vec_len};
     ghost use Rattle.std.specs.String.{string_bytes};
     ghost use Rattle.std.specs.Vec.{vec_capacity};
-    ghost use Rattle.drafts.specs.DraftSeen.{IsKept, outline};
+    ghost use Rattle.drafts.specs.DraftSeen.{HasOwnRoom, HaveOwnRooms, IsDraftKept, outline};
     ghost use Rattle.drafts.specs.Outline.{Outline};
 
     ghost Value = { Outline };
@@ -55,8 +56,9 @@ impl Model for Draft {
     ghost view = { λ d. outline (string_bytes d.name) d.piece_length d.hybrid d.files.items
         d.roots.entries };
 
-    ghost invariant = { λ d. IsKept (string_bytes d.name) d.piece_length d.hybrid d.files.items
-        d.roots.entries d.pieces × (vec_capacity d.files ≤ 2 * vec_len d.files + 1) };
+    ghost invariant = { λ d. IsDraftKept (string_bytes d.name) d.piece_length d.hybrid d.files.items
+        d.roots.entries d.pieces × (vec_capacity d.files ≤ 2 * vec_len d.files + 1)
+        × All HasOwnRoom d.files.items × HaveOwnRooms d.roots.entries };
 }
 
 impl Draft {

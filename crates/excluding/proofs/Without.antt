@@ -1,26 +1,17 @@
--- A listing without the files that are left out, and paths whose components are joined.
+-- A listing without the files that are left out.
 use Rattle.std.proofs.Common.{◌≡◌, ℕ, ◌+◌, List, [], ◌∷◌, ◌++◌, map, Bool, true, false, cond, not, ◌&&◌, ◌||◌}
 use Rattle.std.proofs.Common.{Option, Some, None, option_map, Result, Ok, Err, refl, ap, sym, ◌∙◌, subst}
-use Rattle.std.proofs.Common.{append-nil, true≢false, arith, codes, ◌<◌, drop, get_or, drop-drop, get_or-drop, length, take}
+use Rattle.std.proofs.Common.{append-nil, true≢false, arith, ◌<◌, drop, get_or, drop-drop, get_or-drop, length, take}
 use Rattle.std.specs.Prelude.{String}
 use Rattle.std.specs.Global.{Global, Vec}
-use Rattle.std.specs.List.{count_by, filter, join_by, join_with_byte, list_any}
-use Rattle.regex.specs.Patterns.{Re}
+use Rattle.std.specs.List.{count_by, filter, list_any}
 use Rattle.std.proofs.lemmas.List.{get_or-map, length-map, take-map}
 use Rattle.std.proofs.lemmas.List.Elements.{filter_more}
 use Rattle.std.proofs.lemmas.List.Sums.{sum_by-cons}
-use Rattle.filetree.specs.FileTree.{slash}
+use Rattle.globs.specs.Globs.{Whole}
 use Rattle.folders.specs.Shelf.{IsEachOnce, IsListed, Listing, is_path, path_bytes}
 use Rattle.folders.proofs.Shelves.{is_path-eq}
 use Rattle.excluding.specs.Excluding.{is_kept, listing_without, paths_without}
-
--- ---- joined components
-
--- joining texts is joining their bytes
-pub joined_same : {S : Type 0} (f : S → List ℕ) (parts : List S) → join_by f (codes "/") parts ≡ join_with_byte slash (map f parts)
-joined_same f [] = refl
-joined_same f (x ∷ []) = append-nil (f x)
-joined_same f (x ∷ y ∷ parts) = ap (λ t. f x ++ (slash ∷ t)) (joined_same f (y ∷ parts))
 
 -- ---- listings
 
@@ -98,14 +89,14 @@ kept_once keep listed paths once p =
     ∙ ap (λ b. pick b 1 0) (sym (any_kept keep p listed))
 
 -- what was listed inside, without what is left out, is listed of what stands there without it
-pub kept_listing : (pattern : Re) (said : Option Listing) (found paths : Vec (Vec (String Global))) → IsListed said (Ok found)
-    → map path_bytes paths.items ≡ paths_without pattern (map path_bytes found.items)
-    → IsListed (option_map (listing_without pattern) said) (Ok paths)
-kept_listing pattern None found paths listed same = tt
-kept_listing pattern (Some there) found paths listed same = (
+pub kept_listing : (globs : List Whole) (said : Option Listing) (found paths : Vec (Vec (String Global))) → IsListed said (Ok found)
+    → map path_bytes paths.items ≡ paths_without globs (map path_bytes found.items)
+    → IsListed (option_map (listing_without globs) said) (Ok paths)
+kept_listing globs None found paths listed same = tt
+kept_listing globs (Some there) found paths listed same = (
   listed.0,
   listed.1,
-  subst (IsEachOnce (paths_without pattern there.files)) (sym same) (kept_once (is_kept pattern) there.files (map path_bytes found.items) listed.2),
+  subst (IsEachOnce (paths_without globs there.files)) (sym same) (kept_once (is_kept globs) there.files (map path_bytes found.items) listed.2),
 )
 
 -- ---- paths that are kept one after the other

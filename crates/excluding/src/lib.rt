@@ -1,9 +1,6 @@
-//! What is left out of a shelf: globs, and a shelf without the files whose paths match one.
+//! What is left out of a shelf: the files that a glob matches, or a folder above them.
 #![tactic(auto)]
 
-mod globs;
-mod set;
 mod shelf;
 
-pub use globs::{GlobFault, regex_of};
 pub use shelf::Excluding;

@@ -10,7 +10,7 @@ use Rattle.std.specs.Str.{bytes_eq}
 use Rattle.std.proofs.lemmas.Cmp.{nat_list_cmp_total}
 use Rattle.benc.specs.Text.{Fits, PairsFit}
 use Rattle.benc.specs.Value.{Bencode, int, text, list, dict, Pairs, no_pairs, pair}
-use Rattle.filetree.specs.Dictionary.{Ascends, get, keys_in, pairs_in, under, value_at}
+use Rattle.filetree.specs.Dictionary.{Ascends, get, keys_in, pairs_in, under, value_under_key}
 use Rattle.filetree.proofs.Bytes.{true_or_false}
 
 pub is_less : (o : Ordering) → is_lt o ≡ true → o ≡ Less
@@ -59,20 +59,20 @@ value_ascends room (text s) fits = tt
 value_ascends room (list vs) fits = tt
 value_ascends room (dict ps) fits = pairs_ascend (room - 1) None ps fits.1
 
-found_ascends : (room : ℕ) (key : List ℕ) (v : Bencode) (o : Option Bencode) → Fits room v → get key v ≡ o → Ascends (pairs_in (value_at key v))
+found_ascends : (room : ℕ) (key : List ℕ) (v : Bencode) (o : Option Bencode) → Fits room v → get key v ≡ o → Ascends (pairs_in (value_under_key key v))
 unfolding IsStrictlySortedBy
 found_ascends room key v None fits is = rw is tt
 found_ascends room key v (Some w) fits is = rw is (value_ascends (room - 1) w (get_fits room key v w fits is))
 
 -- the keys of a dictionary under a key ascend
-pub part_ascends : (room : ℕ) (key : List ℕ) (v : Bencode) → Fits room v → Ascends (pairs_in (value_at key v))
+pub part_ascends : (room : ℕ) (key : List ℕ) (v : Bencode) → Fits room v → Ascends (pairs_in (value_under_key key v))
 part_ascends room key v fits = found_ascends room key v (get key v) fits refl
 
 -- what stands under a key, or the empty dictionary for what is absent, fits as well
-pub value_fits : (room : ℕ) (key : List ℕ) (v : Bencode) → 1 < room → Fits room v → Fits (room - 1) (value_at key v)
+pub value_fits : (room : ℕ) (key : List ℕ) (v : Bencode) → 1 < room → Fits room v → Fits (room - 1) (value_under_key key v)
 value_fits room key v some fits = by_cases (get key v) refl
   where
-    by_cases : (o : Option Bencode) → get key v ≡ o → Fits (room - 1) (value_at key v)
+    by_cases : (o : Option Bencode) → get key v ≡ o → Fits (room - 1) (value_under_key key v)
     by_cases None is = let left : 0 < room - 1 = omega (arith, some) in rw is (left, tt)
     by_cases (Some w) is = let there : Fits (room - 1) w = get_fits room key v w fits is in rw is there
 

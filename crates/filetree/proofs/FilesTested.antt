@@ -1,7 +1,6 @@
 -- A test of the files below a directory, one pair after the other.
-use Rattle.std.proofs.Common.{◌≡◌, ◌||◌, ◌+◌, ◌<◌, Bool, true, false, ℕ, List, [], ◌∷◌, map, length, drop, get_or, refl, sym, ap, ◌∙◌}
+use Rattle.std.proofs.Common.{◌≡◌, ◌||◌, ◌+◌, ◌<◌, false, ℕ, List, [], ◌∷◌, map, length, drop, get_or, refl, sym, ap, ◌∙◌}
 use Rattle.std.proofs.lemmas.List.Folds.{list_any-append}
-use Rattle.benc.specs.Value.{Pairs, pair}
 use Rattle.benc.specs.View.{Seen, pair_view, pairs_view}
 use Rattle.benc.specs.declared.value.Pair.{Pair}
 use Rattle.filetree.specs.FileTree.{Walk, below, is_nil, walks, walks_in}

@@ -4,7 +4,7 @@ use Rattle.std.proofs.lemmas.Bool.{or_parts, not-true, both_ways}
 use Rattle.benc.specs.Value.{Bencode, int, text, list, dict, Pairs, no_pairs, pair}
 use Rattle.filetree.specs.Dictionary.{keys_in}
 use Rattle.filetree.specs.FileTree.{is_dict, is_directory, is_file, is_nil, is_node}
-use Rattle.filetree.specs.Shape.{HasFault, HasFile, HasOddComponent, HasOddFile, HoldsPair, HasSibling, IsMisshapen, LeadsToDirectory}
+use Rattle.filetree.specs.Shape.{HasFault, HasZeroLengthKey, HasOddComponent, HasOddFile, HoldsPair, HasSibling, IsMisshapen, LeadsToDirectory}
 use Rattle.filetree.proofs.Bytes.{true_or_false}
 use Rattle.filetree.proofs.ComparedKeys.{and_both, or_one}
 
@@ -14,7 +14,7 @@ Within ps all = (k : List ℕ) (v : Bencode) → HoldsPair ps k v → HoldsPair 
 -- ---- what is no directory has a fault
 
 -- the zero-length key in a node that is no file
-file_fault : (dir : Pairs) (file : Bencode) → HasFile dir file → is_file dir ≡ false → HasSibling dir ⊎ HasOddFile dir
+file_fault : (dir : Pairs) (file : Bencode) → HasZeroLengthKey dir file → is_file dir ≡ false → HasSibling dir ⊎ HasOddFile dir
 file_fault no_pairs file has none_is = absurd has.there
 file_fault (pair k v no_pairs) file has none_is = elim has.there [
   | inl here ↦
@@ -85,7 +85,7 @@ node_dict (text s) node = cc
 node_dict (list vs) node = cc
 node_dict (dict ps) node = refl
 
-no_file : (ps : Pairs) (file : Bencode) → is_directory ps ≡ true → HasFile ps file → ⊥
+no_file : (ps : Pairs) (file : Bencode) → is_directory ps ≡ true → HasZeroLengthKey ps file → ⊥
 no_file ps file d has = both_ways (is_nil has.key) (has_node ps has.key file d has.there).0 has.zero_length
 
 -- a file's node has one pair, of the zero-length key and a dictionary

@@ -6,14 +6,14 @@ use Rattle.benc.specs.View.{Seen, pair_view, pairs_view}
 use Rattle.benc.specs.declared.value.Pair.{Pair}
 use Rattle.filetree.proofs.ComparedKeys.{and_both}
 use Rattle.filetree.specs.FileTree.{Walk, walks, below, is_dict, is_file, is_nil}
-use Rattle.filetree.specs.Walked.{behind, AddsBehind, HasBadPathAt, IsAsBad, walks_at, IsOnWay}
+use Rattle.filetree.specs.Walked.{walk_behind, AddsBehind, HasBadPathAt, IsAsBad, walks_at, IsOnWay}
 
 pub walked_on : (path : List (List ℕ)) (all rest : Pairs) (p : Seen) (old mid new : List Walk)
     → IsOnWay path all (pair p.0 p.1 rest) old mid → AddsBehind path (walks_at p) mid new → IsOnWay path all rest old new
 walked_on path all rest p old mid new way adds = record {
-  adds = way.adds ∙ ap (λ ws. mid ++ ws) (map-append (behind path) (walks_at p) (walks rest))
-      ∙ sym (append_assoc mid (map (behind path) (walks_at p)) (map (behind path) (walks rest)))
-      ∙ ap (λ ws. ws ++ map (behind path) (walks rest)) (sym adds);
+  adds = way.adds ∙ ap (λ ws. mid ++ ws) (map-append (walk_behind path) (walks_at p) (walks rest))
+      ∙ sym (append_assoc mid (map (walk_behind path) (walks_at p)) (map (walk_behind path) (walks rest)))
+      ∙ ap (λ ws. ws ++ map (walk_behind path) (walks rest)) (sym adds);
 }
 
 -- the next component is not bad
@@ -24,20 +24,20 @@ as_bad all rest p way good = record {
 }
 
 -- a longer path, or a walk from further up
-behind_below : (path : List (List ℕ)) (k : List ℕ) (ws : List Walk) → map (behind (path ++ k ∷ [])) ws ≡ map (behind path) (map (below k) ws)
+behind_below : (path : List (List ℕ)) (k : List ℕ) (ws : List Walk) → map (walk_behind (path ++ k ∷ [])) ws ≡ map (walk_behind path) (map (below k) ws)
 behind_below path k [] = refl
 behind_below path k (w ∷ ws) =
-    let first : behind (path ++ k ∷ []) w ≡ behind path (below k w) = ap (λ (p : List (List ℕ)). record { path = p; file = w.file })
+    let first : walk_behind (path ++ k ∷ []) w ≡ walk_behind path (below k w) = ap (λ (p : List (List ℕ)). record { path = p; file = w.file })
     (append_assoc path (k ∷ []) w.path) in
-    ap (λ u. u ∷ map (behind (path ++ k ∷ [])) ws) first ∙ ap (λ us. behind path (below k w) ∷ us) (behind_below path k ws)
+    ap (λ u. u ∷ map (walk_behind (path ++ k ∷ [])) ws) first ∙ ap (λ us. walk_behind path (below k w) ∷ us) (behind_below path k ws)
 
 pub walked_inner : (path longer : List (List ℕ)) (k : List ℕ) (ps : Pairs) (v : Bencode) (old new : List Walk)
     → is_nil k ≡ false → longer ≡ path ++ k ∷ [] → v ≡ dict ps → AddsBehind longer (walks ps) old new → AddsBehind path (walks_at (k, v)) old new
 walked_inner path longer k ps v old new some e is adds =
     let here : walks_at (k, v) ≡ map (below k) (walks ps) = rw (some, is) refl in
-    adds ∙ ap (λ ws. old ++ ws) (ap (λ p. map (behind p) (walks ps)) e ∙ behind_below path k (walks ps) ∙ ap (map (behind path)) (sym here))
+    adds ∙ ap (λ ws. old ++ ws) (ap (λ p. map (walk_behind p) (walks ps)) e ∙ behind_below path k (walks ps) ∙ ap (map (walk_behind path)) (sym here))
 
-pub behind_none : (ws : List Walk) → map (behind []) ws ≡ ws
+pub behind_none : (ws : List Walk) → map (walk_behind []) ws ≡ ws
 behind_none [] = refl
 behind_none (w ∷ ws) = ap (λ us. w ∷ us) (behind_none ws)
 
@@ -58,4 +58,4 @@ pub walked_file : (path : List (List ℕ)) (key nil : List ℕ) (v file : Bencod
     → new ≡ old ++ record { path = path ++ key ∷ []; file = file } ∷ [] → AddsBehind path (walks_at (key, v)) old new
 walked_file path key nil v file old new some is none added =
     let here : walks_at (key, v) ≡ record { path = key ∷ []; file = file } ∷ [] = rw (some, is, none) refl in
-    added ∙ ap (λ ws. old ++ map (behind path) ws) (sym here)
+    added ∙ ap (λ ws. old ++ map (walk_behind path) ws) (sym here)

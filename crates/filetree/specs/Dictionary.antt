@@ -31,8 +31,8 @@ as_dict (list vs) = None
 as_dict (dict ps) = Some ps
 
 -- the value under a key, or an empty dictionary
-abbrev pub value_at : List ℕ → Bencode → Bencode
-value_at key v = or_empty (get key v)
+abbrev pub value_under_key : List ℕ → Bencode → Bencode
+value_under_key key v = or_empty (get key v)
   where
     or_empty : Option Bencode → Bencode
     or_empty None = dict no_pairs

@@ -133,8 +133,8 @@ abbrev pub stated_root : ℕ → Bencode → Option (List ℕ)
 stated_root n file = if nat_lt 0 n then root_at file else None
 
 -- the file at the end of a walk: its path, its length, and its root if it is not empty
-abbrev pub listed : Walk → ListedFile
-listed w = record {
+abbrev pub file_of_walk : Walk → ListedFile
+file_of_walk w = record {
   path = w.path;
   length = length_of w.file;
   root = stated_root (length_of w.file) w.file;

@@ -1,13 +1,13 @@
 -- The folders on the way to a file, each of which keeps those above it. Public clauses do not name
 -- these.
-use Rattle.std.specs.Prelude.{ℕ, List, [], ◌∷◌, ◌++◌, Option, None, Some, string_bytes}
+use Rattle.std.specs.Prelude.{ℕ, List, [], ◌∷◌, ◌++◌, Option, None, Some}
 use Rattle.std.specs.declared.alloc.Global.{Global}
 use Rattle.std.specs.declared.sync.Arc.{Arc}
 use Rattle.filetree.specs.declared.folder.TreeFolder.{TreeFolder, TreeFolder', Held-TreeFolder-above, None', Some'}
 
 abbrev mutual
   pub names_to : TreeFolder → List (List ℕ)
-  names_to (TreeFolder' above name) = names_above above ++ string_bytes name ∷ []
+  names_to (TreeFolder' above name) = names_above above ++ name ∷ []
 
   pub names_above : Held-TreeFolder-above → List (List ℕ)
   names_above None' = []

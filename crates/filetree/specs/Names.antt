@@ -7,14 +7,14 @@ use Rattle.filetree.specs.declared.refusal.Refusal.{Refusal}
 use Rattle.filetree.specs.declared.refusal.Refusal.TheVariants as refusals
 
 -- a key as a torrent file spells it (BEP 52, "metainfo files"); `top` stands for the top value
-abbrev pub key_text : Key → List ℕ
-key_text keys.Top = codes "top"
-key_text keys.Info = codes "info"
-key_text keys.MetaVersion = codes "meta version"
-key_text keys.FileTree = codes "file tree"
-key_text keys.Name = codes "name"
-key_text keys.PieceLength = codes "piece length"
-key_text keys.PieceLayers = codes "piece layers"
+abbrev pub key_spelling : Key → List ℕ
+key_spelling keys.Top = codes "top"
+key_spelling keys.Info = codes "info"
+key_spelling keys.MetaVersion = codes "meta version"
+key_spelling keys.FileTree = codes "file tree"
+key_spelling keys.Name = codes "name"
+key_spelling keys.PieceLength = codes "piece length"
+key_spelling keys.PieceLayers = codes "piece layers"
 
 -- the printed number of a refusal of a torrent
 abbrev pub refusal_number : Refusal → ℕ
@@ -72,11 +72,11 @@ refusal_name refusals.Write = codes "Write"
 abbrev pub refusal_detail : Refusal → List ℕ
 refusal_detail (refusals.NotBencode f) =
     codes " " ++ (kind_name f.kind ++ (codes " " ++ decimal f.offset))
-refusal_detail (refusals.Missing k) = codes " " ++ key_text k
-refusal_detail (refusals.WrongType k) = codes " " ++ key_text k
+refusal_detail (refusals.Missing k) = codes " " ++ key_spelling k
+refusal_detail (refusals.WrongType k) = codes " " ++ key_spelling k
 refusal_detail _ = []
 
 -- the printed text of a refusal: its number, its name, and what belongs to it
-abbrev pub refusal_text : Refusal → List ℕ
-refusal_text r =
+abbrev pub refusal_words : Refusal → List ℕ
+refusal_words r =
     decimal (refusal_number r) ++ (codes " " ++ (refusal_name r ++ refusal_detail r))

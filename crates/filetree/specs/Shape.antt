@@ -17,7 +17,7 @@ LeadsToDirectory ps (k ∷ ks) dir =
     × LeadsToDirectory inner ks dir
 
 -- a dictionary has the zero-length key, with this value
-pub record HasFile (dir : Pairs) (file : Bencode) : Type 0 where
+pub record HasZeroLengthKey (dir : Pairs) (file : Bencode) : Type 0 where
   pub key : List ℕ
   pub zero_length : is_nil key ≡ true
   pub there : HoldsPair dir key file
@@ -33,13 +33,13 @@ pub record HasOddComponent (dir : Pairs) : Type 0 where
 -- a zero-length key has a sibling
 pub record HasSibling (dir : Pairs) : Type 0 where
   pub file : Bencode
-  pub has : HasFile dir file
+  pub has : HasZeroLengthKey dir file
   pub several : 2 ≤ length (keys_in dir)
 
 -- the value of a zero-length key is no dictionary
 pub record HasOddFile (dir : Pairs) : Type 0 where
   pub file : Bencode
-  pub has : HasFile dir file
+  pub has : HasZeroLengthKey dir file
   pub odd : is_dict file ≡ false
 
 -- somewhere in a file tree one of the three conditions on a dictionary holds
@@ -51,7 +51,7 @@ pub record HasFault (tree : Pairs) : Type 0 where
 
 -- a file tree is none: its root has the zero-length key, or one of the other three conditions holds
 abbrev pub IsMisshapen : Pairs → Type 0
-IsMisshapen tree = ((file : Bencode) × HasFile tree file) ⊎ HasFault tree
+IsMisshapen tree = ((file : Bencode) × HasZeroLengthKey tree file) ⊎ HasFault tree
 
 -- somewhere in a file tree a component is bad, of a file or of a directory
 pub record HasBadComponent (tree : Pairs) : Type 0 where

@@ -42,12 +42,12 @@ pub record IsNodeBelow (path : List (List ℕ)) (p : List ℕ × Bencode) : Type
   pub good : HasGoodPathAt p
 
 -- a walk after the components that lead to a directory
-abbrev pub behind : List (List ℕ) → Walk → Walk
-behind path w = record { path = path ++ w.path; file = w.file }
+abbrev pub walk_behind : List (List ℕ) → Walk → Walk
+walk_behind path w = record { path = path ++ w.path; file = w.file }
 
 -- the walks were added to those before
 abbrev pub AddsBehind : List (List ℕ) → List Walk → List Walk → List Walk → Type 0
-AddsBehind path ws old new = new ≡ old ++ map (behind path) ws
+AddsBehind path ws old new = new ≡ old ++ map (walk_behind path) ws
 
 -- the walks of a directory were added to the files found before
 abbrev pub AddsWalks : Pairs → List (List ℕ) → Vec Found Global → Vec Found Global → Type 0
@@ -67,7 +67,7 @@ AddsWalksAt p path old new =
 
 -- some pairs of a directory were walked, and the rest is left
 pub record IsOnWay (path : List (List ℕ)) (all rest : Pairs) (old new : List Walk) : Type 0 where
-  pub adds : old ++ map (behind path) (walks all) ≡ new ++ map (behind path) (walks rest)
+  pub adds : old ++ map (walk_behind path) (walks all) ≡ new ++ map (walk_behind path) (walks rest)
 
 -- in the rest of a directory some component is bad exactly if one is in all of it
 pub record IsAsBad (all rest : Pairs) : Type 0 where

@@ -1,9 +1,10 @@
 //! The files of a file tree: their lengths and roots (BEP 52, "file tree"), and their attributes
 //! (BEP 47, "Extended File Attributes").
 
-ghost use Rattle.std.specs.Prelude.{◌≡◌, map, IfOk};
+ghost use Rattle.std.specs.Prelude.{◌≡◌, map, vec_len, IfOk};
+ghost use Rattle.std.specs.Vec.{vec_capacity};
 ghost use Rattle.benc.specs.View.{view};
-ghost use Rattle.filetree.specs.FileTree.{has_attribute, length_at, listed, root_at};
+ghost use Rattle.filetree.specs.FileTree.{file_of_walk, has_attribute, length_at, root_at};
 ghost use Rattle.filetree.specs.Walked.{walk_of};
 
 use crate::path::Path;
@@ -50,18 +51,20 @@ pub(crate) fn list<'a>(
     alloc: Global,
     files: Vec<Found<'_, 'a>>,
 ) -> Result<Vec<ListedFile<'a>>, AllocError>
-    ensures { IfOk result (λ fs. fs.items ≡ map listed (map walk_of files.entry.items)) }
+    ensures files { IfOk result
+        (λ fs. fs.items ≡ map file_of_walk (map walk_of files.entry.items)) }
+    ensures room { IfOk result (λ fs. vec_capacity fs ≡ vec_len fs) }
 {
     let mut listed = Vec::with_capacity(alloc, files.len())?;
     'files: for file in files {
-        listed.push(listed_file(file))?;
+        listed.push_reserved(listed_file(file));
     }
     Ok(listed)
 }
 
 // The file with its length and root.
 fn listed_file<'a>(file: Found<'_, 'a>) -> ListedFile<'a>
-    ensures { result ≡ listed (walk_of file.entry) }
+    ensures { result ≡ file_of_walk (walk_of file.entry) }
 {
     let Found { path, file } = file;
     let length = length(file).unwrap_or(0);

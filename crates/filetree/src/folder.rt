@@ -3,7 +3,8 @@
 ghost use Rattle.std.specs.Prelude.{◌≡◌, ◌+◌, ◌≤◌, ◌++◌, ◌∷◌, [], length, map, IfOk};
 ghost use Rattle.filetree.specs.Folders.{names_to, names_of};
 
-use crate::path::Parts;
+use crate::folder_name::FolderName;
+use crate::path::PathParts;
 use std::alloc::{AllocError, Global};
 use std::marker::Model;
 use std::sync::Arc;
@@ -12,7 +13,7 @@ use std::sync::Arc;
 #[derive(Debug, Drop)]
 struct TreeFolder {
     above: Option<Arc<TreeFolder>>,
-    name: String,
+    name: FolderName,
 }
 
 /// The folders from the torrent's root down to one of them. Contracts see them as their names.
@@ -43,7 +44,7 @@ impl Folders {
         ensures { IfOk result (λ f. f ≡ self.now ++ name.now ∷ []) }
     {
         let above = shared(&self.last)?;
-        let name = String::from_str(alloc, name)?;
+        let name = FolderName::of(alloc, name)?;
         let last = Arc::new(alloc, TreeFolder { above, name })?;
         Ok(Folders { last: Some(last) })
     }
@@ -58,7 +59,7 @@ impl Folders {
     }
 
     /// Puts their names at the end.
-    pub(crate) fn put<'p>(&'p self, parts: &mut Parts<'p>)
+    pub(crate) fn put<'p>(&'p self, parts: &mut PathParts<'p>)
         requires { length parts.old.items + length self.now ≤ 128 }
         ensures { map (λ s. s.now) parts.new.items ≡ map (λ s. s.now) parts.old.items ++ self.now }
     {
@@ -79,7 +80,7 @@ fn shared(last: &Option<Arc<TreeFolder>>) -> Result<Option<Arc<TreeFolder>>, All
 }
 
 // Puts the names down to this folder at the end.
-fn put<'p>(last: &'p TreeFolder, parts: &mut Parts<'p>)
+fn put<'p>(last: &'p TreeFolder, parts: &mut PathParts<'p>)
     requires { length parts.old.items + length (names_to last.now) ≤ 128 }
     ensures { map (λ s. s.now) parts.new.items
         ≡ map (λ s. s.now) parts.old.items ++ names_to last.now }

@@ -6,6 +6,7 @@ mod component;
 mod file_tests;
 mod files;
 mod folder;
+mod folder_name;
 pub mod laws;
 mod path;
 mod reading;
@@ -15,6 +16,6 @@ mod walk;
 
 pub use component::is_bad_component;
 pub use files::{ListedFile, has_attribute, length};
-pub use path::{Parts, Path};
+pub use path::{Path, PathParts};
 pub use reading::read_tree;
 pub use refusal::{Key, Refusal};

@@ -11,7 +11,7 @@ use std::marker::Model;
 pub(crate) const ROOM_OF_PARTS: usize = 128;
 
 /// The components of a path, from the torrent's root down.
-pub type Parts<'p> = ArrayVec<&'p str, ROOM_OF_PARTS>;
+pub type PathParts<'p> = ArrayVec<&'p str, ROOM_OF_PARTS>;
 
 /// A file's path below the torrent's root. Contracts see it as the list of its components.
 #[derive(Debug, Drop)]
@@ -40,10 +40,10 @@ impl<'a> Path<'a> {
     }
 
     /// The components. It takes no memory from the allocator.
-    pub fn parts(&self) -> Parts<'_>
+    pub fn parts(&self) -> PathParts<'_>
         ensures { map (λ s. s.now) result.items ≡ self.now }
     {
-        let mut parts = Parts::new();
+        let mut parts = PathParts::new();
         self.folders.put(&mut parts);
         parts.push(self.name);
         parts

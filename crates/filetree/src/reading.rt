@@ -1,8 +1,9 @@
 //! The files of a file tree.
 
-ghost use Rattle.std.specs.Prelude.{◌≡◌, map, IfErr};
+ghost use Rattle.std.specs.Prelude.{◌≡◌, map, vec_len, IfErr, IfOk};
+ghost use Rattle.std.specs.Vec.{vec_capacity};
 ghost use Rattle.benc.specs.View.{pairs_view};
-ghost use Rattle.filetree.specs.FileTree.{listed, walks};
+ghost use Rattle.filetree.specs.FileTree.{file_of_walk, walks};
 ghost use Rattle.filetree.specs.Paths.{FitsInTorrent};
 ghost use Rattle.filetree.specs.Tests.{NoneHolds, Passes, PassesUnlessNoMemory};
 ghost use Rattle.filetree.specs.TreeTests.{tree_rows};
@@ -27,10 +28,12 @@ use std::alloc::Global;
 pub fn read_tree<'a>(alloc: Global, tree: &[Pair<'a>]) -> Result<Vec<ListedFile<'a>>, Refusal>
     requires { FitsInTorrent (pairs_view tree.now) }
     ensures passes { PassesUnlessNoMemory (tree_rows (pairs_view tree.now))
-        (λ fs. fs.items ≡ map listed (walks (pairs_view tree.now))) result }
+        (λ fs. fs.items ≡ map file_of_walk (walks (pairs_view tree.now))) result }
     // All tests come before any memory is taken.
     ensures memory { IfErr result
         (λ r. r ≡ Refusal.NoMemory → NoneHolds (tree_rows (pairs_view tree.now))) }
+    // The list has room for its files alone.
+    ensures room { IfOk result (λ fs. vec_capacity fs ≡ vec_len fs) }
 {
     test_tree(tree)?;
     let mut found = Vec::new(alloc);

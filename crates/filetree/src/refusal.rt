@@ -27,11 +27,11 @@ pub enum Key {
 }
 
 impl Key {
-    ghost use Rattle.filetree.specs.Names.{key_text};
+    ghost use Rattle.filetree.specs.Names.{key_spelling};
 
     /// The key as a torrent file spells it, and `top` for the top value.
     pub fn text(self) -> &'static str
-        ensures { result.now ≡ key_text self }
+        ensures { result.now ≡ key_spelling self }
     {
         match self {
             Key::Top => "top",
@@ -174,9 +174,9 @@ impl Refusal {
 /// The number and the name, and what a fault of bencoding or a key adds, as it is printed.
 impl fmt::Display for Refusal {
     ghost use Rattle.std.specs.Prelude.{Some};
-    ghost use Rattle.filetree.specs.Names.{refusal_text};
+    ghost use Rattle.filetree.specs.Names.{refusal_words};
 
-    ghost output = { λ refusal. Some (refusal_text refusal) };
+    ghost output = { λ refusal. Some (refusal_words refusal) };
 
     fn fmt<W: fmt::Write>(&self, f: &mut fmt::Formatter<W>) -> fmt::Result {
         write!(f, "{} {}", self.number(), self.name())?;

@@ -6,7 +6,7 @@ use Rattle.std.specs.Option.{option_to_list}
 use Rattle.std.proofs.lemmas.List.{append-nil, drop_all, take_all, drop_more, take_more, take_more_set, take-set, drop-set, drop-set-lt, flat_map_more}
 use Rattle.std.proofs.lemmas.List.{get_or_default, take-append-drop}
 use Rattle.fixed_maps.proofs.Spots.{flat-split}
-use Rattle.fixed_maps.specs.Tiers.{Entry, TierSeen, flat, room_of, items_at, before_spot, after_spot, after_spot_but_one}
+use Rattle.fixed_maps.specs.Tiers.{Entry, TierSeen, flat, room_of, capacity_of, items_at, before_spot, after_spot, after_spot_but_one}
 
 pub flat-parts : (n : ℕ) (ts : List TierSeen) → flat (take n ts) ++ flat (drop n ts) ≡ flat ts
 flat-parts zero ts = refl
@@ -19,6 +19,10 @@ flat-push ts t = sym (flat_map_more (λ (s : TierSeen). s.items) [] ts t)
 pub room-push : (ts : List TierSeen) (t : TierSeen) → room_of (ts ++ t ∷ []) ≡ room_of ts + t.width
 room-push [] t = omega arith
 room-push (s ∷ ts) t = let rest = room-push ts t in omega (arith, rest)
+
+pub capacity-push : (ts : List TierSeen) (t : TierSeen) → capacity_of (ts ++ t ∷ []) ≡ capacity_of ts + t.capacity
+capacity-push [] t = omega arith
+capacity-push (s ∷ ts) t = let rest = capacity-push ts t in omega (arith, rest)
 
 pub room-set : (ts : List TierSeen) (a : ℕ) (d t' : TierSeen) → a < length ts → t'.width ≡ (get_or ts a d).width → room_of (set ts a t') ≡ room_of ts
 room-set [] a d t' lt same = absurd (omega (arith, lt))
@@ -86,8 +90,8 @@ step-out ts a b d t' lt gone =
 -- ---- in the words of the contracts
 
 module _ (ts : List TierSeen) (a b : ℕ) (d t' : TierSeen) (lt : a < length ts) where
-  default : get_or ts a d ≡ get_or ts a (record { items = []; width = 0 })
-  default = get_or_default ts a d (record { items = []; width = 0 }) lt
+  default : get_or ts a d ≡ get_or ts a (record { items = []; width = 0; capacity = 0 })
+  default = get_or_default ts a d (record { items = []; width = 0; capacity = 0 }) lt
 
   next : a + 1 ≡ suc a
   next = omega arith

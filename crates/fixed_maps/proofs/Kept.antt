@@ -11,7 +11,7 @@ use Rattle.node_maps.proofs.Known.{place_total, place_exact}
 use Rattle.std.specs.FinMap.{FinMap, from_sorted, get, insert, remove, len, empty, empty_of_len, entries-from_sorted, len-entries}
 use Rattle.std.proofs.lemmas.List.{append-nil, drop_all, take-append-drop, length-drop, take_at}
 use Rattle.node_maps.specs.Known.{place_cmp}
-use Rattle.fixed_maps.specs.Tiers.{Entry, TierSeen, AreBelow, AreFrom, AreRising, IsPlaceOf, IsSpotOf, flat, items_at, before_spot, after_spot}
+use Rattle.fixed_maps.specs.Tiers.{Entry, TierSeen, AreBelow, AreFrom, AreRising, IsPlaceOfKey, IsSpotOf, flat, items_at, before_spot, after_spot}
 use Rattle.fixed_maps.specs.Tiers.{after_spot_but_one}
 use Rattle.std.specs.FinMap.Entries.{below_all}
 use Rattle.fixed_maps.proofs.Rising.{first-holds, second-holds, less}

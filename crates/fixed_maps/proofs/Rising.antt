@@ -8,7 +8,7 @@ use Rattle.std.specs.FinMap.Entries.{below_all, is_sorted}
 use Rattle.node_maps.specs.Known.{place_cmp}
 use Rattle.node_maps.proofs.Known.{place_total}
 use Rattle.std.proofs.lemmas.List.{drop_all}
-use Rattle.fixed_maps.specs.Tiers.{Entry, AreBelow, AreFrom, AreRising, IsPlaceOf}
+use Rattle.fixed_maps.specs.Tiers.{Entry, AreBelow, AreFrom, AreRising, IsPlaceOfKey}
 
 pub first-holds : (a b : Bool) → T (a && b) → T a
 first-holds true b p = tt
@@ -70,7 +70,7 @@ from-at k (e ∷ es) (suc i) d s lt h = from-at k es i d (second-holds _ _ s) (o
 
 -- past the last entry, if it is below k
 pub all-below : (k : ℕ × ℕ) (es : List Entry) (n : ℕ) (d : Entry) → AreRising es → n ≡ length es → 0 < n
-    → place_cmp (get_or es (n - 1) d).0 k ≡ Less → IsPlaceOf k (take n es) (drop n es)
+    → place_cmp (get_or es (n - 1) d).0 k ≡ Less → IsPlaceOfKey k (take n es) (drop n es)
 all-below k es n d s is some h =
     let whole : suc (n - 1) ≡ n = omega (arith, some) in
     record {

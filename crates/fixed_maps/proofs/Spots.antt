@@ -4,7 +4,7 @@ use Rattle.std.proofs.Common.{subst, arith, append_assoc}
 use Rattle.std.specs.FinMap.Entries.{below_all}
 use Rattle.std.proofs.lemmas.List.{append-nil, drop_all, get_or_default, length-drop, take-append-drop}
 use Rattle.node_maps.specs.Known.{place_cmp}
-use Rattle.fixed_maps.specs.Tiers.{Entry, TierSeen, AreBelow, AreFrom, AreRising, IsPlaceOf, IsSpotOf, flat, items_at}
+use Rattle.fixed_maps.specs.Tiers.{Entry, TierSeen, AreBelow, AreFrom, AreRising, IsPlaceOfKey, IsSpotOf, flat, items_at}
 use Rattle.fixed_maps.proofs.Rising.{first-holds, second-holds, both-hold, from-head}
 
 -- ---- lists of entries
@@ -37,7 +37,7 @@ flat-split (t ∷ ts) zero lt = refl
 flat-split (t ∷ ts) (suc a) lt = ap (λ es. t.items ++ es) (flat-split ts a (omega (arith, lt))) ∙ sym (append_assoc t.items (flat (take a ts)) _)
 
 pub read-items : (ts : List TierSeen) (a : ℕ) (t : TierSeen) → a < length ts → t ≡ get_or ts a t → t.items ≡ items_at ts a
-read-items ts a t lt is = ap (λ (s : TierSeen). s.items) (is ∙ get_or_default ts a t (record { items = []; width = 0 }) lt)
+read-items ts a t lt is = ap (λ (s : TierSeen). s.items) (is ∙ get_or_default ts a t (record { items = []; width = 0; capacity = 0 }) lt)
 
 module _ (ts : List TierSeen) (a : ℕ) (lt : a < length ts) (rising : AreRising (flat ts)) where
   rest-rising : AreRising (items_at ts a ++ flat (drop (suc a) ts))
@@ -47,7 +47,7 @@ module _ (ts : List TierSeen) (a : ℕ) (lt : a < length ts) (rising : AreRising
   tier-rising t is = subst AreRising (sym (read-items ts a t lt is)) (rising-left (items_at ts a) _ rest-rising)
 
   module _ (k : ℕ × ℕ) (b : ℕ) (inside : b ≤ length (items_at ts a)) (below : AreBelow k (flat (take a ts)))
-      (place : IsPlaceOf k (take b (items_at ts a)) (drop b (items_at ts a))) where
+      (place : IsPlaceOfKey k (take b (items_at ts a)) (drop b (items_at ts a))) where
     from-spot : (b < length (items_at ts a)) ⊎ (suc a ≡ length ts) → AreFrom k (drop b (items_at ts a) ++ flat (drop (suc a) ts))
     from-spot (inl low) =
         let parts = take-append-drop b (items_at ts a) in
@@ -68,10 +68,10 @@ module _ (ts : List TierSeen) (a : ℕ) (lt : a < length ts) (rising : AreRising
 
 -- the place in a tier that was read
 pub spot-read : (k : ℕ × ℕ) (ts : List TierSeen) (a b : ℕ) (t : TierSeen) → a < length ts → AreRising (flat ts) → t ≡ get_or ts a t
-    → b ≤ length t.items → AreBelow k (flat (take a ts)) → IsPlaceOf k (take b t.items) (drop b t.items)
+    → b ≤ length t.items → AreBelow k (flat (take a ts)) → IsPlaceOfKey k (take b t.items) (drop b t.items)
     → (b < length t.items) ⊎ (suc a ≡ length ts) → IsSpotOf k ts a b
 spot-read k ts a b t lt rising is inside below place where' =
     let same = read-items ts a t lt is in
     is-spot ts a lt rising k b (subst (λ (es : List Entry). b ≤ length es) same inside) below
-    (subst (λ (es : List Entry). IsPlaceOf k (take b es) (drop b es)) same place)
+    (subst (λ (es : List Entry). IsPlaceOfKey k (take b es) (drop b es)) same place)
     (subst (λ (es : List Entry). (b < length es) ⊎ (suc a ≡ length ts)) same where')

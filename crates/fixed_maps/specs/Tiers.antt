@@ -10,10 +10,11 @@ use Rattle.node_maps.specs.Known.{place_cmp}
 abbrev pub Entry : Type 0
 Entry = (ℕ × ℕ) × (ℕ × ℕ)
 
--- the entries of one tier, and how many there may be
+-- the entries of one tier, how many there may be, and for how many there is memory
 pub record TierSeen : Type 0 where
   pub items : List Entry
   pub width : ℕ
+  pub capacity : ℕ
 
 -- the entries of all tiers, one after the other
 abbrev pub flat : List TierSeen → List Entry
@@ -23,6 +24,11 @@ flat = flat_map (λ t. t.items)
 abbrev pub room_of : List TierSeen → ℕ
 room_of [] = 0
 room_of (t ∷ ts) = t.width + room_of ts
+
+-- for how many there is memory
+abbrev pub capacity_of : List TierSeen → ℕ
+capacity_of [] = 0
+capacity_of (t ∷ ts) = t.capacity + capacity_of ts
 
 -- each key is below k
 abbrev pub AreBelow : ℕ × ℕ → List Entry → Type 0
@@ -38,7 +44,7 @@ AreRising es = T (is_sorted place_cmp es)
 
 -- the entries of tier i
 abbrev pub items_at : List TierSeen → ℕ → List Entry
-items_at ts i = (slice_index_or ts i (record { items = []; width = 0 })).items
+items_at ts i = (slice_index_or ts i (record { items = []; width = 0; capacity = 0 })).items
 
 -- the entries before a place: those of the tiers before tier a, and b of its own
 abbrev pub before_spot : List TierSeen → ℕ → ℕ → List Entry
@@ -53,7 +59,7 @@ abbrev pub after_spot_but_one : List TierSeen → ℕ → ℕ → List Entry
 after_spot_but_one ts a b = drop (suc b) (items_at ts a) ++ flat (drop (suc a) ts)
 
 -- the place of a key: the keys before it are below k, and those from it on are not
-pub record IsPlaceOf (k : ℕ × ℕ) (before after : List Entry) : Type 0 where
+pub record IsPlaceOfKey (k : ℕ × ℕ) (before after : List Entry) : Type 0 where
   pub below : AreBelow k before
   pub from : AreFrom k after
 
@@ -63,4 +69,4 @@ pub record IsSpotOf (k : ℕ × ℕ) (ts : List TierSeen) (a b : ℕ) : Type 0 w
   pub tier : a < length ts
   pub place : b ≤ length (items_at ts a)
   pub here : (b < length (items_at ts a)) ⊎ (suc a ≡ length ts)
-  pub is_place : IsPlaceOf k (before_spot ts a b) (after_spot ts a b)
+  pub is_place : IsPlaceOfKey k (before_spot ts a b) (after_spot ts a b)

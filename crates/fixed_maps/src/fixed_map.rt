@@ -1,10 +1,10 @@
 //! An ordered map with room for a number of entries.
 
-ghost use Rattle.std.specs.Prelude.{◌≡◌, ℕ, ◌*◌, ◌^◌, ◌<◌, ◌≤◌, [], IfOk, IfSome, IfNone, Some, None, true, false, length, slice_get};
+ghost use Rattle.std.specs.Prelude.{◌≡◌, ℕ, ◌*◌, ◌^◌, ◌<◌, ◌≤◌, [], IfOk, IfSome, IfNone, Some, None, true, false, length, slice_get, vec_capacity};
 ghost use Rattle.std.specs.FinMap.{empty, get, insert, len, remove};
 ghost use Rattle.std.specs.Ordering.{is_lt};
 ghost use Rattle.node_maps.specs.Known.{place_cmp};
-ghost use Rattle.fixed_maps.specs.Tiers.{AreRising, flat, items_at, room_of};
+ghost use Rattle.fixed_maps.specs.Tiers.{AreRising, capacity_of, flat, items_at, room_of};
 
 use crate::entry::{Key, Value};
 use crate::spot::spot_of;
@@ -28,6 +28,7 @@ pub struct FixedMap {
 }
 
 impl Model for FixedMap {
+    ghost use Rattle.std.specs.Vec.{vec_capacity};
     ghost use Rattle.fixed_maps.specs.FixedMaps.{FixedMapSeen, IsFixedMap, fixed_map_code};
 
     ghost Value = { FixedMapSeen };
@@ -36,18 +37,21 @@ impl Model for FixedMap {
 
     ghost view = { λ m. record { tiers = m.tiers.items } };
 
-    ghost invariant = { λ m. IsFixedMap m.tiers.items m.len };
+    ghost invariant = { λ m. IsFixedMap m.tiers.items m.len (vec_capacity m.tiers) };
 }
 
 impl FixedMap {
-    ghost use Rattle.fixed_maps.specs.FixedMaps.{map_of, map_room};
+    ghost use Rattle.fixed_maps.specs.FixedMaps.{map_of, map_capacity, map_room, most_room};
 
-    /// No entries, and room for at least this many. It fails if memory is refused. Memory that is
-    /// asked for is not written before entries come. Condition: the room is 2^32 at most.
+    /// No entries, and room for at least this many, and for 4,096 and a 4,096th more at most. It
+    /// fails if memory is refused. Memory that is asked for is not written before entries come.
+    /// Condition: the room is 2^32 at most.
     pub fn new(alloc: Global, room: usize) -> Result<FixedMap, NoMemory>
         requires { room ≤ 2 ^ 32 }
         ensures none { IfOk result (λ m. map_of m ≡ empty) }
         ensures room { IfOk result (λ m. room ≤ map_room m) }
+        ensures most { IfOk result (λ m. map_room m ≤ most_room room) }
+        ensures memory { IfOk result (λ m. map_capacity m ≡ map_room m) }
     {
         let width = WIDTH.max(room / WIDTH).min(room).max(1);
         let count = room / width + 1;
@@ -146,12 +150,14 @@ impl FixedMap {
     }
 }
 
-// Tiers with no entries, and room for this many in each.
+// Tiers with no entries, and room for this many in each and memory for no more.
 fn tiers_of(alloc: Global, count: usize, width: usize) -> Result<Vec<Tier>, NoMemory>
     requires { 0 < width }
     ensures count { IfOk result (λ ts. length ts.items ≡ count) }
     ensures none { IfOk result (λ ts. flat ts.items ≡ []) }
     ensures room { IfOk result (λ ts. room_of ts.items ≡ count * width) }
+    ensures memory { IfOk result (λ ts. capacity_of ts.items ≡ room_of ts.items) }
+    ensures exact { IfOk result (λ ts. vec_capacity ts ≡ count) }
 {
     let mut tiers = Vec::with_capacity(alloc, count)?;
     'each: for _i in 0..count {

@@ -5,7 +5,7 @@ ghost use Rattle.std.specs.List.{insert, remove};
 ghost use Rattle.std.specs.Option.{option_to_list};
 ghost use Rattle.std.specs.Ordering.{is_lt};
 ghost use Rattle.node_maps.specs.Known.{place_cmp};
-ghost use Rattle.fixed_maps.specs.Tiers.{AreRising, IsPlaceOf};
+ghost use Rattle.fixed_maps.specs.Tiers.{AreRising, IsPlaceOfKey};
 
 use crate::entry::{Entry, Key};
 use hashtree::NoMemory;
@@ -28,19 +28,24 @@ impl Model for Tier {
 
     ghost Value = { TierSeen };
 
-    ghost view = { λ t. record { items = t.entries.items; width = t.width } };
+    ghost view = { λ t. record {
+      items = t.entries.items;
+      width = t.width;
+      capacity = deque_capacity t.entries;
+    } };
 
     ghost invariant = { λ t. (0 < t.width) × (deque_len t.entries ≤ t.width)
         × (t.width ≤ deque_capacity t.entries) };
 }
 
 impl Tier {
-    /// No entries, and room for this many. It fails if memory is refused. Condition: it is at least
-    /// one.
+    /// No entries, and room for this many, for which alone memory is asked. It fails if memory is
+    /// refused. Condition: it is at least one.
     pub(crate) fn new(alloc: Global, width: usize) -> Result<Tier, NoMemory>
         requires { 0 < width }
         ensures none { IfOk result (λ t. t.items ≡ []) }
         ensures width { IfOk result (λ t. t.width ≡ width) }
+        ensures memory { IfOk result (λ t. t.capacity ≡ width) }
     {
         let entries = VecDeque::with_capacity(alloc, width)?;
         Ok(Tier { entries, width })
@@ -64,7 +69,7 @@ impl Tier {
     pub(crate) fn place_of(&self, key: Key) -> usize
         requires { AreRising self.now.items }
         ensures inside { result ≤ length self.now.items }
-        ensures place { IsPlaceOf key (take result self.now.items) (drop result self.now.items) }
+        ensures place { IsPlaceOfKey key (take result self.now.items) (drop result self.now.items) }
     {
         match self.entries.back() {
             None => 0,
@@ -121,7 +126,7 @@ impl Tier {
 fn place_in(entries: &VecDeque<Entry>, key: Key) -> usize
     requires { AreRising entries.now.items }
     ensures inside { result ≤ length entries.now.items }
-    ensures place { IsPlaceOf key (take result entries.now.items)
+    ensures place { IsPlaceOfKey key (take result entries.now.items)
         (drop result entries.now.items) }
 {
     let mut low = 0;

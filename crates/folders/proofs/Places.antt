@@ -12,7 +12,7 @@ use Rattle.opening.specs.Description.{Description, FileEntry}
 use Rattle.opening.specs.Sound.{IsSound, IsSoundFile}
 use Rattle.pieces.specs.Pieces.{pieces_of}
 use Rattle.pieces.proofs.Cutting.{pieces_cover}
-use Rattle.folders.specs.Folder.{start_of, tree_entry_of}
+use Rattle.folders.specs.Folder.{stream_start_of, tree_entry_of}
 
 -- how many pieces the first n files have
 abbrev pub pieces_before : Description → ℕ → ℕ
@@ -22,7 +22,7 @@ pieces_before t n = sum_by (λ g. pieces_of t.piece_length g.length) (take n t.f
 abbrev pub place_before : Description → ℕ → ℕ
 place_before t n = pieces_before t n * t.piece_length
 
-pub start_is : (t : Description) (n : ℕ) (f : FileEntry) → IsSound t → slice_get t.files n ≡ Some f → start_of t f ≡ place_before t n
+pub start_is : (t : Description) (n : ℕ) (f : FileEntry) → IsSound t → slice_get t.files n ≡ Some f → stream_start_of t f ≡ place_before t n
 start_is t n f sound is = ap (λ k. k * t.piece_length) (sound.laid_out.first_pieces n f is)
 
 pub pieces_next : (t : Description) (n : ℕ) (f : FileEntry) → slice_get t.files n ≡ Some f
@@ -33,7 +33,7 @@ pieces_next t n f is =
 
 -- a file ends before the next begins
 pub ends_before_next : (t : Description) (n : ℕ) (f : FileEntry) → IsSound t → 0 < t.piece_length → slice_get t.files n ≡ Some f
-    → start_of t f + f.length ≤ place_before t (n + 1)
+    → stream_start_of t f + f.length ≤ place_before t (n + 1)
 ends_before_next t n f sound some is =
     let next : place_before t (n + 1) ≡ (pieces_before t n + pieces_of t.piece_length f.length) * t.piece_length =
     ap (λ k. k * t.piece_length) (pieces_next t n f is) in

@@ -6,13 +6,13 @@ use Rattle.std.proofs.lemmas.List.{get_or_append_left, get_or-append_right, get_
 use Rattle.std.proofs.lemmas.Option.{same_Some, slice_get_within}
 use Rattle.std.proofs.lemmas.Bool.{cases_lt}
 use Rattle.opening.specs.Description.{Description, FileEntry}
-use Rattle.folders.specs.Folder.{Contents, Covers, IsStream, start_of}
+use Rattle.folders.specs.Folder.{Contents, Covers, IsStream, stream_start_of}
 use Rattle.chains.proofs.Cases.{last_or_before}
 
 -- this prefix of the stream holds each of the first n files that is not empty, and zeros elsewhere
 pub record IsStreamPrefix (t : Description) (contents : Contents) (n : ℕ) (front : List ℕ) : Type 0 where
   pub file_at : (k : ℕ) → k < n → (f : FileEntry) (bytes : List ℕ) → slice_get t.files k ≡ Some f → contents k ≡ Some bytes → 0 < length bytes
-      → take (length bytes) (drop (start_of t f) front) ≡ bytes
+      → take (length bytes) (drop (stream_start_of t f) front) ≡ bytes
   pub zeros : (i : ℕ) → i < length front → (Covers t contents i → ⊥) → get_or front i 0 ≡ 0
 
 pub prefix_none : (t : Description) (contents : Contents) → IsStreamPrefix t contents 0 []
@@ -35,7 +35,8 @@ file_stays front more bytes start some is =
 pub prefix_zeros : (t : Description) (contents : Contents) (n : ℕ) (front : List ℕ) (m : ℕ) → IsStreamPrefix t contents n front
     → IsStreamPrefix t contents n (front ++ replicate m 0)
 prefix_zeros t contents n front m so_far = record {
-  file_at = λ k lt f bytes there content some. file_stays front (replicate m 0) bytes (start_of t f) some (so_far.file_at k lt f bytes there content some);
+  file_at =
+      λ k lt f bytes there content some. file_stays front (replicate m 0) bytes (stream_start_of t f) some (so_far.file_at k lt f bytes there content some);
   zeros = λ i lt uncovered. elim (cases_lt i (length front)) [
     | inl before ↦ get_or_append_left front (replicate m 0) 0 i before ∙ so_far.zeros i before uncovered
     | inr after ↦ get_or-append_right front (replicate m 0) (length front) i 0 refl after
@@ -45,16 +46,16 @@ prefix_zeros t contents n front m so_far = record {
 
 -- the next file follows, at its start
 pub prefix_file : (t : Description) (contents : Contents) (n : ℕ) (front : List ℕ) (f : FileEntry) (bytes : List ℕ)
-    → IsStreamPrefix t contents n front → slice_get t.files n ≡ Some f → contents n ≡ Some bytes → length front ≡ start_of t f
+    → IsStreamPrefix t contents n front → slice_get t.files n ≡ Some f → contents n ≡ Some bytes → length front ≡ stream_start_of t f
     → IsStreamPrefix t contents (n + 1) (front ++ bytes)
 prefix_file t contents n front f bytes so_far is content at = record {
   file_at = λ k lt g others there its some. elim (last_or_before k n lt) [
-    | inl before ↦ file_stays front bytes others (start_of t g) some (so_far.file_at k before g others there its some)
+    | inl before ↦ file_stays front bytes others (stream_start_of t g) some (so_far.file_at k before g others there its some)
     | inr last ↦
         let same : f ≡ g = same_Some f g (sym is ∙ ap (slice_get t.files) (sym last) ∙ there) in
         let same_bytes : bytes ≡ others = same_Some bytes others (sym content ∙ ap contents (sym last) ∙ its) in
-        ap (λ h. take (length others) (drop (start_of t h) (front ++ bytes))) (sym same)
-        ∙ ap (take (length others)) (drop_at front bytes (start_of t f) at)
+        ap (λ h. take (length others) (drop (stream_start_of t h) (front ++ bytes))) (sym same)
+        ∙ ap (take (length others)) (drop_at front bytes (stream_start_of t f) at)
         ∙ ap (λ b. take (length b) bytes) (sym same_bytes)
         ∙ take_all (length bytes) bytes (omega arith)
         ∙ same_bytes

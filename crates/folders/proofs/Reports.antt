@@ -88,7 +88,7 @@ good_length t n f bytes sound there good = by_length f.length refl
     by_length zero is = ap length (good.empty is) ∙ sym is
     by_length (suc len) is =
         let fits = good.fits (omega arith) in
-        fits.2.length_is ∙ (has_tree t n f fits.0 sound there fits.1).0
+        fits.2.same_length ∙ (has_tree t n f fits.0 sound there fits.1).0
 
 -- its root is not another
 pub not_bad : (t : Description) (n : ℕ) (f : FileEntry) (bytes : List ℕ) (p : ℕ) → IsSound t → slice_get t.files n ≡ Some f → IsGoodFile t f bytes
@@ -96,7 +96,7 @@ pub not_bad : (t : Description) (n : ℕ) (f : FileEntry) (bytes : List ℕ) (p 
 not_bad t n f bytes p sound there good bad =
     let fits = good.fits (has_tree t n f bad.tree sound there bad.tree_is).1 in
     let same : fits.0 ≡ bad.tree = same_Some fits.0 bad.tree (sym fits.1 ∙ bad.tree_is) in
-    bad.root_differs (fits.2.root_is ∙ ap (λ e. e.root) same)
+    bad.root_differs (fits.2.same_root ∙ ap (λ e. e.root) same)
 
 no_other : (t : Description) (n : ℕ) (f : FileEntry) (content : Option (List ℕ)) (bytes : List ℕ) (v : FileVerdict) → IsSound t → slice_get t.files n ≡ Some f
     → content ≡ Some bytes → IsGoodFile t f bytes → is_unreadable v ≡ false → IsVerdict t f content v → is_good v ≡ true

@@ -13,7 +13,7 @@ use Rattle.lines.specs.Rows.{Row}
 use Rattle.lines.specs.Table.{refusal_row, root_row}
 use Rattle.lines.specs.Texts.{items_text, text_of}
 use Rattle.folders.specs.Root.{EndsRootLine, IsFileOfSource, content_line, root_line_as, root_line_of, root_row_of}
-use Rattle.folders.specs.Reading.{IsRoot}
+use Rattle.folders.specs.Reading.{IsFileRoot}
 use Rattle.folders.specs.declared.root.RootFault.{RootFault}
 use Rattle.hashtree.specs.RootBuilder.{EndsWith, Feeds, IsFed, byte_count}
 use Rattle.hashtree.specs.declared.root.RootBuilder.{RootBuilder}
@@ -30,7 +30,7 @@ pub row_empty : (file : List ℕ) → file ≡ [] → root_row_of file ≡ root_
 unfolding root_row_of
 row_empty file e = ap root_row_of e
 
-pub row_root : (file : List ℕ) (len : ℕ) (root : List ℕ) → IsRoot file len root → root_row_of file ≡ root_row len (Some root)
+pub row_root : (file : List ℕ) (len : ℕ) (root : List ℕ) → IsFileRoot file len root → root_row_of file ≡ root_row len (Some root)
 unfolding root_row_of
 row_root [] len root is = absurd (omega (arith, is.some))
 row_root (b ∷ bs) len root is =
@@ -118,7 +118,7 @@ empty_read old new before after count read none = (
 pub root_read : (old new : SourceSeen) (before after : RootBuilder) (count len : ℕ) (root : List ℕ)
     → TookAll Feeds old new (2 ^ 46) before after count → (count ≡ 0 → ⊥) → byte_count before ≡ 0 → IsFed before []
     → len ≡ byte_count after → EndsWith after len root
-    → (file : List ℕ) × IsFileOfSource old new file × IsRoot file len root
+    → (file : List ℕ) × IsFileOfSource old new file × IsFileRoot file len root
 root_read old new before after count len root read some fresh fed len_is ends = (
   read.bytes,
   record {

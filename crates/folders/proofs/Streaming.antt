@@ -5,7 +5,7 @@ use Rattle.std.proofs.lemmas.List.{ext_get_or, get_or-take, get_or-drop}
 use Rattle.std.proofs.lemmas.Option.{same_Some, slice_get_within, none-some}
 use Rattle.std.proofs.lemmas.Bool.{cases_lt}
 use Rattle.opening.specs.Description.{Description, FileEntry}
-use Rattle.folders.specs.Folder.{Contents, Covers, IsStream, start_of}
+use Rattle.folders.specs.Folder.{Contents, Covers, IsStream, stream_start_of}
 use Rattle.chains.proofs.Cases.{last_or_before}
 
 -- file n covers this byte, or it does not
@@ -19,11 +19,11 @@ here_or_not t contents i n (Some f) is = content_covers (contents n) refl
 
     content_covers : (o : Option (List ℕ)) → contents n ≡ o → ((c : Covers t contents i) × (c.number ≡ n)) ⊎ ((c : Covers t contents i) → c.number ≡ n → ⊥)
     content_covers None content = inr (λ c at. none-some c.bytes (sym content ∙ ap contents (sym at) ∙ c.content))
-    content_covers (Some bytes) content = elim (cases_lt i (start_of t f)) [
-      | inl past ↦ inr (λ c at. let s : start_of t f ≡ start_of t c.file = ap (start_of t) (same_file c at) in omega (arith, c.from, s))
-      | inr from ↦ elim (cases_lt i (start_of t f + length bytes)) [
+    content_covers (Some bytes) content = elim (cases_lt i (stream_start_of t f)) [
+      | inl past ↦ inr (λ c at. let s : stream_start_of t f ≡ stream_start_of t c.file = ap (stream_start_of t) (same_file c at) in omega (arith, c.from, s))
+      | inr from ↦ elim (cases_lt i (stream_start_of t f + length bytes)) [
         | inr past ↦ inr (λ c at.
-            let s : start_of t f ≡ start_of t c.file = ap (start_of t) (same_file c at) in
+            let s : stream_start_of t f ≡ stream_start_of t c.file = ap (stream_start_of t) (same_file c at) in
             let b : bytes ≡ c.bytes = same_Some bytes c.bytes (sym content ∙ ap contents (sym at) ∙ c.content) in
             omega (arith, c.to, s, ap length b))
         | inl to ↦ inl (record { number = n; file = f; bytes = bytes; there = is; content = content; from = from; to = to }, refl)
@@ -43,14 +43,14 @@ covered_or_not t contents i (suc n) = elim (covered_or_not t contents i n) [
 
 -- a covered byte is the file's
 covered_byte : (t : Description) (contents : Contents) (total : ℕ) (stream : List ℕ) (i : ℕ) → IsStream t contents total stream → (c : Covers t contents i)
-    → get_or stream i 0 ≡ get_or c.bytes (i - start_of t c.file) 0
+    → get_or stream i 0 ≡ get_or c.bytes (i - stream_start_of t c.file) 0
 covered_byte t contents total stream i is c =
-    let at : start_of t c.file + (i - start_of t c.file) ≡ i = omega (arith, c.from) in
-    let inside : i - start_of t c.file < length c.bytes = omega (arith, c.from, c.to) in
+    let at : stream_start_of t c.file + (i - stream_start_of t c.file) ≡ i = omega (arith, c.from) in
+    let inside : i - stream_start_of t c.file < length c.bytes = omega (arith, c.from, c.to) in
     ap (λ k. get_or stream k 0) (sym at)
-    ∙ sym (get_or-drop (start_of t c.file) stream (i - start_of t c.file) 0)
-    ∙ sym (get_or-take (length c.bytes) (drop (start_of t c.file) stream) (i - start_of t c.file) 0 inside)
-    ∙ ap (λ b. get_or b (i - start_of t c.file) 0) (is.file_at c.number c.file c.bytes c.there c.content (omega arith))
+    ∙ sym (get_or-drop (stream_start_of t c.file) stream (i - stream_start_of t c.file) 0)
+    ∙ sym (get_or-take (length c.bytes) (drop (stream_start_of t c.file) stream) (i - stream_start_of t c.file) 0 inside)
+    ∙ ap (λ b. get_or b (i - stream_start_of t c.file) 0) (is.file_at c.number c.file c.bytes c.there c.content (omega arith))
 
 pub one_stream : (t : Description) (contents : Contents) (total : ℕ) (a b : List ℕ) → IsStream t contents total a → IsStream t contents total b → a ≡ b
 one_stream t contents total a b one other =

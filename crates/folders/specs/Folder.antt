@@ -1,6 +1,6 @@
 -- What it means that a folder holds a torrent's files (BEP 52; for a hybrid BEP 3 and BEP 47 too).
 use Rattle.std.specs.Prelude.{◌≡◌, ℕ, ◌+◌, ◌*◌, ◌<◌, ◌≤◌, List, [], length, take, drop, slice_index, slice_get, Option, Some, option_and_then}
-use Rattle.hashtree.specs.Tree.{root_of}
+use Rattle.hashtree.specs.Tree.{Fits}
 use Rattle.opening.specs.Description.{Description, FileEntry, TreeEntry, Version1}
 use Rattle.pieces.specs.Cuts.{cut_digests}
 
@@ -12,19 +12,15 @@ Contents = ℕ → Option (List ℕ)
 abbrev pub tree_entry_of : Description → FileEntry → Option TreeEntry
 tree_entry_of t f = option_and_then (slice_get t.trees) f.tree
 
--- these bytes fit the tree: they have its length, and the tree over their leaves has its root
-pub record FitsTree (e : TreeEntry) (bytes : List ℕ) : Type 0 where
-  pub length_is : length bytes ≡ e.length
-  pub root_is : root_of bytes ≡ e.root
-
 -- these bytes are the file: none if its length is 0, else bytes that fit its tree
 pub record IsGoodFile (t : Description) (f : FileEntry) (bytes : List ℕ) : Type 0 where
   pub empty : f.length ≡ 0 → bytes ≡ []
-  pub fits : 0 < f.length → (e : TreeEntry) × (tree_entry_of t f ≡ Some e) × FitsTree e bytes
+  pub fits : 0 < f.length
+      → (e : TreeEntry) × (tree_entry_of t f ≡ Some e) × Fits bytes e.length e.root
 
 -- where the file begins in the version 1 stream: at its first piece
-abbrev pub start_of : Description → FileEntry → ℕ
-start_of t f = f.first_piece * t.piece_length
+abbrev pub stream_start_of : Description → FileEntry → ℕ
+stream_start_of t f = f.first_piece * t.piece_length
 
 -- a file with this content covers this byte of the version 1 stream
 pub record Covers (t : Description) (contents : Contents) (i : ℕ) : Type 0 where
@@ -33,12 +29,12 @@ pub record Covers (t : Description) (contents : Contents) (i : ℕ) : Type 0 whe
   pub bytes : List ℕ
   pub there : slice_get t.files number ≡ Some file
   pub content : contents number ≡ Some bytes
-  pub from : start_of t file ≤ i
-  pub to : i < start_of t file + length bytes
+  pub from : stream_start_of t file ≤ i
+  pub to : i < stream_start_of t file + length bytes
 
 -- this part of the stream is a file's, at its start
 abbrev pub StandsInStream : Description → FileEntry → List ℕ → List ℕ → Type 0
-StandsInStream t f bytes stream = take (length bytes) (drop (start_of t f) stream) ≡ bytes
+StandsInStream t f bytes stream = take (length bytes) (drop (stream_start_of t f) stream) ≡ bytes
 
 -- the version 1 stream: as long as stated, each file that is not empty at its start, and zeros
 -- elsewhere
@@ -58,6 +54,6 @@ V1Good t v contents =
 -- the folder is good: each file has a content, which is the file; and for a hybrid the version 1
 -- pieces are good
 pub record GoodFolder (t : Description) (contents : Contents) : Type 0 where
-  pub files : (n : ℕ) (f : FileEntry) → slice_get t.files n ≡ Some f
-      → (bytes : List ℕ) × (contents n ≡ Some bytes) × IsGoodFile t f bytes
-  pub version1 : (v : Version1) → t.v1 ≡ Some v → V1Good t v contents
+  pub files : (file : ℕ) (entry : FileEntry) → slice_get t.files file ≡ Some entry
+      → (bytes : List ℕ) × (contents file ≡ Some bytes) × IsGoodFile t entry bytes
+  pub version1 : (part : Version1) → t.v1 ≡ Some part → V1Good t part contents

@@ -37,8 +37,8 @@ seen_of s = record {
 }
 
 -- what stands on it, all of which is known
-abbrev pub contents_of : MemShelfSeen → ShelfContents
-contents_of s = record {
+abbrev pub shelf_contents_of : MemShelfSeen → ShelfContents
+shelf_contents_of s = record {
   under = λ p. Some (content_under s.files p);
   listing = Some (listing_of s.files s.has_odd_name s.specials);
 }
@@ -89,6 +89,6 @@ ListsInTurn turn (Err fault.NoMemory) = turn ≢ Some 0
 pub record Lists (s : MemShelfSeen) (answer : Result (Vec (Vec (String Global))) ShelfFault)
     (s' : MemShelfSeen) : Type 0 where
   pub fails : ListsInTurn s.before_fault answer
-  pub listed : IsListed (contents_of s).listing answer
+  pub listed : IsListed (shelf_contents_of s).listing answer
   pub counts : CountsListing s.faults s'.faults answer
   pub stays : s' ≡ record s { before_fault = after_call s.before_fault; faults = s'.faults }

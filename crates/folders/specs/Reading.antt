@@ -5,7 +5,7 @@ use Rattle.folders.specs.declared.root.Reading.{Reading}
 use Rattle.folders.specs.declared.root.Reading.TheVariants.{Empty, Root, TooLong}
 
 -- the length and the root of a file
-pub record IsRoot (file : List ℕ) (len : ℕ) (root : List ℕ) : Type 0 where
+pub record IsFileRoot (file : List ℕ) (len : ℕ) (root : List ℕ) : Type 0 where
   pub some : 0 < length file
   pub bound : length file ≤ 2 ^ 46
   pub length_is : len ≡ length file
@@ -14,5 +14,5 @@ pub record IsRoot (file : List ℕ) (len : ℕ) (root : List ℕ) : Type 0 where
 -- this is what is reported of the file
 abbrev pub IsReadingOf : List ℕ → Reading → Type 0
 IsReadingOf file Empty = file ≡ []
-IsReadingOf file (Root len root) = IsRoot file len root
+IsReadingOf file (Root len root) = IsFileRoot file len root
 IsReadingOf file TooLong = 2 ^ 46 < length file

@@ -7,7 +7,7 @@ use Rattle.wire.specs.Reading.{Gave}
 use Rattle.hashtree.specs.Tree.{root_of}
 use Rattle.hashtree.specs.Bits.{AreClear}
 use Rattle.hashtree.specs.Judging.{IsJudgedRow}
-use Rattle.hashtree.specs.PieceCheck.{FeedsRow, IsFedRow, byte_count, chosen_layer, chosen_shape, given_hashes}
+use Rattle.hashtree.specs.PieceCheck.{FeedsRow, IsFedRow, check_byte_count, chosen_layer, chosen_shape, given_hashes}
 use Rattle.piece_marks.specs.Marks.{AreMarkedWhole}
 use Rattle.folders.specs.CutFeeds.{AreCutsJudged, HasCutRoom, TakesCuts}
 use Rattle.folders.specs.declared.row_feed.RowFeed.{RowFeed}
@@ -21,11 +21,11 @@ pub record FeedsBits (old : RowFeed) (bytes : List ℕ) (new : RowFeed) : Type 0
 
 -- the row is not full before this many bytes more
 abbrev pub HasRowRoom : RowFeed → ℕ → Type 0
-HasRowRoom f n = (byte_count f.check + n ≤ chosen_shape f.check) × HasCutRoom f.cuts.feed n
+HasRowRoom f n = (check_byte_count f.check + n ≤ chosen_shape f.check) × HasCutRoom f.cuts.feed n
 
 -- nothing was given yet, and no bit is set
-pub record IsFresh (f : RowFeed) : Type 0 where
-  pub count : byte_count f.check ≡ 0
+pub record IsFreshFeed (f : RowFeed) : Type 0 where
+  pub count : check_byte_count f.check ≡ 0
   pub room : HasCutRoom f.cuts.feed (chosen_shape f.check)
   pub clear : AreClear f.bits.items
   pub fed : (good : List ℕ) → AreClear good → IsFedRow f.check good []

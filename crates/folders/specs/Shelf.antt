@@ -22,6 +22,10 @@ pub record ShelfContents : Type 0 where
   pub under : List (List ℕ) → Option (Option (List ℕ))
   pub listing : Option Listing
 
+-- what is known of a shelf's paths: nothing, that no file is there, or a file's bytes
+abbrev pub KnownPaths : Type 0
+KnownPaths = List (List ℕ) → Option (Option (List ℕ))
+
 -- `open` found this under a path of which this is known: nothing there, or a file's bytes
 abbrev pub IsFound : Option (Option (List ℕ)) → Option (Option (List ℕ)) → Type 0
 IsFound None found = ⊤

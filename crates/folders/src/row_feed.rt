@@ -116,7 +116,7 @@ impl<'t> Consumer for RowFeed<'t> {
 }
 
 impl<'t> RowFeed<'t> {
-    ghost use Rattle.folders.specs.RowFeeds.{IsFresh, JudgesRow};
+    ghost use Rattle.folders.specs.RowFeeds.{IsFreshFeed, JudgesRow};
 
     /// Reads and judges the row, of this many bytes at this layer. `None`: the source has fewer;
     /// the bits then tell which pieces it has whole and good. No byte behind the row is read.
@@ -129,7 +129,7 @@ impl<'t> RowFeed<'t> {
         buffer: &mut [u8],
     ) -> Result<Option<RowFound>, DeviceFault>
         requires some { 0 < length buffer.old }
-        requires fresh { IsFresh self.old }
+        requires fresh { IsFreshFeed self.old }
         requires size { size ≡ chosen_shape self.old.check }
         requires layer { layer ≡ chosen_layer self.old.check }
         ensures judged { IfOk result (JudgesRow self.old (F.seen source.old) (F.seen source.new)

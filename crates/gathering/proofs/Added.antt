@@ -1,13 +1,13 @@
 -- The files of a batch: how they were added to a draft.
 use Rattle.std.proofs.Common.{◌≡◌, ◌∙◌, ℕ, ◌+◌, ◌-◌, ◌<◌, ◌≤◌, Bool, List, [], ◌∷◌, ◌++◌, length, take, drop, get_or, slice_get, Option, Some}
 use Rattle.std.proofs.Common.{None, Result, Ok, Err, IfSome, OnSome, take_at, refl, sym, ap, subst, arith}
-use Rattle.std.proofs.lemmas.List.{get_or-drop, length-drop, length_push, take-append-le, take_all}
-use Rattle.std.proofs.lemmas.Option.{get_or_from_slice_get, slice_get-get_or, slice_get_within}
+use Rattle.std.proofs.lemmas.List.{length_push, take-append-le, take_all}
+use Rattle.std.proofs.lemmas.Option.{slice_get-get_or, slice_get_within}
 use Rattle.chains.specs.Chain.{Chain}
-use Rattle.chains.proofs.Cases.{item_stays, pushed_last}
-use Rattle.chains.proofs.Chains.{Chain-next}
+use Rattle.chains.proofs.Cases.{item_stays, pushed_last, taken_more}
+use Rattle.chains.proofs.Chains.{Chain-from, Chain-within}
 use Rattle.drafts.specs.Outline.{Outline}
-use Rattle.gathering.specs.Adding.{AddsAt, AddsBatch, AddsLast, AddsRow, AreBatch, IsBatchWithin, IsFound, StopsIn}
+use Rattle.gathering.specs.Adding.{AddsAt, AddsBatch, AddsContents, AddsLast, AreBatch, IsBatchWithin, IsFoundOfContent, StopsIn}
 use Rattle.gathering.specs.Batches.{IsOfKind}
 use Rattle.gathering.specs.Gathered.{DraftAdds}
 use Rattle.gathering.specs.Reading.{Finds}
@@ -15,7 +15,6 @@ use Rattle.gathering.specs.declared.all_files.StoppedAt.{StoppedAt}
 use Rattle.gathering.specs.declared.batch.Batch.{Batch}
 use Rattle.gathering.specs.declared.file_fault.FileFault.{FileFault}
 use Rattle.gathering.specs.declared.hashing.FileHashes.{FileHashes}
-use Rattle.gathering.proofs.Steps.{taken_more}
 
 -- the files of a batch begin with those that are held
 pub begins_held : (piece_length : ℕ) (hybrid : Bool) (held : List (List ℕ)) (last : Option (Result FileHashes FileFault)) (contents : List (List ℕ)) (k : ℕ)
@@ -32,12 +31,8 @@ item_held piece_length hybrid held (Some found) contents k content are is =
 -- drafts to which files were added are of one kind
 pub same_kind : (d : Outline) (ps : List (List (List ℕ))) (cs : List (List ℕ)) (e : Outline) → Chain DraftAdds d ps cs e
     → (e.piece_length ≡ d.piece_length) × (e.hybrid ≡ d.hybrid)
-same_kind d [] [] e is = (ap (λ (o : Outline). o.piece_length) is, ap (λ (o : Outline). o.hybrid) is)
-same_kind d [] (c ∷ cs) e run = absurd run
-same_kind d (p ∷ ps) [] e run = absurd run
-same_kind d (p ∷ ps) (c ∷ cs) e (mid, adds, rest) =
-    let later = same_kind mid ps cs e rest in
-    (later.0 ∙ adds.added.piece_length, later.1 ∙ adds.added.hybrid)
+same_kind = Chain-within DraftAdds (λ (d : Outline) (e : Outline). (e.piece_length ≡ d.piece_length) × (e.hybrid ≡ d.hybrid)) (λ d. (refl, refl))
+    (λ c d e first next. (next.0 ∙ first.0, next.1 ∙ first.1)) (λ d path c e adds. (adds.added.piece_length, adds.added.hybrid))
 
 of_draft : (d mid : Outline) (content : List ℕ) (found : Result FileHashes FileFault) → mid.piece_length ≡ d.piece_length → mid.hybrid ≡ d.hybrid
     → Finds d.piece_length d.hybrid content found → Finds mid.piece_length mid.hybrid content found
@@ -49,11 +44,8 @@ pub added_more : (d mid e : Outline) (paths : List (List (List ℕ))) (from k : 
     → Chain DraftAdds d (take k (drop from paths)) (take k contents) mid → slice_get contents k ≡ Some content → slice_get paths (from + k) ≡ Some path
     → DraftAdds mid path content e → Chain DraftAdds d (take (k + 1) (drop from paths)) (take (k + 1) contents) e
 added_more d mid e paths from k contents path content run is there adds =
-    let inside : from + k < length paths = slice_get_within paths (from + k) path there in
-    let at : get_or (drop from paths) k path ≡ path = get_or-drop from paths k path ∙ get_or_from_slice_get paths (from + k) path path there in
     subst (λ cs. Chain DraftAdds d (take (k + 1) (drop from paths)) cs e) (sym (taken_more contents k content is))
-    (Chain-next DraftAdds d mid e (drop from paths) k (take k contents) path content (omega (arith, inside, length-drop from paths)) run
-    (subst (λ p. DraftAdds mid p content e) (sym at) adds))
+    (Chain-from DraftAdds d mid e paths from k (take k contents) path content there run adds)
 
 -- it stopped at one of the files
 pub stops_in : (d mid e : Outline) (paths : List (List (List ℕ))) (from k : ℕ) (contents : List (List ℕ)) (content : List ℕ) (stop : StoppedAt)
@@ -92,13 +84,13 @@ last_there piece_length hybrid held (Some found) from most (contents, are, fits)
     let e : length contents ≡ length held + 1 = ap length are.1 ∙ length_push held are.0 in omega (arith, e, fits, le)
 
 pub last_found : (d mid : Outline) (held : List (List ℕ)) (last : Option (Result FileHashes FileFault)) (most : ℕ)
-    → mid.piece_length ≡ d.piece_length → mid.hybrid ≡ d.hybrid → IsBatchWithin d.piece_length d.hybrid held last most → IfSome last (IsFound mid)
+    → mid.piece_length ≡ d.piece_length → mid.hybrid ≡ d.hybrid → IsBatchWithin d.piece_length d.hybrid held last most → IfSome last (IsFoundOfContent mid)
 last_found d mid held None most same too within = tt
 last_found d mid held (Some found) most same too (contents, are, fits) = (are.0, of_draft d mid are.0 found same too are.2)
 
 -- all files of a batch were added, or not all
 pub batch_added : (d mid e : Outline) (paths : List (List (List ℕ))) (from : ℕ) (held : List (List ℕ)) (last : Option (Result FileHashes FileFault))
-    (r : Result ℕ StoppedAt) (contents : List (List ℕ)) → AddsRow d paths from held mid (Ok tt) → AddsLast mid paths (from + length held) last e r
+    (r : Result ℕ StoppedAt) (contents : List (List ℕ)) → AddsContents d paths from held mid (Ok tt) → AddsLast mid paths (from + length held) last e r
     → AreBatch d.piece_length d.hybrid held last contents → AddsBatch d paths from contents e r
 batch_added d mid e paths from held None (Ok next) contents run (next_is, same) are = (
   next_is ∙ ap (λ cs. from + length cs) (sym are),

@@ -1,11 +1,12 @@
 -- Batches of files: how they were read, and what came of them.
-use Rattle.std.proofs.Common.{◌≡◌, ◌∙◌, ℕ, suc, ◌+◌, ◌-◌, ◌<◌, ◌≤◌, List, [], ◌∷◌, ◌++◌, length, take, drop, get_or, slice_get, Some}
+use Rattle.std.proofs.Common.{◌≡◌, ◌∙◌, ℕ, suc, ◌+◌, ◌-◌, ◌<◌, ◌≤◌, List, [], ◌∷◌, ◌++◌, length, take, drop, slice_get, Some}
 use Rattle.std.proofs.Common.{Result, Ok, refl, sym, ap, subst, arith, take-take}
-use Rattle.std.proofs.lemmas.List.{drop-drop, drop-take, get_or-drop, length-drop, length_push}
-use Rattle.std.proofs.lemmas.Option.{get_or_from_slice_get, slice_get_within}
+use Rattle.std.proofs.lemmas.List.{drop-drop, drop-take, length_push}
+use Rattle.std.proofs.lemmas.Option.{slice_get_within}
 use Rattle.benc.specs.Device.{SourceSeen}
 use Rattle.chains.specs.Chain.{Chain}
-use Rattle.chains.proofs.Chains.{Chain-next}
+use Rattle.chains.proofs.Cases.{drop_item}
+use Rattle.chains.proofs.Chains.{Chain-from, cut_chain}
 use Rattle.drafts.specs.Outline.{Outline}
 use Rattle.folders.specs.declared.shelf.Shelf.{Ghosts}
 use Rattle.gathering.specs.Adding.{AddsBatch, Declines, StopsIn}
@@ -18,7 +19,7 @@ use Rattle.gathering.specs.declared.batch.Batch.{Batch}
 use Rattle.gathering.specs.declared.file_fault.FileFault.{FileFault}
 use Rattle.gathering.specs.declared.file_fault.FileFault.TheVariants as why
 use Rattle.gathering.specs.declared.hashing.FileHashes.{FileHashes}
-use Rattle.gathering.proofs.Rows.{SaysRow, cut_chain, drop_at, gathered_row, says_row}
+use Rattle.gathering.proofs.Rows.{SaysRow, gathered_row, says_row}
 
 -- what is held stays twice
 pub keeps_both : (a b c : Batch) → KeepsHeld a b → KeepsHeld b c → KeepsHeld a c
@@ -51,14 +52,12 @@ module _ {S F : Type 0} (shelf : Ghosts S F) (seen : F → SourceSeen) where
   row_more s mid s' paths from contents all path content row few there reads stays is =
       let n : ℕ = length contents in
       let inside : from + n < length paths = slice_get_within paths (from + n) path there in
-      let at : get_or (drop from paths) n path ≡ path = get_or-drop from paths n path ∙ get_or_from_slice_get paths (from + n) path path there in
       let size : length (contents ++ content ∷ []) ≡ n + 1 = length_push contents content in
       subst (λ cs. ReadsRow shelf seen s paths from cs s') (sym is) (record {
         few = omega (arith, size, few);
         inside = omega (arith, size, inside);
         run = subst (λ m. Chain (ReadsStill shelf seen) s (take m (drop from paths)) (contents ++ content ∷ []) s') (sym size)
-            (Chain-next (ReadsStill shelf seen) s mid s' (drop from paths) n contents path content (omega (arith, inside, length-drop from paths)) row.run
-            (subst (λ p. ReadsStill shelf seen mid p content s') (sym at) (record { reads = reads; stays = stays })));
+            (Chain-from (ReadsStill shelf seen) s mid s' paths from n contents path content there row.run (record { reads = reads; stays = stays }));
       })
 
   -- a file that was hashed alone ends a batch
@@ -105,7 +104,7 @@ module _ {S F : Type 0} (shelf : Ghosts S F) (seen : F → SourceSeen) where
         let others : drop k (take m files) ≡ stops.path ∷ take left (drop (stop.number + 1) paths) =
         others_are n k left m paths stop.number stops.path whole path_is stops.number_is in
         let step = subst (λ cs. Chain (ReadsStill shelf seen) cut.mid (stops.path ∷ take left (drop (stop.number + 1) paths)) cs new)
-        (drop_at k contents stops.content stops.is)
+        (drop_item contents k stops.content stops.is)
         (subst (λ ps. Chain (ReadsStill shelf seen) cut.mid ps (drop k contents) new) others cut.after) in
         let says : SaysRow shelf seen step.0 (take left (drop (stop.number + 1) paths)) (drop (k + 1) contents) new =
         says_row shelf seen step.0 (take left (drop (stop.number + 1) paths)) (drop (k + 1) contents) new step.2 in
@@ -137,7 +136,7 @@ module _ {S F : Type 0} (shelf : Ghosts S F) (seen : F → SourceSeen) where
             let one : left + 1 ≡ suc left = omega arith in
             ap (λ j. drop k (take j (drop n paths))) (sym split)
             ∙ drop-take k (left + 1) (drop n paths)
-            ∙ ap (take (left + 1)) (drop-drop k n paths ∙ drop_at (n + k) paths path is)
+            ∙ ap (take (left + 1)) (drop-drop k n paths ∙ drop_item paths (n + k) path is)
             ∙ ap (λ j. take j (path ∷ drop (n + k + 1) paths)) one
             ∙ ap (λ j. path ∷ take left (drop (j + 1) paths)) (sym number_is)
 

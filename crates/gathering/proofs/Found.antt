@@ -16,9 +16,9 @@ use Rattle.wire.specs.Reading.{Gave}
 use Rattle.wire.proofs.Giving.{Gave-trans}
 use Rattle.gathering.specs.Batches.{ReadsFor, ReadsInto, VisitsInto, visit_of}
 use Rattle.gathering.specs.Gathering.{IsReadTo, Reads}
-use Rattle.gathering.specs.Hashing.{Begins, EndsWithHashes, Hashes, MayEndWithout}
+use Rattle.gathering.specs.Hashing.{BeginsHashing, EndsWithHashes, Hashes, MayEndWithout}
 use Rattle.gathering.specs.HashingLaws.{hashed_both}
-use Rattle.gathering.specs.Reading.{FindsWhole, HasContent, ReadsFile}
+use Rattle.gathering.specs.Reading.{FindsWholeContent, HasContent, ReadsFile}
 use Rattle.gathering.specs.declared.batch.Batch.{Batch}
 use Rattle.gathering.specs.declared.hashing.FileHashes.{FileHashes}
 use Rattle.gathering.specs.declared.hashing.Hashing.{Hashing}
@@ -45,11 +45,11 @@ short_content old new buffer count fills less most =
 
 -- what was found of a content that was read
 pub found_read : (piece_length : ℕ) (hybrid : Bool) (old new : SourceSeen) (content : List ℕ) (said : FileHashes) → HasContent old new content
-    → length content ≤ 2 ^ 46 → FindsWhole piece_length hybrid content (Ok said) → ReadsFile piece_length hybrid old new (Ok (Some said))
+    → length content ≤ 2 ^ 46 → FindsWholeContent piece_length hybrid content (Ok said) → ReadsFile piece_length hybrid old new (Ok (Some said))
 found_read piece_length hybrid old new content said has short found = (content, has, short, found)
 
 pub kept_read : (piece_length : ℕ) (hybrid : Bool) (old new : SourceSeen) (content : List ℕ) (e : AllocError) → HasContent old new content
-    → length content ≤ 2 ^ 46 → FindsWhole piece_length hybrid content (Err e) → ReadsFile piece_length hybrid old new (Err fault.NoMemory)
+    → length content ≤ 2 ^ 46 → FindsWholeContent piece_length hybrid content (Err e) → ReadsFile piece_length hybrid old new (Err fault.NoMemory)
 kept_read piece_length hybrid old new content e has short kept = (content, has, short, kept)
 
 module _ (piece_length : ℕ) (hybrid : Bool) (before mid new : SourceSeen) (first : List ℕ) (begun half after : Hashing) (bound : ℕ)
@@ -70,14 +70,16 @@ module _ (piece_length : ℕ) (hybrid : Bool) (before mid new : SourceSeen) (fir
       }
 
   -- it was hashed
-  pub long_read : (count : ℕ) (said : FileHashes) → TookAll Hashes mid new bound half after count → Begins piece_length hybrid begun → EndsWithHashes after said
+  pub long_read : (count : ℕ) (said : FileHashes) → TookAll Hashes mid new bound half after count → BeginsHashing piece_length hybrid begun
+      → EndsWithHashes after said
       → ReadsFile piece_length hybrid before new (Ok (Some said))
   long_read count said took begins ends =
       let both : BothParts took.bytes = both_parts count took in
       (first ++ took.bytes, both.has, both.short, found_whole piece_length hybrid begun after (first ++ took.bytes) said begins both.hashes ends)
 
   -- memory was refused
-  pub long_refused : (count : ℕ) → TookAll Hashes mid new bound half after count → 0 < length first → Begins piece_length hybrid begun → MayEndWithout after
+  pub long_refused : (count : ℕ) → TookAll Hashes mid new bound half after count → 0 < length first → BeginsHashing piece_length hybrid begun
+      → MayEndWithout after
       → ReadsFile piece_length hybrid before new (Err fault.NoMemory)
   long_refused count took some begins why =
       let both : BothParts took.bytes = both_parts count took in (

@@ -9,16 +9,16 @@ use Rattle.std.proofs.lemmas.Option.{same_Some, slice_get-get_or}
 use Rattle.block_windows.specs.Files.{HasFile, IsWithin, bytes_at}
 use Rattle.chains.proofs.Cases.{item_at, last_or_before}
 use Rattle.cut_windows.specs.Windows.{HasCuts, length_of_cuts}
-use Rattle.cut_windows.specs.Windows.{IsWithin as AreCutsWithin}
-use Rattle.gathering.specs.Batches.{ArePlaced, Holds, IsOfKind, IsPlaced, IsSound, contents_of}
+use Rattle.cut_windows.specs.Windows.{AreCutsWithin}
+use Rattle.gathering.specs.Batches.{ArePlaced, HoldsMore, IsBatchSound, IsFilePlaced, IsOfKind, contents_of}
 use Rattle.hashtree.specs.Tree.{block_count}
 use Rattle.gathering.specs.declared.file_fault.FileFault.TheVariants as file
 use Rattle.std.specs.declared.alloc.AllocError.{AllocError}
-use Rattle.gathering.specs.Reading.{Finds, FindsWhole}
+use Rattle.gathering.specs.Reading.{Finds, FindsWholeContent}
 use Rattle.gathering.specs.declared.batch.Batch.{Batch}
 use Rattle.gathering.specs.declared.batch.Place.{Place}
 use Rattle.gathering.specs.declared.hashing.FileHashes.{FileHashes}
-use Rattle.gathering.proofs.Steps.{taken_more}
+use Rattle.chains.proofs.Cases.{taken_more}
 
 -- ---- parts of lists
 
@@ -84,7 +84,7 @@ pub record HasMore (b b' : Batch) (bytes : List ℕ) (e : Place) : Type 0 where
   pub few : b.count < 64
   pub fits : b.used + length bytes ≤ length b.room.items
 
-pub held_more : (b b' : Batch) (bytes : List ℕ) (e : Place) → IsSound b → HasMore b b' bytes e → Holds b bytes b'
+pub held_more : (b b' : Batch) (bytes : List ℕ) (e : Place) → IsBatchSound b → HasMore b b' bytes e → HoldsMore b bytes b'
 held_more b b' bytes e sound has =
     let n : ℕ = b.count in
     let was = sound.placed in
@@ -111,7 +111,7 @@ held_more b b' bytes e sound has =
                 }
             | inr now ↦
                 let is_e : x ≡ e = has.last x (ap (slice_get b'.places) (sym now) ∙ is) in
-                subst (IsPlaced b') (sym is_e) (record {
+                subst (IsFilePlaced b') (sym is_e) (record {
                   inside = omega (arith, has.start, has.size, has.used);
                   blocks = has.blocks;
                   cuts = has.cuts;
@@ -136,7 +136,7 @@ held_more b b' bytes e sound has =
 
 -- a batch that holds no file
 pub none_held : (b : Batch) → b.count ≡ 0 → b.used ≡ 0 → length b.places ≡ 64 → length_of_cuts b.cuts ≡ b.kind.now.piece_length
-    → IsWithin b.blocks (length b.room.items) → AreCutsWithin b.cuts (length b.room.items) → IsSound b
+    → IsWithin b.blocks (length b.room.items) → AreCutsWithin b.cuts (length b.room.items) → IsBatchSound b
 none_held b count used places piece_length blocks cuts = record {
   placed = record {
     few = omega (arith, count);
@@ -168,14 +168,14 @@ short_content b k d placed lt =
     omega (arith, length-take e.size (drop e.start b.room.items), size)
 
 pub finds_held : (b : Batch) (k : ℕ) (d : Place) (said : FileHashes) → ArePlaced b → k < b.count
-    → FindsWhole b.kind.now.piece_length b.kind.now.hybrid (bytes_of b (get_or b.places k d)) (Ok said)
+    → FindsWholeContent b.kind.now.piece_length b.kind.now.hybrid (bytes_of b (get_or b.places k d)) (Ok said)
     → Finds b.kind.now.piece_length b.kind.now.hybrid (get_or (contents_of b) k []) (Ok said)
 finds_held b k d said placed lt found =
     subst (λ content. Finds b.kind.now.piece_length b.kind.now.hybrid content (Ok said)) (sym (content_at b k d placed lt))
     (short_content b k d placed lt, found)
 
 pub finds_held_not : (b : Batch) (k : ℕ) (d : Place) (e : AllocError) → ArePlaced b → k < b.count
-    → FindsWhole b.kind.now.piece_length b.kind.now.hybrid (bytes_of b (get_or b.places k d)) (Err e)
+    → FindsWholeContent b.kind.now.piece_length b.kind.now.hybrid (bytes_of b (get_or b.places k d)) (Err e)
     → Finds b.kind.now.piece_length b.kind.now.hybrid (get_or (contents_of b) k []) (Err file.NoMemory)
 finds_held_not b k d e placed lt kept =
     subst (λ content. Finds b.kind.now.piece_length b.kind.now.hybrid content (Err file.NoMemory)) (sym (content_at b k d placed lt))

@@ -25,8 +25,8 @@ AddsFound d path content e (Ok u) = DraftAdds d path content e
 AddsFound d path content e (Err f) = Declines f d path content
 
 -- this was found of some content
-abbrev pub IsFound : Outline → Result FileHashes FileFault → Type 0
-IsFound d found = (content : List ℕ) × Finds d.piece_length d.hybrid content found
+abbrev pub IsFoundOfContent : Outline → Result FileHashes FileFault → Type 0
+IsFoundOfContent d found = (content : List ℕ) × Finds d.piece_length d.hybrid content found
 
 -- the same under the path of this number
 abbrev pub AddsAt : Outline → List (List (List ℕ)) → ℕ → List ℕ → Outline
@@ -79,11 +79,11 @@ pub record StopsIn (d : Outline) (paths : List (List (List ℕ))) (from : ℕ)
   pub why : Declines stop.fault draft path content
 
 -- the files of these contents were added under the paths from this one on, or why not
-abbrev pub AddsRow : Outline → List (List (List ℕ)) → ℕ → List (List ℕ) → Outline
+abbrev pub AddsContents : Outline → List (List (List ℕ)) → ℕ → List (List ℕ) → Outline
     → Result (Unit {0}) StoppedAt → Type 0
-AddsRow d paths from contents e (Ok u) =
+AddsContents d paths from contents e (Ok u) =
     Chain DraftAdds d (take (length contents) (drop from paths)) contents e
-AddsRow d paths from contents e (Err stop) = StopsIn d paths from contents stop
+AddsContents d paths from contents e (Err stop) = StopsIn d paths from contents stop
 
 -- the same, and the number of the next path
 abbrev pub AddsBatch : Outline → List (List (List ℕ)) → ℕ → List (List ℕ) → Outline

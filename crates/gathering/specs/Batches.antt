@@ -1,14 +1,16 @@
 -- Small files that are held, to be hashed together. Public clauses do not name these.
 use Rattle.std.specs.Prelude.{◌≡◌, ℕ, ◌+◌, ◌<◌, ◌≤◌, Bool, true, List, [], ◌∷◌, ◌++◌, length, map, take, slice_get, Some, None, Result, Ok, Err}
 use Rattle.benc.specs.Device.{SourceSeen}
-use Rattle.block_windows.specs.Files.{HasFile, IsHashed, IsWithin, bytes_at}
-use Rattle.cut_windows.specs.Windows.{AreOwnHashed, HasCuts, length_of_cuts}
-use Rattle.cut_windows.specs.Windows.{IsHashed as AreCutsHashed, IsWithin as AreCutsWithin}
+use Rattle.block_windows.specs.Files.{HasFile, IsHashed, IsWithin, block_total, bytes_at}
+use Rattle.cut_windows.specs.Windows.{AreOwnHashed, HasCuts, cut_total, length_of_cuts}
+use Rattle.cut_windows.specs.Windows.{AreCutsHashed, AreCutsWithin}
 use Rattle.filetree.specs.declared.refusal.Refusal.TheVariants as refusals
 use Rattle.folders.specs.TakeAll.{CountsReading}
 use Rattle.folders.specs.declared.shelf.Shelf.{Ghosts}
 use Rattle.folders.specs.declared.taking.ReadFault.{ReadFault}
 use Rattle.folders.specs.declared.taking.ReadFault.TheVariants as fault
+use Rattle.hashtree.specs.Tree.{block_count}
+use Rattle.pieces.specs.Pieces.{pieces_of}
 use Rattle.gathering.specs.Gathering.{FailsAt, Misses, Reads}
 use Rattle.gathering.specs.Reading.{Finds, HasContent, ReadsFile}
 use Rattle.gathering.specs.declared.batch.Batch.{Batch}
@@ -28,7 +30,7 @@ contents_of b = map (λ (e : Place). bytes_at b.room.items e.start e.size) (take
 
 -- a file stands there: its bytes in the first ones of the room, and its blocks and cuts in the
 -- windows
-pub record IsPlaced (b : Batch) (e : Place) : Type 0 where
+pub record IsFilePlaced (b : Batch) (e : Place) : Type 0 where
   pub inside : e.start + e.size ≤ b.used
   pub blocks : HasFile b.blocks e.block e.start e.size
   pub cuts : HasCuts b.cuts e.cut e.start e.size
@@ -39,10 +41,10 @@ pub record ArePlaced (b : Batch) : Type 0 where
   pub places : length b.places ≡ 64
   pub fits : b.used ≤ length b.room.items
   pub piece_length : length_of_cuts b.cuts ≡ b.kind.now.piece_length
-  pub each : (k : ℕ) (e : Place) → k < b.count → slice_get b.places k ≡ Some e → IsPlaced b e
+  pub each : (k : ℕ) (e : Place) → k < b.count → slice_get b.places k ≡ Some e → IsFilePlaced b e
 
 -- the same, and all blocks and cuts of the windows stand in the room
-pub record IsSound (b : Batch) : Type 0 where
+pub record IsBatchSound (b : Batch) : Type 0 where
   pub placed : ArePlaced b
   pub blocks : IsWithin b.blocks (length b.room.items)
   pub cuts : AreCutsWithin b.cuts (length b.room.items)
@@ -52,15 +54,24 @@ pub record IsOfKind (piece_length : ℕ) (hybrid : Bool) (b : Batch) : Type 0 wh
   pub piece_length_is : b.kind.now.piece_length ≡ piece_length
   pub hybrid_is : b.kind.now.hybrid ≡ hybrid
 
+-- there is room for one more file of this size: it is one of 64 and has eight blocks at most, its
+-- blocks and cuts have places in the windows, and its bytes in the room
+pub record HasBatchRoom (b : Batch) (size : ℕ) : Type 0 where
+  pub few : b.count < 64
+  pub small : size ≤ 131072
+  pub blocks : block_total b.blocks + block_count size ≤ 64
+  pub cuts : cut_total b.cuts + pieces_of (length_of_cuts b.cuts) size ≤ 64
+  pub bytes : b.used + size ≤ length b.room.items
+
 -- these are held, and nothing else changed
 pub record NowHolds (b : Batch) (contents : List (List ℕ)) (b' : Batch) : Type 0 where
-  pub sound : IsSound b'
+  pub sound : IsBatchSound b'
   pub contents_are : contents_of b' ≡ contents
   pub kind : IsOfKind b.kind.now.piece_length b.kind.now.hybrid b'
 
 -- one more file is held
-abbrev pub Holds : Batch → List ℕ → Batch → Type 0
-Holds b content b' = NowHolds b (contents_of b ++ content ∷ []) b'
+abbrev pub HoldsMore : Batch → List ℕ → Batch → Type 0
+HoldsMore b content b' = NowHolds b (contents_of b ++ content ∷ []) b'
 
 -- what is held stays
 abbrev pub KeepsHeld : Batch → Batch → Type 0
@@ -68,7 +79,7 @@ KeepsHeld b b' = NowHolds b (contents_of b) b'
 
 -- the blocks of all files that are held are hashed, and the cuts of a hybrid's, as they are and
 -- filled up with zeros
-pub record AreHashed (b : Batch) : Type 0 where
+pub record IsBatchHashed (b : Batch) : Type 0 where
   pub blocks : IsHashed b.blocks b.room.items
   pub own : b.kind.now.hybrid ≡ true → AreOwnHashed b.cuts b.room.items
   pub filled : b.kind.now.hybrid ≡ true → AreCutsHashed b.cuts b.room.items
@@ -79,7 +90,7 @@ pub record AreHashed (b : Batch) : Type 0 where
 -- stays
 abbrev pub ReadsFor : Batch → Batch → Result FileRead ReadFault → SourceSeen → SourceSeen → Type 0
 ReadsFor b b' (Ok read.Held) old new =
-    (content : List ℕ) × HasContent old new content × Holds b content b'
+    (content : List ℕ) × HasContent old new content × HoldsMore b content b'
 ReadsFor b b' (Ok (read.Hashed found)) old new =
     ReadsFile b.kind.now.piece_length b.kind.now.hybrid old new (Ok found) × KeepsHeld b b'
 ReadsFor b b' (Err f) old new =
@@ -109,7 +120,7 @@ module _ {S F : Type 0} (shelf : Ghosts S F) (seen : F → SourceSeen) where
   -- a path was visited: its content is held, or was hashed alone; or no file was read
   abbrev pub VisitsInto : Batch → S → List (List ℕ) → Batch → S → Result Visited FileFault → Type 0
   VisitsInto b s path b' s' (Ok visited.Held) =
-      (content : List ℕ) × Reads shelf seen s path content s' × Holds b content b'
+      (content : List ℕ) × Reads shelf seen s path content s' × HoldsMore b content b'
   VisitsInto b s path b' s' (Ok (visited.Alone found)) =
       (content : List ℕ) × Reads shelf seen s path content s'
       × Finds b.kind.now.piece_length b.kind.now.hybrid content found × KeepsHeld b b'

@@ -16,8 +16,8 @@ use Rattle.gathering.specs.declared.gather_fault.GatherFault.{GatherFault}
 use Rattle.gathering.specs.declared.hashing.FileHashes.{FileHashes}
 
 -- no path has more components than this
-abbrev pub AreWithin : List (List (List ℕ)) → ℕ → Type 0
-AreWithin paths room = (n : ℕ) (path : List (List ℕ)) → slice_get paths n ≡ Some path
+abbrev pub ArePathsWithin : List (List (List ℕ)) → ℕ → Type 0
+ArePathsWithin paths room = (n : ℕ) (path : List (List ℕ)) → slice_get paths n ≡ Some path
     → length path ≤ room
 
 module _ {S F : Type 0} (shelf : Ghosts S F) (seen : F → SourceSeen) where

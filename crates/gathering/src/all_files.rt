@@ -4,10 +4,10 @@ ghost use Rattle.std.specs.Prelude.{◌≡◌, ℕ, ◌+◌, ◌-◌, ◌<◌, �
 ghost use Rattle.std.specs.String.{string_bytes};
 ghost use Rattle.std.specs.Vec.{vec_capacity};
 ghost use Rattle.folders.specs.Shelf.{path_bytes};
-ghost use Rattle.gathering.specs.Adding.{AddsAt, AddsBatch, AddsFound, AddsLast, AddsRow, AreBatch, IsBatchWithin, IsFound};
-ghost use Rattle.gathering.specs.Batches.{AreHashed, ArePlaced, IsOfKind, IsSound, contents_of};
+ghost use Rattle.gathering.specs.Adding.{AddsAt, AddsBatch, AddsContents, AddsFound, AddsLast, AreBatch, IsBatchWithin, IsFoundOfContent};
+ghost use Rattle.gathering.specs.Batches.{ArePlaced, IsBatchHashed, IsBatchSound, IsOfKind, contents_of};
 ghost use Rattle.gathering.specs.Reading.{Finds};
-ghost use Rattle.gathering.specs.Steps.{AddsAll, AreWithin, ReadsBatch};
+ghost use Rattle.gathering.specs.Steps.{AddsAll, ArePathsWithin, ReadsBatch};
 
 use crate::batch::Batch;
 use crate::file_fault::FileFault;
@@ -41,7 +41,7 @@ pub(crate) fn add_files<'p, S: Shelf, L: Lengths>(
     mut parts: Vec<&'p str>,
     kind: &TorrentKind,
 ) -> Result<(), StoppedAt>
-    requires room { AreWithin (map path_bytes paths.now) (vec_capacity parts) }
+    requires room { ArePathsWithin (map path_bytes paths.now) (vec_capacity parts) }
     requires piece_length { draft.old.piece_length ≡ kind.now.piece_length }
     requires hybrid { draft.old.hybrid ≡ kind.now.hybrid }
     ensures adds { AddsAll S.Shelf S.File.seen draft.old shelf.old (map path_bytes paths.now)
@@ -80,11 +80,11 @@ fn read_batch<'p, S: Shelf, L: Lengths>(
 ) -> Result<Option<Found>, StoppedAt>
     requires some { 0 < length buffer.old }
     requires there { from < length paths.now }
-    requires room { AreWithin (map path_bytes paths.now) (vec_capacity parts.old) }
+    requires room { ArePathsWithin (map path_bytes paths.now) (vec_capacity parts.old) }
     requires placed { ArePlaced batch.old }
     ensures reads { ReadsBatch S.Shelf S.File.seen shelf.old (map path_bytes paths.now) from
         batch.new shelf.new result }
-    ensures sound { IsOk result → IsSound batch.new }
+    ensures sound { IsOk result → IsBatchSound batch.new }
     ensures kind { IsOk result
         → IsOfKind batch.old.kind.now.piece_length batch.old.kind.now.hybrid batch.new }
     ensures buffer { length buffer.new ≡ length buffer.old }
@@ -121,11 +121,11 @@ fn add_batch<'p>(
     requires piece_length { draft.old.piece_length ≡ kind.now.piece_length }
     requires hybrid { draft.old.hybrid ≡ kind.now.hybrid }
     requires kind { IsOfKind draft.old.piece_length draft.old.hybrid batch.old }
-    requires sound { IsSound batch.old }
+    requires sound { IsBatchSound batch.old }
     requires from { from ≤ length paths.now }
     requires within { IsBatchWithin draft.old.piece_length draft.old.hybrid (contents_of batch.old)
         last (length paths.now - from) }
-    requires room { AreWithin (map path_bytes paths.now) (vec_capacity parts.old) }
+    requires room { ArePathsWithin (map path_bytes paths.now) (vec_capacity parts.old) }
     ensures adds { (contents : List (List ℕ)) → AreBatch draft.old.piece_length draft.old.hybrid
         (contents_of batch.old) last contents
         → AddsBatch draft.old (map path_bytes paths.now) from contents draft.new result }
@@ -153,8 +153,8 @@ fn add_last<'p>(
     requires piece_length { draft.old.piece_length ≡ kind.now.piece_length }
     requires hybrid { draft.old.hybrid ≡ kind.now.hybrid }
     requires there { OnSome last (number < length paths.now) }
-    requires found { IfSome last (IsFound draft.old) }
-    requires room { AreWithin (map path_bytes paths.now) (vec_capacity parts.old) }
+    requires found { IfSome last (IsFoundOfContent draft.old) }
+    requires room { ArePathsWithin (map path_bytes paths.now) (vec_capacity parts.old) }
     ensures adds { AddsLast draft.old (map path_bytes paths.now) number last draft.new result }
     ensures capacity { vec_capacity parts.new ≡ vec_capacity parts.old }
 {
@@ -181,10 +181,10 @@ fn add_held<'p>(
     requires hybrid { draft.old.hybrid ≡ kind.now.hybrid }
     requires kind { IsOfKind draft.old.piece_length draft.old.hybrid batch.now }
     requires placed { ArePlaced batch.now }
-    requires hashed { AreHashed batch.now }
+    requires hashed { IsBatchHashed batch.now }
     requires there { from + length (contents_of batch.now) ≤ length paths.now }
-    requires room { AreWithin (map path_bytes paths.now) (vec_capacity parts.old) }
-    ensures adds { AddsRow draft.old (map path_bytes paths.now) from (contents_of batch.now)
+    requires room { ArePathsWithin (map path_bytes paths.now) (vec_capacity parts.old) }
+    ensures adds { AddsContents draft.old (map path_bytes paths.now) from (contents_of batch.now)
         draft.new result }
     ensures capacity { vec_capacity parts.new ≡ vec_capacity parts.old }
 {
@@ -208,8 +208,8 @@ fn add_at<'p>(
     requires piece_length { draft.old.piece_length ≡ kind.now.piece_length }
     requires hybrid { draft.old.hybrid ≡ kind.now.hybrid }
     requires there { number < length paths.now }
-    requires found { IsFound draft.old found }
-    requires room { AreWithin (map path_bytes paths.now) (vec_capacity parts.old) }
+    requires found { IsFoundOfContent draft.old found }
+    requires room { ArePathsWithin (map path_bytes paths.now) (vec_capacity parts.old) }
     ensures adds { (content : List ℕ) → Finds draft.old.piece_length draft.old.hybrid content found
         → AddsAt draft.old (map path_bytes paths.now) number content draft.new result }
     ensures capacity { vec_capacity parts.new ≡ vec_capacity parts.old }
@@ -229,7 +229,7 @@ fn add_found(
     kind: &TorrentKind,
 ) -> Result<(), FileFault>
     requires piece_length { draft.old.piece_length ≡ kind.now.piece_length }
-    requires found { IsFound draft.old found }
+    requires found { IsFoundOfContent draft.old found }
     ensures { (content : List ℕ) → Finds draft.old.piece_length draft.old.hybrid content found
         → AddsFound draft.old (map (λ s. s.now) path.now) content draft.new result }
 {

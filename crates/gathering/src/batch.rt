@@ -1,10 +1,8 @@
 //! Small files that were read one after the other, and are hashed together.
-ghost use Rattle.std.specs.Prelude.{◌≡◌, ℕ, [], ◌<◌, ◌≤◌, ◌+◌, true, IfOk, IsTrue, IsFalse, OnErr, Some, length, slice_get, slice_index_or, take};
-ghost use Rattle.block_windows.specs.Files.{block_total, bytes_at};
-ghost use Rattle.cut_windows.specs.Windows.{IsWithin, cut_total, length_of_cuts};
-ghost use Rattle.hashtree.specs.Tree.{block_count};
+ghost use Rattle.std.specs.Prelude.{◌≡◌, ◌↔◌, ℕ, [], ◌<◌, ◌≤◌, ◌+◌, true, IfOk, IsTrue, IsFalse, OnErr, Some, length, slice_get, slice_index_or, take};
+ghost use Rattle.block_windows.specs.Files.{bytes_at};
+ghost use Rattle.cut_windows.specs.Windows.{AreCutsWithin, length_of_cuts};
 ghost use Rattle.pieces.specs.FileCuts.{IsV1File};
-ghost use Rattle.pieces.specs.Pieces.{pieces_of};
 ghost use Rattle.gathering.specs.declared.batch.Place.{Place};
 
 use crate::file_fault::FileFault;
@@ -51,14 +49,14 @@ pub(crate) struct Batch<'k> {
 }
 
 impl<'k> Batch<'k> {
-    ghost use Rattle.gathering.specs.Batches.{AreHashed, ArePlaced, Holds, IsOfKind, IsPlaced, IsSound, KeepsHeld, NowHolds, contents_of};
-    ghost use Rattle.gathering.specs.Reading.{Finds, FindsWhole};
+    ghost use Rattle.gathering.specs.Batches.{ArePlaced, HasBatchRoom, HoldsMore, IsBatchHashed, IsBatchSound, IsFilePlaced, IsOfKind, KeepsHeld, NowHolds, contents_of};
+    ghost use Rattle.gathering.specs.Reading.{Finds, FindsWholeContent};
 
     /// No file of a torrent of this kind. If memory for the bytes of small files is refused, only
     /// empty ones are held; the same where at most one file is to come.
     pub(crate) fn new(alloc: Global, kind: &'k TorrentKind, files: usize) -> Batch<'k>
         ensures kind { IsOfKind kind.now.piece_length kind.now.hybrid result }
-        ensures sound { IsSound result }
+        ensures sound { IsBatchSound result }
         ensures none { contents_of result ≡ [] }
     {
         let place = Place {
@@ -89,7 +87,7 @@ impl<'k> Batch<'k> {
 
     /// Asks how long the file is that comes next, if that helps.
     pub(crate) fn ask_length<L: Lengths>(&mut self, lengths: &mut L, path: &[&str])
-        requires { IsSound self.old }
+        requires { IsBatchSound self.old }
         ensures { KeepsHeld self.old self.new }
     {
         if self.kind.has_long_pieces() {
@@ -122,9 +120,10 @@ impl<'k> Batch<'k> {
 
     /// Holds a file with these bytes too, if there is room for it.
     pub(crate) fn hold(&mut self, bytes: &[u8]) -> bool
-        requires { IsSound self.old }
-        ensures held { IsTrue result → Holds self.old bytes.now self.new }
+        requires { IsBatchSound self.old }
+        ensures held { IsTrue result → HoldsMore self.old bytes.now self.new }
         ensures kept { IsFalse result → KeepsHeld self.old self.new }
+        ensures room { IsTrue result ↔ HasBatchRoom self.old (length bytes.now) }
     {
         if !self.has_room(bytes.len()) {
             return false;
@@ -148,8 +147,8 @@ impl<'k> Batch<'k> {
     // It has copies of what is in the windows in its frame, so it is not inlined.
     #[inline(never)]
     pub(crate) fn hash(&mut self)
-        requires { IsSound self.old }
-        ensures hashed { AreHashed self.new }
+        requires { IsBatchSound self.old }
+        ensures hashed { IsBatchHashed self.new }
         ensures placed { ArePlaced self.new }
         ensures contents { contents_of self.new ≡ contents_of self.old }
         ensures count { self.new.count ≡ self.old.count }
@@ -165,7 +164,7 @@ impl<'k> Batch<'k> {
     pub(crate) fn found(&self, number: usize) -> Result<FileHashes, FileFault>
         requires there { number < self.now.count }
         requires placed { ArePlaced self.now }
-        requires hashed { AreHashed self.now }
+        requires hashed { IsBatchHashed self.now }
         ensures { Finds self.now.kind.now.piece_length self.now.kind.now.hybrid
             (slice_index_or (contents_of self.now) number []) result }
     {
@@ -177,15 +176,11 @@ impl<'k> Batch<'k> {
 
     // Whether there is room for one more file of this size.
     fn has_room(&self, size: usize) -> bool
-        ensures few { IsTrue result → self.now.count < 64 }
-        ensures blocks { IsTrue result → block_total self.now.blocks + block_count size ≤ 64 }
-        ensures cuts { IsTrue result → cut_total self.now.cuts
-            + pieces_of (length_of_cuts self.now.cuts) size ≤ 64 }
-        ensures bytes { IsTrue result → self.now.used + size ≤ length self.now.room.items }
+        ensures { IsTrue result ↔ HasBatchRoom self.now size }
     {
         self.count < MOST
             && size <= SMALL
-            && self.blocks.blocks() + size.div_ceil(BLOCK) <= WINDOW
+            && self.blocks.has_room(size)
             && self.cuts.has_room(size)
             && self.used <= self.room.len()
             && size <= self.room.len() - self.used
@@ -193,12 +188,12 @@ impl<'k> Batch<'k> {
 
     // What a draft is given of the file that stands there.
     fn hashes(&self, place: Place) -> Result<FileHashes, NoMemory>
-        requires placed { IsPlaced self.now place }
+        requires placed { IsFilePlaced self.now place }
         requires fits { self.now.used ≤ length self.now.room.items }
         requires piece_length { length_of_cuts self.now.cuts
             ≡ self.now.kind.now.piece_length }
-        requires hashed { AreHashed self.now }
-        ensures { FindsWhole self.now.kind.now.piece_length self.now.kind.now.hybrid
+        requires hashed { IsBatchHashed self.now }
+        ensures { FindsWholeContent self.now.kind.now.piece_length self.now.kind.now.hybrid
             (bytes_at self.now.room.items place.start place.size) result }
     {
         if place.size == 0 {
@@ -219,9 +214,9 @@ impl<'k> Batch<'k> {
 
     // The digests of a hybrid's cuts, of the file that stands there.
     fn v1(&self, place: Place) -> Result<V1File, NoMemory>
-        requires placed { IsPlaced self.now place }
+        requires placed { IsFilePlaced self.now place }
         requires fits { self.now.used ≤ length self.now.room.items }
-        requires hashed { AreHashed self.now }
+        requires hashed { IsBatchHashed self.now }
         ensures file { IfOk result (λ v1. self.now.kind.now.hybrid ≡ true
             → IsV1File (length_of_cuts self.now.cuts)
             (bytes_at self.now.room.items place.start place.size) v1) }
@@ -239,7 +234,7 @@ impl<'k> Batch<'k> {
 // The cuts of no file.
 fn window_of_cuts(kind: &TorrentKind) -> CutWindow
     ensures piece_length { length_of_cuts result ≡ kind.now.piece_length }
-    ensures within { (size : ℕ) → IsWithin result size }
+    ensures within { (size : ℕ) → AreCutsWithin result size }
 {
     CutWindow::new(kind.piece_length.bytes() as usize)
 }

@@ -3,7 +3,7 @@ ghost use Rattle.std.specs.Prelude.{◌<◌, ◌≤◌, ◌^◌, length, take};
 ghost use Rattle.benc.specs.Device.{SourceSeen};
 ghost use Rattle.folders.specs.TakeAll.{CountsReading};
 ghost use Rattle.wire.specs.Reading.{Gave};
-ghost use Rattle.gathering.specs.Reading.{FindsWhole, ReadsFile};
+ghost use Rattle.gathering.specs.Reading.{FindsWholeContent, ReadsFile};
 
 use crate::batch::Batch;
 use crate::hashing::{FileHashes, Hashing};
@@ -25,9 +25,9 @@ pub(crate) enum FileRead {
 // Reads a file to its end, or to one byte past the greatest length, and no further. It is held if
 // it ends within the buffer and there is room for it.
 impl<F: Source> FileReader<F, Result<FileRead, ReadFault>> for Batch<'_> {
-    ghost use Rattle.gathering.specs.Batches.{IsSound, ReadsInto};
+    ghost use Rattle.gathering.specs.Batches.{IsBatchSound, ReadsInto};
 
-    ghost may_read = { IsSound };
+    ghost may_read = { IsBatchSound };
 
     ghost reads = { ReadsInto };
 
@@ -74,7 +74,7 @@ fn hash_long<F: Source>(
 // Hashes the bytes of a whole file.
 fn hash_bytes(alloc: Global, kind: &TorrentKind, bytes: &[u8]) -> Result<FileHashes, NoMemory>
     requires { length bytes.now ≤ 2 ^ 46 }
-    ensures { FindsWhole kind.now.piece_length kind.now.hybrid bytes.now result }
+    ensures { FindsWholeContent kind.now.piece_length kind.now.hybrid bytes.now result }
 {
     if bytes.is_empty() {
         return Ok(FileHashes::empty(alloc));

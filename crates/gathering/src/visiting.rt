@@ -1,6 +1,6 @@
 //! The visit of one path of a shelf.
 ghost use Rattle.std.specs.Prelude.{◌≡◌, ◌<◌, length, map};
-ghost use Rattle.gathering.specs.Batches.{IsSound, VisitsInto, visit_of};
+ghost use Rattle.gathering.specs.Batches.{IsBatchSound, VisitsInto, visit_of};
 
 use crate::batch::Batch;
 use crate::file_fault::FileFault;
@@ -27,7 +27,7 @@ pub(crate) fn visit_file<S: Shelf>(
     buffer: &mut [u8],
 ) -> Result<Visited, FileFault>
     requires some { 0 < length buffer.old }
-    requires sound { IsSound batch.old }
+    requires sound { IsBatchSound batch.old }
     ensures visits { VisitsInto S.Shelf S.File.seen batch.old shelf.old
         (map (λ s. s.now) path.now) batch.new shelf.new result }
     ensures stays { S.contents shelf.new ≡ S.contents shelf.old }

@@ -10,8 +10,8 @@ use Rattle.hashtree.specs.RootBuilder as root
 use Rattle.hashtree.specs.declared.piece_check.PieceCheck.{PieceCheck}
 
 -- how many bytes the check was given
-abbrev pub byte_count : PieceCheck → ℕ
-byte_count c = root.byte_count c.builder
+abbrev pub check_byte_count : PieceCheck → ℕ
+check_byte_count c = root.byte_count c.builder
 
 -- how many bytes the pieces have
 abbrev pub chosen_shape : PieceCheck → ℕ
@@ -35,7 +35,7 @@ pub record IsFedRow (c : PieceCheck) (good : List ℕ) (content : List ℕ) : Ty
 
 -- nothing was given yet to a check of a row of this many bytes against these hashes of this layer
 pub record BeginsRow (size layer : ℕ) (hashes : List (List ℕ)) (c : PieceCheck) : Type 0 where
-  pub count : byte_count c ≡ 0
+  pub count : check_byte_count c ≡ 0
   pub shape_is : chosen_shape c ≡ size
   pub layer_is : chosen_layer c ≡ layer
   pub hashes_are : given_hashes c ≡ hashes
@@ -43,7 +43,7 @@ pub record BeginsRow (size layer : ℕ) (hashes : List (List ℕ)) (c : PieceChe
 
 -- a check of the same row, of which nothing was given yet, if there is a hash for each piece
 pub record BeginsAnew (old new : PieceCheck) : Type 0 where
-  pub count : byte_count new ≡ 0
+  pub count : check_byte_count new ≡ 0
   pub shape : chosen_shape new ≡ chosen_shape old
   pub layer : chosen_layer new ≡ chosen_layer old
   pub hashes : given_hashes new ≡ given_hashes old
@@ -53,7 +53,7 @@ pub record BeginsAnew (old new : PieceCheck) : Type 0 where
 -- the check was given these further bytes, and marked the bits
 pub record FeedsRow (old : PieceCheck) (marked : List ℕ) (bytes : List ℕ) (new : PieceCheck)
     (marks : List ℕ) : Type 0 where
-  pub count : byte_count new ≡ byte_count old + length bytes
+  pub count : check_byte_count new ≡ check_byte_count old + length bytes
   pub shape : chosen_shape new ≡ chosen_shape old
   pub layer : chosen_layer new ≡ chosen_layer old
   pub hashes : given_hashes new ≡ given_hashes old
@@ -71,7 +71,7 @@ pub record IsFedCheck (c : PieceCheck) (content : List ℕ) : Type 0 where
 
 -- nothing was given yet to a check of a file of this length against the hashes of this layer
 pub record BeginsCheck (shape layer : ℕ) (hashes : List (List ℕ)) (c : PieceCheck) : Type 0 where
-  pub count : byte_count c ≡ 0
+  pub count : check_byte_count c ≡ 0
   pub shape_is : chosen_shape c ≡ shape
   pub layer_is : chosen_layer c ≡ layer
   pub hashes_are : given_hashes c ≡ hashes
@@ -79,7 +79,7 @@ pub record BeginsCheck (shape layer : ℕ) (hashes : List (List ℕ)) (c : Piece
 
 -- the check was given these further bytes
 pub record FeedsCheck (old : PieceCheck) (bytes : List ℕ) (new : PieceCheck) : Type 0 where
-  pub count : byte_count new ≡ byte_count old + length bytes
+  pub count : check_byte_count new ≡ check_byte_count old + length bytes
   pub shape : chosen_shape new ≡ chosen_shape old
   pub layer : chosen_layer new ≡ chosen_layer old
   pub hashes : given_hashes new ≡ given_hashes old

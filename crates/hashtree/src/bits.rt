@@ -17,7 +17,7 @@ pub(crate) fn set_bit(bits: &mut [u8], place: usize)
 
 /// Whether the bit with this number is set, as a bitfield has it (BEP 3): bit 0 is the highest of
 /// the first byte. A bit past the end is not.
-pub fn is_set(bits: &[u8], place: usize) -> bool
+pub(crate) fn is_set(bits: &[u8], place: usize) -> bool
     ensures { IsTrue result ↔ (bit_of bits.now place ≡ 1) }
 {
     let byte = place / 8;

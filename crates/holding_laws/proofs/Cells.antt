@@ -13,7 +13,7 @@ use Rattle.session.specs.Session.{SessionSeen, TreeState}
 use Rattle.session.specs.Pieces.{IsLeafMarked, with_leaf_marked}
 use Rattle.session.proofs.States.{set-write}
 use Rattle.holdings.specs.Cells.{Cells, digest_in, known_in, known_at}
-use Rattle.holdings.specs.Settling.{IsMarked, AreMarked}
+use Rattle.holdings.specs.Settling.{IsBlockMarked, AreBlocksMarked}
 
 -- what is held is held of a block of the piece
 pub held-inside : (cells : Cells) (j : ℕ) (d : Hash) → digest_in cells j ≡ Some d → j < length cells
@@ -52,13 +52,13 @@ mark-knows S n b d S' (s, there, leaf, is) l i =
 
 module _ (S : SessionSeen) (n first : ℕ) (cells : Cells) (from : ℕ) where
   -- a block that is not yet marked is still held
-  pub later-held : (k : ℕ) (S' : SessionSeen) (cells' : Cells) → AreMarked S n first cells from k S' cells' → (j : ℕ) (d : Hash)
+  pub later-held : (k : ℕ) (S' : SessionSeen) (cells' : Cells) → AreBlocksMarked S n first cells from k S' cells' → (j : ℕ) (d : Hash)
       → digest_in cells' j ≡ Some d → digest_in cells j ≡ Some d
   later-held zero S' cells' h j d held = ap (λ c. digest_in c j) (sym h.1) ∙ held
   later-held (suc k) S' cells' (M, between, rest, last) j d held =
       later-held k M between rest j d (emptied between (from + k) j d (ap (λ c. digest_in c j) (sym last.rest) ∙ held)).1
 
-  pub marked-length : (k : ℕ) (S' : SessionSeen) (cells' : Cells) → AreMarked S n first cells from k S' cells' → length cells' ≡ length cells
+  pub marked-length : (k : ℕ) (S' : SessionSeen) (cells' : Cells) → AreBlocksMarked S n first cells from k S' cells' → length cells' ≡ length cells
   marked-length zero S' cells' h = ap length h.1
   marked-length (suc k) S' cells' (M, between, rest, last) =
       ap length last.rest ∙ length-set between (from + k) None ∙ marked-length k M between rest
@@ -66,8 +66,8 @@ module _ (S : SessionSeen) (n first : ℕ) (cells : Cells) (from : ℕ) where
   abbrev MarkedAt : ℕ → SessionSeen → Type 0
   MarkedAt i S' = (d : Hash) × (digest_in cells (from + i) ≡ Some d) × (known_at S' n 0 (first + (from + i)) ≡ Some d)
 
-  marked-last : (k : ℕ) (M : SessionSeen) (between : Cells) (S' : SessionSeen) (cells' : Cells) → AreMarked S n first cells from k M between
-      → IsMarked M n first between (from + k) S' cells' → (i : ℕ) → i < suc k → (i < k → MarkedAt i M) → MarkedAt i S'
+  marked-last : (k : ℕ) (M : SessionSeen) (between : Cells) (S' : SessionSeen) (cells' : Cells) → AreBlocksMarked S n first cells from k M between
+      → IsBlockMarked M n first between (from + k) S' cells' → (i : ℕ) → i < suc k → (i < k → MarkedAt i M) → MarkedAt i S'
   marked-last k M between S' cells' rest last i low earlier = by (cases_eq i k)
     where
       keeps : (l j : ℕ) → known_at S' n l j ≡ known_at M n l j
@@ -84,7 +84,7 @@ module _ (S : SessionSeen) (n first : ℕ) (cells : Cells) (from : ℕ) where
           (d, held, keeps 0 (first + (from + i)) ∙ known)
 
   -- each block that is marked was held, and its digest is its known leaf
-  pub marked-each : (k : ℕ) (S' : SessionSeen) (cells' : Cells) → AreMarked S n first cells from k S' cells' → (i : ℕ) → i < k → MarkedAt i S'
+  pub marked-each : (k : ℕ) (S' : SessionSeen) (cells' : Cells) → AreBlocksMarked S n first cells from k S' cells' → (i : ℕ) → i < k → MarkedAt i S'
   marked-each zero S' cells' h i low = absurd (omega (arith, low))
   marked-each (suc k) S' cells' (M, between, rest, last) i low =
       marked-last k M between S' cells' rest last i low (λ less. marked-each k M between rest i less)

@@ -28,8 +28,8 @@ use Rattle.holdings.specs.declared.run.Run.{Run}
 use Rattle.holdings.specs.declared.run.Settled.{Settled}
 use Rattle.holdings.specs.declared.run.Settled.TheVariants.{Proved, False}
 use Rattle.holdings.specs.Cells.{Cells, digest_in, known_in, known_at}
-use Rattle.holdings.specs.Settling.{IsMarkedRun, IsGivenUp, IsJudged, Settles, run_of}
-use Rattle.holdings.specs.Holdings.{PieceSeen, HoldingsSeen, Keeps, Renews, Begins, MakesRoom, with_piece, without_piece}
+use Rattle.holdings.specs.Settling.{IsMarkedRun, IsGivenUp, IsBlockJudged, Settles, run_of}
+use Rattle.holdings.specs.Holdings.{PieceSeen, HoldingsSeen, KeepsDigest, Renews, BeginsPiece, MakesRoom, with_piece, without_piece}
 use Rattle.holdings.specs.Holding.{IsHeldNow}
 use Rattle.holdings.specs.Next.{SettlesPiece, LeavesCells, with_cells}
 use Rattle.holdings.specs.Runs.{Act, Holds, Settling, Elsewhere, Does, IsSessionOf, Past, newest, CameAsTheBlock, ProvedWasTheBlock}
@@ -78,7 +78,7 @@ pair a b = (a, b)
 
 module _ (d : Description) (past : List Act) (h : HoldingsSeen) (good : IsHeldFrom d past h) (n first size at : ℕ) (bytes : List ℕ)
     (dropped : Option Run) (h' : HoldingsSeen) (here : IsPieceOf d (pair n first) size) (inside : at < size)
-    (keeps : Keeps h (pair n first) size at (sha256 bytes) dropped h') where
+    (keeps : KeepsDigest h (pair n first) size at (sha256 bytes) dropped h') where
   abbrev q : ℕ × ℕ
   q = pair n first
 
@@ -202,6 +202,6 @@ module _ (d : Description) (past : List Act) (h : HoldingsSeen) (good : IsHeldFr
   unfolding before-renewed before-begun
   held-from = by keeps
     where
-      by : ((dropped ≡ None) × Renews h q at (sha256 bytes) h') ⊎ Begins h q size at (sha256 bytes) dropped h' → IsHeldFrom d (act ∷ past) h'
+      by : ((dropped ≡ None) × Renews h q at (sha256 bytes) h') ⊎ BeginsPiece h q size at (sha256 bytes) dropped h' → IsHeldFrom d (act ∷ past) h'
       by (inl (none, k)) = kept-from (before-renewed k) h (λ r x at'. at') k.after
       by (inr k) = kept-from before-begun k.between (room-less dropped k.between k.room) k.after

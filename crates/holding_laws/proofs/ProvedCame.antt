@@ -28,8 +28,8 @@ use Rattle.holdings.specs.declared.run.Run.{Run}
 use Rattle.holdings.specs.declared.run.Settled.{Settled}
 use Rattle.holdings.specs.declared.run.Settled.TheVariants.{Proved, False}
 use Rattle.holdings.specs.Cells.{Cells, digest_in, known_in, known_at}
-use Rattle.holdings.specs.Settling.{IsMarkedRun, IsGivenUp, IsJudged, Settles, run_of}
-use Rattle.holdings.specs.Holdings.{PieceSeen, HoldingsSeen, Keeps, Renews, Begins, MakesRoom, with_piece, without_piece}
+use Rattle.holdings.specs.Settling.{IsMarkedRun, IsGivenUp, IsBlockJudged, Settles, run_of}
+use Rattle.holdings.specs.Holdings.{PieceSeen, HoldingsSeen, KeepsDigest, Renews, BeginsPiece, MakesRoom, with_piece, without_piece}
 use Rattle.holdings.specs.Holding.{IsHeldNow}
 use Rattle.holdings.specs.Next.{SettlesPiece, LeavesCells, with_cells}
 use Rattle.holdings.specs.Runs.{Act, Holds, Settling, Elsewhere, Does, IsSessionOf, Past, newest, CameAsTheBlock, ProvedWasTheBlock}

@@ -35,7 +35,7 @@ use Rattle.holdings.specs.Next.{AreUnsettled, SettlesNext, LacksMemoryNext}
 use Rattle.holdings.specs.TruePieces.{IsTruePiece, IsProvedOr, ProvesTruePiece, TruePieceIsProved}
 
 -- a known leaf of a tree is that of a file which fits, or a collision is named
-true-leaf : (t : TreeRoot) (s : TreeState) (f : List ℕ) (b : ℕ) (v : Hash) → Fits f t → IsClosed t (look s.known) → look s.known 0 b ≡ Some v
+true-leaf : (t : TreeRoot) (s : TreeState) (f : List ℕ) (b : ℕ) (v : Hash) → Fits f t.length t.root → IsClosed t (look s.known) → look s.known 0 b ≡ Some v
     → b < block_count t.length → (v ≡ sha256 (block f b)) ⊎ Collision (whole f) (look s.known)
 true-leaf t s f b v fits closed known low = by (agreed_or_collision t (whole f) (look s.known) (whole-closed f t fits) closed)
   where

@@ -45,7 +45,7 @@ one-more f xs i e at =
 
 module _ (f : Row → ℕ) (ts : List TierSeen) (i : ℕ) (lt : i < length ts) where
   pub tier-taken : flat (take (i + 1) ts) ≡ flat (take i ts) ++ items_at ts i
-  tier-taken = ap flat (take_more ts i (record { items = []; width = 0 }) lt) ∙ flat-push (take i ts) _
+  tier-taken = ap flat (take_more ts i (record { items = []; width = 0; capacity = 0 }) lt) ∙ flat-push (take i ts) _
 
   pub tier-more : sum_by f (flat (take (i + 1) ts)) ≡ sum_by f (flat (take i ts)) + sum_by f (items_at ts i)
   tier-more = ap (sum_by f) tier-taken ∙ sum_by-append f (flat (take i ts)) (items_at ts i)

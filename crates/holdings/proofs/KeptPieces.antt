@@ -14,7 +14,7 @@ use Rattle.fixed_maps.specs.FixedMaps.{map_of, map_room}
 use Rattle.holdings.specs.declared.run.Run.{Run}
 use Rattle.holdings.specs.Cells.{Cells}
 use Rattle.holdings.specs.Settling.{run_of}
-use Rattle.holdings.specs.Holdings.{PieceSeen, HoldingsSeen, KeptPieces, KeptAges, WritesCell, IsAged, IsKept, IsLowPiece, Renews, Begins}
+use Rattle.holdings.specs.Holdings.{PieceSeen, HoldingsSeen, KeptPieces, KeptAges, WritesCell, IsAged, IsKept, IsLowPiece, Renews, BeginsPiece}
 use Rattle.holdings.specs.Holdings.{age_at, seen_at}
 use Rattle.holdings.specs.Holdings.{seen_holdings, without_piece, with_table_piece}
 use Rattle.holdings.specs.Next.{HoldsSome, IsBare, LeavesCells, with_cells}
@@ -39,7 +39,7 @@ module _ (m m' : KeptPieces) (most clock : ℕ) (q : ℕ × ℕ) where
 
   -- the first digest of a piece, for which there is room
   pub begun : (size j : ℕ) (d : Hash) → seen_at m q ≡ None → len m.pieces < most → m' ≡ with_table_piece m q (begins-with size j d)
-      → Begins (seen_holdings m most clock) q size j d None (seen_holdings m' most (clock + 1))
+      → BeginsPiece (seen_holdings m most clock) q size j d None (seen_holdings m' most (clock + 1))
   begun size j d absent room is = record {
     absent = absent;
     between = seen_holdings m most clock;
@@ -51,7 +51,7 @@ module _ (m m' : KeptPieces) (most clock : ℕ) (q : ℕ × ℕ) where
   pub begun-full : (size j : ℕ) (d : Hash) (m1 : KeptPieces) (v : ℕ × ℕ) (x : PieceSeen) (run : Run) → seen_at m q ≡ None
       → most ≤ len m.pieces → seen_at m v ≡ Some x → ((r : ℕ × ℕ) (y : PieceSeen) → seen_at m r ≡ Some y → x.newest ≤ y.newest)
       → run ≡ run_of v.0 v.1 0 (length x.cells - 1) → m1 ≡ with_table_piece m q (begins-with size j d) → m' ≡ record m1 { pieces = remove m1.pieces v }
-      → Begins (seen_holdings m most clock) q size j d (Some run) (seen_holdings m' most (clock + 1))
+      → BeginsPiece (seen_holdings m most clock) q size j d (Some run) (seen_holdings m' most (clock + 1))
   begun-full size j d m1 v x run absent full there oldest run_is is gone = record {
     absent = absent;
     between = without_piece (seen_holdings m most clock) v;
@@ -137,6 +137,7 @@ module _ (m m' : KeptPieces) (a : KeptAges) (most clock : ℕ) (kept : IsKept m 
     few = let few = kept.few in let same = same-pieces m m' q x y is there in omega (arith, few, same);
     room = let room = kept.room in let same : m'.room ≡ m.room = ap (λ (t : KeptPieces). t.room) is in omega (arith, room, same);
     ages_room = kept.ages_room;
+    few_ages = kept.few_ages;
   }
 
 module _ (m m' : KeptPieces) (a a' : KeptAges) (most clock : ℕ) (kept : IsKept m a most clock) (q : ℕ × ℕ) (wide : map_room a' ≡ map_room a) where
@@ -160,6 +161,7 @@ module _ (m m' : KeptPieces) (a a' : KeptAges) (most clock : ℕ) (kept : IsKept
     few = let few = kept.few in let same = same-pieces m m' q x y is there in omega (arith, few, same);
     room = let room = kept.room in let same : m'.room ≡ m.room = ap (λ (t : KeptPieces). t.room) is in omega (arith, room, same);
     ages_room = let room = kept.ages_room in omega (arith, room, wide);
+    few_ages = let few = kept.few_ages in omega (arith, few, wide);
   }
     where
       at : age_at a x.newest ≡ Some q
@@ -185,6 +187,7 @@ module _ (m m' : KeptPieces) (a a' : KeptAges) (most clock : ℕ) (kept : IsKept
     few = let few = kept.few in let less = fewer-pieces m m' q x is there in omega (arith, few, less);
     room = let room = kept.room in let same : m'.room ≡ m.room = ap (λ (t : KeptPieces). t.room) is in omega (arith, room, same);
     ages_room = let room = kept.ages_room in omega (arith, room, wide);
+    few_ages = let few = kept.few_ages in omega (arith, few, wide);
   }
 
 -- a piece comes
@@ -214,6 +217,7 @@ module _ (m m1 : KeptPieces) (a a1 : KeptAges) (most clock : ℕ) (kept : IsKept
     few = let more = more-pieces m m1 q y is absent in omega (arith, room, more);
     room = let room = kept.room in omega (arith, room, same-room);
     ages_room = let room = kept.ages_room in omega (arith, room, wide);
+    few_ages = let few = kept.few_ages in omega (arith, few, wide);
   }
 
   -- and another one goes
@@ -245,4 +249,5 @@ module _ (m m1 : KeptPieces) (a a1 : KeptAges) (most clock : ℕ) (kept : IsKept
           let same : m2.room ≡ m1.room = ap (λ (t : KeptPieces). t.room) gone in
           omega (arith, room, same-room, same);
       ages_room = let room = kept.ages_room in omega (arith, room, wide, wide2);
+      few_ages = let few = kept.few_ages in omega (arith, few, wide, wide2);
     }

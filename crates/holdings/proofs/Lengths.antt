@@ -6,10 +6,10 @@ use Rattle.session.specs.Session.{SessionSeen}
 use Rattle.holdings.specs.declared.run.Settled.{Settled}
 use Rattle.holdings.specs.declared.run.Settled.TheVariants.{Proved, False}
 use Rattle.holdings.specs.Cells.{Cells}
-use Rattle.holdings.specs.Settling.{AreMarked, Settles}
+use Rattle.holdings.specs.Settling.{AreBlocksMarked, Settles}
 
 pub marked-length : (S : SessionSeen) (n first : ℕ) (cells : Cells) (from k : ℕ) (S' : SessionSeen) (cells' : Cells)
-    → AreMarked S n first cells from k S' cells' → length cells' ≡ length cells
+    → AreBlocksMarked S n first cells from k S' cells' → length cells' ≡ length cells
 marked-length S n first cells from zero S' cells' h = ap length h.1
 marked-length S n first cells from (suc k) S' cells' (M, between, rest, last) =
     ap length last.rest ∙ length-set between (from + k) None ∙ marked-length S n first cells from k M between rest

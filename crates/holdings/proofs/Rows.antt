@@ -1,10 +1,10 @@
 -- Rows of cells, and what contracts see of them.
 use Rattle.std.proofs.Common.{◌≡◌, ◌≢◌, ◌⊎◌, inl, inr, ℕ, zero, suc, ◌+◌, ◌-◌, ◌*◌, ◌<◌, ◌≤◌, ◌++◌, Bool, true, false, cond, ◌&&◌, T, List, [], ◌∷◌, map}
-use Rattle.std.proofs.Common.{is_some, length, take, drop, set, replicate, get_or, Option, Some, None, IfNone, Less, refl, sym, ap, ap₂, ◌∙◌, subst, arith}
+use Rattle.std.proofs.Common.{is_some, length, take, drop, get_or, Option, Some, None, IfNone, refl, sym, ap, ap₂, ◌∙◌, subst, arith}
 use Rattle.std.specs.Option.{option_map}
-use Rattle.std.specs.Ordering.{eq_by_cmp, is_lt}
+use Rattle.std.specs.Ordering.{eq_by_cmp}
 use Rattle.std.specs.Cmp.{eq_by_cmp_equiv}
-use Rattle.std.specs.FinMap.{FinMap, entries, entries_sorted, from_sorted, get, insert, remove, len, empty, empty_of_len, len-empty, len-remove, get-empty}
+use Rattle.std.specs.FinMap.{FinMap, entries, entries_sorted, get, insert, remove, len, empty, empty_of_len, len-empty, len-remove, get-empty}
 use Rattle.std.specs.FinMap.{get-entries, len-entries, entries-from_sorted, get-from_sorted, get-insert, get-remove, same_map}
 use Rattle.std.specs.FinMap.Entries.{find, below_all, is_sorted}
 use Rattle.std.proofs.lemmas.Bool.{cases_lt}
@@ -16,11 +16,11 @@ use borrow.Rule.Slice.PartMut.{put_mid}
 use Rattle.node_maps.specs.Known.{place_cmp}
 use Rattle.node_maps.proofs.Known.{place_total, place_exact}
 use Rattle.holdings.specs.Cells.{Cells}
-use Rattle.holdings.specs.Holdings.{PieceSeen}
+use Rattle.holdings.specs.Holdings.{PieceSeen, KeptPieces, seen_at, with_table_piece}
 use Rattle.slab.specs.Slab as slab
 use Rattle.slab.specs.Slab.{Slab}
 use Rattle.fixed_maps.specs.FixedMaps.{FixedMapSeen, map_of}
-use Rattle.holdings.specs.Tables.{RowOf, IsTable, seen_row, seen_rows}
+use Rattle.holdings.specs.Tables.{RowOf, IsRowAt, IsTable, seen_row, seen_rows, seen_table}
 
 -- ---- one row among others
 
@@ -193,6 +193,24 @@ one-less m m' q p at is =
 pub no-rows : (cells : Cells) (newest : List ℕ) (w : ℕ) (m : FinMap place_cmp RowOf) → m ≡ empty → seen_rows cells newest w m ≡ empty
 no-rows cells newest w m none = empty_of_len _ (len-rows cells newest w m ∙ ap len none ∙ len-empty place_cmp RowOf)
 
+-- the cells of a row, as a slice of all cells
+pub record IsCut (cells xs : Cells) (w : ℕ) (p : RowOf) (start part : ℕ) : Type 0 where
+  pub start_is : start ≡ p.0 * w
+  pub part_is : part ≡ p.1
+  pub cut : take part (drop start xs) ≡ take p.1 (drop (p.0 * w) cells)
+  pub long : length (take part (drop start xs)) ≡ p.1
+  pub put : (ys : Cells) → length ys ≡ p.1 → length (put_mid start part xs ys) ≡ length xs
+
+pub is-cut : (cells xs : Cells) (w : ℕ) (p : RowOf) (start part : ℕ) → xs ≡ cells → start ≡ p.0 * w → part ≡ p.1 → start + p.1 ≤ length xs
+    → IsCut cells xs w p start part
+is-cut cells xs w p start part now at is fits = record {
+  start_is = at;
+  part_is = is;
+  cut = ap₂ (λ n (zs : Cells). take n (drop start zs)) is now ∙ ap (λ a. take p.1 (drop a cells)) at;
+  long = part-size xs start p.1 part is fits;
+  put = λ ys sized. mid-size start part xs ys (sized ∙ sym is) (omega (arith, is, fits));
+}
+
 -- ---- in a table
 
 module _ (order : FixedMapSeen) (rows : Slab (ℕ × ℕ)) (cells : Cells) (newest : List ℕ) (w room n k : ℕ) (table : IsTable order rows cells newest w room n k)
@@ -231,3 +249,36 @@ module _ (order : FixedMapSeen) (rows : Slab (ℕ × ℕ)) (cells : Cells) (newe
     pub table-written : seen_rows written newest' w (map_of order) ≡ insert (seen_rows cells newest w (map_of order)) q (record { cells = ys; newest = t })
     table-written = row-written (map_of order) cells written newest newest' w q p (record { cells = ys; newest = t }) there
         (ap₂ (λ (cs : Cells) i. record { cells = cs; newest = i }) own-cells time) other-cells
+
+    -- what is seen after it
+    pub table-after : (xs zs : Cells) (start : ℕ) → IsCut cells xs w p start size → xs ≡ cells → zs ≡ put_mid start size xs ys → (v : KeptPieces)
+        → seen_table order room cells newest w ≡ v → seen_table order room zs newest' w ≡ with_table_piece v q (record { cells = ys; newest = t })
+    table-after xs zs start c now is v was =
+        let pieces : seen_rows zs newest' w (map_of order) ≡ insert (seen_rows cells newest w (map_of order)) q (record { cells = ys; newest = t }) =
+        ap (λ cs. seen_rows cs newest' w (map_of order)) (is ∙ ap₂ (λ a us. put_mid a size us ys) c.start_is now) ∙ table-written in
+        subst (λ (k : KeptPieces). seen_table order room zs newest' w ≡ with_table_piece k q (record { cells = ys; newest = t })) was
+        (λ i. record { pieces = pieces i; room = room; width = w })
+
+-- ---- a row that was found
+
+module _ (order : FixedMapSeen) (cells : Cells) (newest : List ℕ) (w room : ℕ) (v : KeptPieces) (is : seen_table order room cells newest w ≡ v)
+    (q : ℕ × ℕ) where
+  -- the piece is not there
+  pub none-there : get (map_of order) q ≡ None → seen_at v q ≡ None
+  none-there none = subst (λ (k : KeptPieces). seen_at k q ≡ None) is (row-none cells newest w (map_of order) q none)
+
+  module _ (len row start end : ℕ) (at : IsRowAt (map_of order) w len q row start end) (whole : len ≤ length cells) where
+    pub row-there : seen_at v q ≡ Some (seen_row cells newest w (row, at.size))
+    row-there = subst (λ (k : KeptPieces). seen_at k q ≡ Some (seen_row cells newest w (row, at.size))) is
+        (row-some cells newest w (map_of order) q (row, at.size) at.there)
+
+    pub row-long : length (take at.size (drop (row * w) cells)) ≡ at.size
+    row-long = row-size cells newest w (row, at.size) at.low (omega (arith, at.start_is, at.inside, whole))
+
+    -- it is the piece's
+    pub row-same : (x : PieceSeen) → seen_at v q ≡ Some x → at.size ≡ length x.cells
+    row-same x there = sym row-long ∙ ap (λ (y : PieceSeen). length y.cells) (same_Some _ x (sym row-there ∙ there))
+
+    pub row-cut : (xs : Cells) → xs ≡ cells → IsCut cells xs w (row, at.size) start (end - start)
+    row-cut xs now = is-cut cells xs w (row, at.size) start (end - start) now at.start_is (omega (arith, at.end_is))
+        (let same = ap length now in omega (arith, same, at.low, at.inside, whole))

@@ -20,7 +20,8 @@ use Rattle.holdings.specs.declared.run.Run.{Run}
 use Rattle.holdings.specs.declared.run.Settled.{Settled}
 use Rattle.holdings.specs.declared.run.Settled.TheVariants.{Proved, False}
 use Rattle.holdings.specs.Cells.{Cells, digest_in, known_in, known_at, tried_leaf, AreUnknown, IsComplete, IsUnsettled, IsNodeKnown}
-use Rattle.holdings.specs.Settling.{AreTried, IsJoined, IsRefuted, IsTaken, IsMarked, AreMarked, CannotMark, IsMarkedRun, IsGivenUp, IsJudged, IsFirstKnown}
+use Rattle.holdings.specs.Settling.{AreTried, IsJoined, IsRefuted, IsTaken, IsBlockMarked, AreBlocksMarked, CannotMark, IsMarkedRun, IsGivenUp, IsBlockJudged}
+use Rattle.holdings.specs.Settling.{IsFirstKnownBlock}
 use Rattle.holdings.specs.Settling.{Settles, run_of}
 
 pub some_of : {X : Type 0} (o : Option X) → IsSome o → (x : X) × (o ≡ Some x)
@@ -62,7 +63,7 @@ refuted S n first size cells leaves Unproved complete tried h other =
 module _ (S : SessionSeen) (n first size : ℕ) (cells : Cells) where
   -- the held block with a known leaf that comes first is judged
   pub settles-known : (from : ℕ) (e : Settled) (S' : SessionSeen) (cells' : Cells) → from < size → IsSome (digest_in cells from)
-      → IsSome (known_at S n 0 (first + from)) → AreUnknown S n first from cells → IsJudged S n first size cells from e S' cells'
+      → IsSome (known_at S n 0 (first + from)) → AreUnknown S n first from cells → IsBlockJudged S n first size cells from e S' cells'
       → Settles S n first size cells e S' cells'
   settles-known from e S' cells' inside held known earlier judged =
       let (d, is_held) = some_of (digest_in cells from) held in
@@ -76,7 +77,7 @@ module _ (S : SessionSeen) (n first size : ℕ) (cells : Cells) where
   -- after the join of a complete piece its first held block is known, and marked
   pub settles-joined : (M : SessionSeen) (from : ℕ) (e : Settled) (S' : SessionSeen) (cells' : Cells) → AreUnknown S n first size cells
       → IsJoined S n first size cells M → from < size → IsSome (digest_in cells from) → ((i : ℕ) → i < from → digest_in cells i ≡ None)
-      → IsJudged M n first size cells from e S' cells' → Settles S n first size cells e S' cells'
+      → IsBlockJudged M n first size cells from e S' cells' → Settles S n first size cells e S' cells'
   settles-joined M from e S' cells' unknown joined inside held earlier judged = by e judged
     where
       d : Hash
@@ -93,7 +94,7 @@ module _ (S : SessionSeen) (n first size : ℕ) (cells : Cells) where
           known-here M n taken.after 0 (first + from) at.state_is ∙ joined.known taken.tree taken.after at from low ∙ sym (joined.tried.each from inside)
           ∙ ap (λ o. option_or o (known_at S n 0 (first + from))) is_held
 
-      is_first : IsFirstKnown M n first size cells from
+      is_first : IsFirstKnownBlock M n first size cells from
       is_first = record {
         inside = inside;
         digest = d;
@@ -103,7 +104,7 @@ module _ (S : SessionSeen) (n first size : ℕ) (cells : Cells) where
         earlier = λ j low some. absurd (false≢true (subst IsSome (earlier j low) some));
       }
 
-      by : (e : Settled) → IsJudged M n first size cells from e S' cells' → Settles S n first size cells e S' cells'
+      by : (e : Settled) → IsBlockJudged M n first size cells from e S' cells' → Settles S n first size cells e S' cells'
       by (Proved run) marked = inr (record { unknown = unknown; joined = M; join = joined; from = from; is_first = is_first; marked = marked })
       by (False run) given = absurd (given.other d is_held known)
 
@@ -115,6 +116,7 @@ module _ (S : SessionSeen) (n first size : ℕ) (cells : Cells) where
 
 -- one more block is marked
 pub marked-more : (S : SessionSeen) (n first : ℕ) (cells : Cells) (from k : ℕ) (M : SessionSeen) (between : Cells) (S' : SessionSeen) (cells' : Cells)
-    → AreMarked S n first cells from k M between → IsMarked M n first between (from + k) S' cells' → AreMarked S n first cells from (k + 1) S' cells'
+    → AreBlocksMarked S n first cells from k M between → IsBlockMarked M n first between (from + k) S' cells'
+    → AreBlocksMarked S n first cells from (k + 1) S' cells'
 marked-more S n first cells from k M between S' cells' rest last =
-    subst (λ i. AreMarked S n first cells from i S' cells') (sym (add-one k)) (M, between, rest, last)
+    subst (λ i. AreBlocksMarked S n first cells from i S' cells') (sym (add-one k)) (M, between, rest, last)

@@ -11,7 +11,7 @@ use Rattle.holdings.specs.declared.run.Run.{Run}
 use Rattle.holdings.specs.declared.holding.Hold.{Hold}
 use Rattle.holdings.specs.declared.holding.Hold.TheVariants.{Held, Known, NoMemory}
 use Rattle.holdings.specs.Cells.{known_at}
-use Rattle.holdings.specs.Holdings.{HoldingsSeen, Keeps, CannotKeep}
+use Rattle.holdings.specs.Holdings.{HoldingsSeen, KeepsDigest, CannotKeep}
 
 -- the files of tree n have this block
 abbrev pub IsTreeBlock : SessionSeen → ℕ → ℕ → Type 0
@@ -29,7 +29,7 @@ pub record IsHeldNow (h : HoldingsSeen) (S : SessionSeen) (n b : ℕ) (bytes : L
   pub at : ℕ
   pub inside : at < size
   pub block_is : b ≡ first + at
-  pub keeps : Keeps h (n, first) size at (sha256 bytes) dropped h'
+  pub keeps : KeepsDigest h (n, first) size at (sha256 bytes) dropped h'
 
 -- the leaf of block b of tree n is not known, and no digest can be held for it
 pub record CannotHold (h : HoldingsSeen) (S : SessionSeen) (n b : ℕ) : Type 0 where
@@ -40,11 +40,13 @@ pub record CannotHold (h : HoldingsSeen) (S : SessionSeen) (n b : ℕ) : Type 0 
   pub size : ℕ
   pub piece : IsLeafRow tree.length first (piece_span S.torrent.piece_length tree.length) size
   pub at : ℕ
+  pub inside : at < size
   pub block_is : b ≡ first + at
   pub cannot : CannotKeep h (n, first) size at
 
 -- what becomes of a block that is to be held
-abbrev pub IsHeldBy : HoldingsSeen → SessionSeen → ℕ → ℕ → List ℕ → Hold → HoldingsSeen → Type 0
-IsHeldBy h S n b bytes (Held dropped) h' = IsHeldNow h S n b bytes dropped h'
-IsHeldBy h S n b bytes Known h' = IsSome (known_at S n 0 b) × (h' ≡ h)
-IsHeldBy h S n b bytes NoMemory h' = CannotHold h S n b × (h' ≡ h)
+abbrev pub IsBlockHeldBy : HoldingsSeen → SessionSeen → ℕ → ℕ → List ℕ → Hold → HoldingsSeen
+    → Type 0
+IsBlockHeldBy h S n b bytes (Held dropped) h' = IsHeldNow h S n b bytes dropped h'
+IsBlockHeldBy h S n b bytes Known h' = IsSome (known_at S n 0 b) × (h' ≡ h)
+IsBlockHeldBy h S n b bytes NoMemory h' = CannotHold h S n b × (h' ≡ h)

@@ -6,9 +6,10 @@ use Rattle.std.specs.FinMap as finite
 use Rattle.std.specs.FinMap.{FinMap, get, insert, remove, len}
 use Rattle.node_maps.specs.Digest.{Hash}
 use Rattle.node_maps.specs.Known.{place_cmp}
-use Rattle.fixed_maps.specs.FixedMaps.{FixedMapSeen, map_of, map_room}
+use Rattle.fixed_maps.specs.FixedMaps.{FixedMapSeen, map_of, map_room, most_room}
 use Rattle.holdings.specs.Cells.{Cells, digest_in}
 use Rattle.holdings.specs.Settling.{run_of}
+use Rattle.holdings.specs.declared.piece_range.Pieces.{Pieces}
 use Rattle.holdings.specs.declared.run.Run.{Run}
 
 -- of one piece: its cells, and when its newest block came
@@ -23,6 +24,10 @@ pub record HoldingsSeen : Type 0 where
   pub most : ℕ
   pub longest : ℕ
   pub clock : ℕ
+
+-- all pieces of tree n
+abbrev pub all_pieces : ℕ → Pieces
+all_pieces n = record { tree = n; from = 0; end = 2 ^ 64 - 1 }
 
 -- how many pieces may be held, by the bound on the blocks held and the blocks of the longest piece:
 -- at least one, and 2^31 at most
@@ -84,7 +89,7 @@ pub record Renews (h : HoldingsSeen) (q : ℕ × ℕ) (j : ℕ) (d : Hash) (h' :
   pub after : h' ≡ with_piece h q (set seen.cells j (Some d))
 
 -- nothing was held of the piece of `size` blocks, and now this digest of its block j
-pub record Begins (h : HoldingsSeen) (q : ℕ × ℕ) (size j : ℕ) (d : Hash) (dropped : Option Run)
+pub record BeginsPiece (h : HoldingsSeen) (q : ℕ × ℕ) (size j : ℕ) (d : Hash) (dropped : Option Run)
     (h' : HoldingsSeen) : Type 0 where
   pub absent : get h.pieces q ≡ None
   pub between : HoldingsSeen
@@ -92,16 +97,17 @@ pub record Begins (h : HoldingsSeen) (q : ℕ × ℕ) (size j : ℕ) (d : Hash) 
   pub after : h' ≡ with_piece between q (set (replicate size None) j (Some d))
 
 -- no digest can be held of block j of the piece of `size` blocks: as many were held as a number of
--- 64 bits says; or the piece is held with fewer blocks, or has more than a piece may have, so that
--- it is one of another torrent
+-- 64 bits says; or the piece is held with fewer blocks, or it is not held and has more than a piece
+-- may have, so that it is one of another torrent
 abbrev pub CannotKeep : HoldingsSeen → ℕ × ℕ → ℕ → ℕ → Type 0
 CannotKeep h q size j = (h.clock + 1 ≡ 2 ^ 64)
-    ⊎ (((x : PieceSeen) × (get h.pieces q ≡ Some x) × (length x.cells ≤ j)) ⊎ (h.longest < size))
+    ⊎ (((x : PieceSeen) × (get h.pieces q ≡ Some x) × (length x.cells ≤ j))
+    ⊎ ((get h.pieces q ≡ None) × (h.longest < size)))
 
 -- the digest is held of block j of the piece, in place of an older one
-abbrev pub Keeps : HoldingsSeen → ℕ × ℕ → ℕ → ℕ → Hash → Option Run → HoldingsSeen → Type 0
-Keeps h q size j d dropped h' = ((dropped ≡ None) × Renews h q j d h')
-    ⊎ Begins h q size j d dropped h'
+abbrev pub KeepsDigest : HoldingsSeen → ℕ × ℕ → ℕ → ℕ → Hash → Option Run → HoldingsSeen → Type 0
+KeepsDigest h q size j d dropped h' = ((dropped ≡ None) × Renews h q j d h')
+    ⊎ BeginsPiece h q size j d dropped h'
 
 -- ---- as it is kept
 
@@ -154,8 +160,8 @@ pub record IsAged (piece : ℕ × ℕ → Option PieceSeen) (age : ℕ → Optio
   pub past : (t : ℕ) (q : ℕ × ℕ) → age t ≡ Some q → t < clock
   pub low : (q : ℕ × ℕ) (x : PieceSeen) → piece q ≡ Some x → IsLowPiece q x
 
--- the same of the two maps, which have as many entries; each age stands behind a zero; and there
--- are no more pieces than there may be, and room for one more
+-- the same of the two maps, which have as many entries; each age stands behind a zero; there are no
+-- more pieces than there may be; and memory was asked for one more, and not for more than that
 pub record IsKept (pieces : KeptPieces) (ages : KeptAges) (most clock : ℕ) : Type 0 where
   pub aged : IsAged (seen_at pieces) (age_at ages) clock
   pub zero : (k q : ℕ × ℕ) → get (map_of ages) k ≡ Some q → k.0 ≡ 0
@@ -163,8 +169,9 @@ pub record IsKept (pieces : KeptPieces) (ages : KeptAges) (most clock : ℕ) : T
   pub some : 0 < most
   pub many : most ≤ 2 ^ 31
   pub few : len pieces.pieces ≤ most
-  pub room : most < pieces.room
+  pub room : pieces.room ≡ most + 1
   pub ages_room : most < map_room ages
+  pub few_ages : map_room ages ≤ most_room (most + 1)
 
 abbrev cells_code : Coded Cells
 cells_code = coded_list (coded_option (coded_list coded_ℕ))

@@ -12,7 +12,7 @@ use Rattle.holdings.specs.declared.run.Run.{Run}
 use Rattle.holdings.specs.declared.run.Settled.{Settled}
 use Rattle.holdings.specs.declared.run.Settled.TheVariants.{Proved}
 use Rattle.holdings.specs.Holdings.{HoldingsSeen}
-use Rattle.holdings.specs.Holding.{IsHeldBy}
+use Rattle.holdings.specs.Holding.{IsBlockHeldBy}
 use Rattle.holdings.specs.Next.{SettlesNext}
 
 -- something that happens: bytes for block b of tree n are to be held; one settling; or anything
@@ -24,7 +24,7 @@ pub data Act : Type 0 where
 
 -- what it does to a session and to what is held beside it
 abbrev pub Does : SessionSeen → HoldingsSeen → Act → SessionSeen → HoldingsSeen → Type 0
-Does S h (Holds n b bytes r) S' h' = IsHeldBy h S n b bytes r h' × (S' ≡ S)
+Does S h (Holds n b bytes r) S' h' = IsBlockHeldBy h S n b bytes r h' × (S' ≡ S)
 Does S h (Settling p e) S' h' = (p' : Pieces) × SettlesNext S h p e S' h' p'
 Does S h Elsewhere S' h' = h' ≡ h
 

@@ -2,7 +2,7 @@
 use Rattle.std.specs.Prelude.{◌≡◌, ◌≢◌, ◌⊎◌, ℕ, zero, suc, ◌+◌, ◌-◌, ◌<◌, Bool, true, false, List, length, set, slice_get, replicate, Option, Some, None}
 use Rattle.node_maps.specs.Digest.{Hash}
 use Rattle.partial_tree.specs.declared.refusal.PieceRefusal.TheVariants.{BadPiece}
-use Rattle.session.specs.Pieces.{AreLeavesTaken, AreLeavesRefused, AreLeavesKnown, IsLeafMarked}
+use Rattle.session.specs.Pieces.{AreLeavesTaken, AreLeavesRefused, AreLeavesKnown, HasEndPads, IsLeafMarked}
 use Rattle.session.specs.Session.{SessionSeen}
 use Rattle.holdings.specs.declared.run.Run.{Run}
 use Rattle.holdings.specs.declared.run.Settled.{Settled}
@@ -19,7 +19,8 @@ pub record AreTried (S : SessionSeen) (n first size : ℕ) (cells : Cells) (leav
   pub count : length leaves ≡ size
   pub each : (j : ℕ) → j < size → tried_leaf S n first cells j ≡ slice_get leaves j
 
--- the leaves of a complete piece lead to its known node, and are joined to what is known
+-- the leaves of a complete piece lead to its known node, and are joined to what is known, those of
+-- the last piece with the pads beside the file's end
 pub record IsJoined (S : SessionSeen) (n first size : ℕ) (cells : Cells) (S' : SessionSeen)
     : Type 0 where
   pub complete : IsComplete S n first size cells
@@ -28,6 +29,7 @@ pub record IsJoined (S : SessionSeen) (n first size : ℕ) (cells : Cells) (S' :
   pub count : ℕ
   pub taken : AreLeavesTaken S n first leaves count S'
   pub known : AreLeavesKnown S' n first leaves
+  pub pads : HasEndPads S' n first
 
 -- the leaves of a complete piece lead to another node than the known one
 pub record IsRefuted (S : SessionSeen) (n first size : ℕ) (cells : Cells) : Type 0 where
@@ -44,7 +46,7 @@ IsTaken S n first size cells false S' = IsRefuted S n first size cells × (S' �
 
 -- the digest that is held of block j of the piece is its known leaf; the leaf is marked, and
 -- nothing more is held of it
-pub record IsMarked (S : SessionSeen) (n first : ℕ) (cells : Cells) (j : ℕ) (S' : SessionSeen)
+pub record IsBlockMarked (S : SessionSeen) (n first : ℕ) (cells : Cells) (j : ℕ) (S' : SessionSeen)
     (cells' : Cells) : Type 0 where
   pub digest : Hash
   pub held : digest_in cells j ≡ Some digest
@@ -57,10 +59,11 @@ CannotMark S n first cells j = (d : Hash) → digest_in cells j ≡ Some d
     → known_at S n 0 (first + j) ≢ Some d
 
 -- this many blocks of the piece, from block j on, are marked one after the other
-abbrev pub AreMarked : SessionSeen → ℕ → ℕ → Cells → ℕ → ℕ → SessionSeen → Cells → Type 0
-AreMarked S n first cells j zero S' cells' = (S' ≡ S) × (cells' ≡ cells)
-AreMarked S n first cells j (suc k) S' cells' = (M : SessionSeen) × (between : Cells)
-    × AreMarked S n first cells j k M between × IsMarked M n first between (j + k) S' cells'
+abbrev pub AreBlocksMarked : SessionSeen → ℕ → ℕ → Cells → ℕ → ℕ → SessionSeen → Cells → Type 0
+AreBlocksMarked S n first cells j zero S' cells' = (S' ≡ S) × (cells' ≡ cells)
+AreBlocksMarked S n first cells j (suc k) S' cells' = (M : SessionSeen) × (between : Cells)
+    × AreBlocksMarked S n first cells j k M between
+    × IsBlockMarked M n first between (j + k) S' cells'
 
 -- blocks from `from` on are marked, as many as can be, and at least one
 pub record IsMarkedRun (S : SessionSeen) (n first size : ℕ) (cells : Cells) (from : ℕ) (run : Run)
@@ -68,7 +71,7 @@ pub record IsMarkedRun (S : SessionSeen) (n first size : ℕ) (cells : Cells) (f
   pub more : ℕ
   pub inside : from + more < size
   pub run_is : run ≡ run_of n first from (from + more)
-  pub marks : AreMarked S n first cells from (suc more) S' cells'
+  pub marks : AreBlocksMarked S n first cells from (suc more) S' cells'
   pub longest : from + suc more < size → CannotMark S' n first cells' (from + suc more)
 
 -- one held block is given up, since its digest is not its known leaf
@@ -80,14 +83,15 @@ pub record IsGivenUp (S : SessionSeen) (n first : ℕ) (cells : Cells) (from : �
   pub rest : cells' ≡ set cells from None
 
 -- a held block is judged by its known leaf
-abbrev pub IsJudged : SessionSeen → ℕ → ℕ → ℕ → Cells → ℕ → Settled → SessionSeen → Cells → Type 0
-IsJudged S n first size cells from (Proved run) S' cells' =
+abbrev pub IsBlockJudged : SessionSeen → ℕ → ℕ → ℕ → Cells → ℕ → Settled → SessionSeen → Cells
+    → Type 0
+IsBlockJudged S n first size cells from (Proved run) S' cells' =
     IsMarkedRun S n first size cells from run S' cells'
-IsJudged S n first size cells from (False run) S' cells' =
+IsBlockJudged S n first size cells from (False run) S' cells' =
     IsGivenUp S n first cells from run S' cells'
 
 -- the first held block of the piece whose leaf is known
-pub record IsFirstKnown (S : SessionSeen) (n first size : ℕ) (cells : Cells) (from : ℕ)
+pub record IsFirstKnownBlock (S : SessionSeen) (n first size : ℕ) (cells : Cells) (from : ℕ)
     : Type 0 where
   pub inside : from < size
   pub digest : Hash
@@ -100,8 +104,8 @@ pub record IsFirstKnown (S : SessionSeen) (n first size : ℕ) (cells : Cells) (
 pub record IsKnownJudged (S : SessionSeen) (n first size : ℕ) (cells : Cells) (e : Settled)
     (S' : SessionSeen) (cells' : Cells) : Type 0 where
   pub from : ℕ
-  pub is_first : IsFirstKnown S n first size cells from
-  pub judged : IsJudged S n first size cells from e S' cells'
+  pub is_first : IsFirstKnownBlock S n first size cells from
+  pub judged : IsBlockJudged S n first size cells from e S' cells'
 
 -- no held block has a known leaf and the piece is complete; it is joined to what is known, and its
 -- first run of held blocks is marked
@@ -111,7 +115,7 @@ pub record IsPieceProved (S : SessionSeen) (n first size : ℕ) (cells : Cells) 
   pub joined : SessionSeen
   pub join : IsJoined S n first size cells joined
   pub from : ℕ
-  pub is_first : IsFirstKnown joined n first size cells from
+  pub is_first : IsFirstKnownBlock joined n first size cells from
   pub marked : IsMarkedRun joined n first size cells from run S' cells'
 
 -- no held block has a known leaf and the piece is complete, but its leaves lead to another node

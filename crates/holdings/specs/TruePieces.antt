@@ -26,7 +26,7 @@ pub record IsTruePiece (S : SessionSeen) (h : HoldingsSeen) (n first : ℕ) (f :
     pub tree : TreeRoot
     pub state : TreeState
     pub is_tree : IsTree S n tree state
-    pub fits : Fits f tree
+    pub fits : Fits f tree.length tree.root
     pub node : IsNodeKnown S n first
     pub held : (j : ℕ) × (j < length seen.cells) × IsSome (digest_in seen.cells j)
     pub all : (j : ℕ) → j < length seen.cells

@@ -5,7 +5,7 @@ ghost use Rattle.partial_tree.specs.LeafRows.{IsLeafRow};
 ghost use Rattle.partial_tree.specs.TreeRoot.{TreeRoot};
 ghost use Rattle.session.specs.Layouts.{roots};
 ghost use Rattle.session.specs.Pieces.{piece_span};
-ghost use Rattle.holdings.specs.Holding.{IsHeldBy, IsTreeBlock};
+ghost use Rattle.holdings.specs.Holding.{IsBlockHeldBy, IsTreeBlock};
 
 use crate::holdings::Holdings;
 use crate::run::Run;
@@ -45,7 +45,7 @@ impl Holdings {
     ) -> Hold
         requires tree { tree < length session.now.torrent.trees }
         requires block { IsTreeBlock session.now tree block }
-        ensures { IsHeldBy self.old session.now tree block bytes.now result self.new }
+        ensures { IsBlockHeldBy self.old session.now tree block bytes.now result self.new }
     {
         if session.hash_at(tree, 0, block).is_some() {
             return Hold::Known;

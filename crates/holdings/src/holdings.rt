@@ -2,7 +2,7 @@
 
 ghost use Rattle.std.specs.Prelude.{◌≡◌, ℕ, ◌+◌, ◌<◌, ◌≤◌, ◌^◌, IfOk, IfSome, IfNone, OnOk, OnErr, Some, None, length};
 ghost use Rattle.std.specs.FinMap.{get, empty};
-ghost use Rattle.holdings.specs.Holdings.{PieceSeen, CannotKeep, Keeps, Renews, Begins, held_count, most_pieces};
+ghost use Rattle.holdings.specs.Holdings.{PieceSeen, CannotKeep, KeepsDigest, Renews, BeginsPiece, held_count, most_pieces};
 
 use crate::kept::{enroll, giving_way, withdraw};
 use crate::piece_table::{Key, PieceTable};
@@ -73,7 +73,8 @@ impl Holdings {
         requires block { block < piece.size }
         requires size { piece.size ≤ 2 ^ 32 }
         requires few { piece.first + piece.size < 2 ^ 64 }
-        ensures kept { IfOk result (λ dropped. Keeps self.old (piece.tree, piece.first) piece.size
+        ensures kept { IfOk result
+            (λ dropped. KeepsDigest self.old (piece.tree, piece.first) piece.size
             block digest dropped self.new) }
         ensures unchanged { OnErr result (self.new ≡ self.old) }
         ensures refused { OnErr result (CannotKeep self.old (piece.tree, piece.first) piece.size
@@ -137,7 +138,7 @@ impl Holdings {
         requires size { piece.size ≤ 2 ^ 32 }
         requires few { piece.first + piece.size < 2 ^ 64 }
         requires new { get self.old.pieces (piece.tree, piece.first) ≡ None }
-        ensures kept { IfOk result (λ dropped. Begins self.old (piece.tree, piece.first)
+        ensures kept { IfOk result (λ dropped. BeginsPiece self.old (piece.tree, piece.first)
             piece.size block digest dropped self.new) }
         ensures unchanged { OnErr result (self.new ≡ self.old) }
         ensures refused { OnErr result (self.old.longest < piece.size) }

@@ -21,7 +21,8 @@ use session::{HoldsTorrent, SessionOf};
 impl Holdings {
     /// Settles what can be settled first of these pieces, in the order of their numbers, and says
     /// what became of it: a run of held blocks is proved and marked, or a block or a whole piece is
-    /// false and given up. `None` if nothing is left to settle. A held block whose own leaf is
+    /// false and given up. `None` if nothing is left to settle; then nothing has changed, and these
+    /// pieces can be looked at again once more is held or known. A held block whose own leaf is
     /// known is judged by it. A piece whose blocks are all held or known, and whose node is known,
     /// is joined to what is known if its leaves lead to that node, and is false if not. Only held
     /// blocks are marked. Fails if memory was refused for a complete piece; then nothing has
@@ -39,21 +40,25 @@ impl Holdings {
             pieces.old.end)) }
         ensures same_session { IfOk result (λ o. IfNone o (session.new ≡ session.old)) }
         ensures same_holdings { IfOk result (λ o. IfNone o (self.new ≡ self.old)) }
+        ensures same_pieces { IfOk result (λ o. IfNone o (pieces.new ≡ pieces.old)) }
         ensures no_memory { OnErr result (LacksMemoryNext session.old self.old pieces.old
             pieces.new) }
         ensures no_session { OnErr result (session.new ≡ session.old) }
         ensures no_holdings { OnErr result (self.new ≡ self.old) }
     {
-        'pieces: while let Some(first) = next_key(
-            &self.pieces,
-            pieces.tree,
-            pieces.from,
-            pieces.end,
-        ) {
-            pieces.from = first + 1;
-            if let Some(settled) = self.settle_piece(session, pieces.tree, first)? {
-                pieces.from = first;
-                return Ok(Some(settled));
+        let (tree, end) = (pieces.tree, pieces.end);
+        let mut from = pieces.from;
+        'pieces: while let Some(first) = next_key(&self.pieces, tree, from, end) {
+            match self.settle_piece(session, tree, first) {
+                Ok(None) => from = first + 1,
+                Ok(Some(settled)) => {
+                    pieces.from = first;
+                    return Ok(Some(settled));
+                }
+                Err(refused) => {
+                    pieces.from = first + 1;
+                    return Err(refused);
+                }
             }
         }
         Ok(None)

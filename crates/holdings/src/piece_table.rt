@@ -1,11 +1,11 @@
 //! What is held of pieces, in rows of cells.
 
-ghost use Rattle.std.specs.Prelude.{◌≡◌, ℕ, ◌-◌, ◌*◌, ◌++◌, vec_capacity, ◌+◌, ◌<◌, ◌≤◌, ◌^◌, IfOk, IfSome, IfNone, IsSome, Some, None, true, false, length, set, replicate, sum_by};
+ghost use Rattle.std.specs.Prelude.{◌≡◌, ℕ, ◌-◌, ◌*◌, ◌++◌, [], vec_capacity, ◌+◌, ◌<◌, ◌≤◌, ◌^◌, IfOk, IfSome, IfNone, IsSome, Some, None, true, false, length, set, replicate, sum_by};
 ghost use Rattle.std.specs.Bool.{OnTrue, OnFalse};
 ghost use Rattle.std.specs.FinMap.{empty, get, len, remove, values};
 ghost use Rattle.fixed_maps.specs.Tiers.{items_at};
 ghost use Rattle.fixed_maps.specs.FixedMaps.{map_of};
-ghost use Rattle.holdings.specs.Tables.{weigh};
+ghost use Rattle.holdings.specs.Tables.{IsRowAt, weigh};
 ghost use Rattle.std.specs.Ordering.{is_lt};
 ghost use Rattle.node_maps.specs.Known.{place_cmp};
 ghost use Rattle.holdings.specs.Holdings.{PieceSeen};
@@ -62,17 +62,17 @@ impl PieceTable {
     pub(crate) fn new(alloc: Global, room: usize, width: usize) -> Result<PieceTable, NoMemory>
         requires { room ≤ 2 ^ 32 }
         ensures none { IfOk result (λ t. t.pieces ≡ empty) }
-        ensures room { IfOk result (λ t. room ≤ t.room) }
+        ensures room { IfOk result (λ t. t.room ≡ room) }
         ensures width { IfOk result (λ t. t.width ≡ width) }
     {
-        let rows = Slab::with_capacity(alloc, room)?;
-        let Some(cells) = rows.capacity().checked_mul(width) else {
+        let rows = rows_of(alloc, room)?;
+        let Some(cells) = room.checked_mul(width) else {
             return Err(NoMemory);
         };
         Ok(PieceTable {
             order: FixedMap::new(alloc, room)?,
             cells: Vec::with_capacity(alloc, cells)?,
-            newest: Vec::with_capacity(alloc, rows.capacity())?,
+            newest: Vec::with_capacity(alloc, room)?,
             rows,
             width,
             room,
@@ -143,9 +143,8 @@ impl PieceTable {
             × (x.cells ≡ cs.now)) }
         ensures none { IfNone result (seen_at self.now key ≡ None) }
     {
-        let (row, size) = self.order.get(key)?;
-        let start = row * self.width;
-        Some(&self.cells[start..start + size as usize])
+        let (_, start, end) = row_at(&self.order, self.cells.len(), self.width, key)?;
+        Some(&self.cells[start..end])
     }
 
     /// Writes the digest of a block of a piece, which came now. Conditions: the piece is there and
@@ -154,11 +153,10 @@ impl PieceTable {
         requires { (x : PieceSeen) × (seen_at self.old key ≡ Some x) × (block < length x.cells) }
         ensures { WritesCell self.old key block digest now self.new }
     {
-        let Some((row, size)) = self.order.get(key) else {
+        let Some((row, start, end)) = row_at(&self.order, self.cells.len(), self.width, key) else {
             unreachable!()
         };
-        let start = row * self.width;
-        let cells = &mut self.cells[start..start + size as usize];
+        let cells = &mut self.cells[start..end];
         cells[block] = Some(digest);
         self.newest[row] = now;
     }
@@ -200,11 +198,11 @@ impl PieceTable {
         ensures cells { (x : PieceSeen) × (seen_at self.old (piece.tree, piece.first) ≡ Some x)
             × SettlesRow session.old piece.tree piece.first x result session.new self.old self.new }
     {
-        let Some((row, size)) = self.order.get((piece.tree, piece.first)) else {
+        let key = (piece.tree, piece.first);
+        let Some((_, start, end)) = row_at(&self.order, self.cells.len(), self.width, key) else {
             unreachable!()
         };
-        let start = row * self.width;
-        let cells = &mut self.cells[start..start + size as usize];
+        let cells = &mut self.cells[start..end];
         settle(alloc, cells, session, piece)
     }
 
@@ -219,6 +217,19 @@ impl PieceTable {
     }
 }
 
+// Rows for this many pieces, and room for no more.
+fn rows_of(alloc: Global, room: usize) -> Result<Slab<Key>, NoMemory>
+    ensures none { IfOk result (λ rows. rows.slots ≡ []) }
+    ensures exact { IfOk result (λ rows. rows.capacity ≡ room) }
+{
+    let rows = Slab::with_capacity(alloc, room)?;
+    // A slab takes room for what was asked for; no clause of `with_capacity` says for no more.
+    if rows.capacity() != room {
+        return Err(NoMemory);
+    }
+    Ok(rows)
+}
+
 // Makes a list at least this long, by an item that is put at its end. Condition: there is room.
 fn grow<T: Copy + Drop>(items: &mut Vec<T>, len: usize, item: T)
     requires { len ≤ vec_capacity items.old }
@@ -229,6 +240,19 @@ fn grow<T: Copy + Drop>(items: &mut Vec<T>, len: usize, item: T)
     'each: for _i in items.len()..len {
         items.push_reserved(item);
     }
+}
+
+// The row of a piece, and where its cells begin and end among all of this number.
+fn row_at(order: &FixedMap, len: usize, width: usize, key: Key) -> Option<(usize, usize, usize)>
+    requires low { (q p : ℕ × ℕ) → get (map_of order.now) q ≡ Some p → p.1 ≤ width }
+    requires inside { (q p : ℕ × ℕ) → get (map_of order.now) q ≡ Some p
+        → p.0 * width + width ≤ len }
+    ensures some { IfSome result (λ r. IsRowAt (map_of order.now) width len key r.0 r.1 r.2) }
+    ensures none { IfNone result (get (map_of order.now) key ≡ None) }
+{
+    let (row, size) = order.get(key)?;
+    let start = row * width;
+    Some((row, start, start + size as usize))
 }
 
 // How many digests are held of the pieces of one tier.

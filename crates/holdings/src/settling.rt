@@ -3,7 +3,7 @@
 ghost use Rattle.std.specs.Prelude.{ℕ, ◌≡◌, ◌+◌, ◌^◌, ◌<◌, ◌≤◌, ◌↔◌, IfOk, IfSome, IfNone, IsSome, IsTrue, OnErr, length, replicate, None, Some};
 ghost use Rattle.std.specs.Bool.{OnTrue, OnFalse};
 ghost use Rattle.holdings.specs.Cells.{digest_in, known_at, tried_leaf, AreUnknown, IsComplete, IsUnsettled, IsNodeKnown};
-ghost use Rattle.holdings.specs.Settling.{AreTried, IsMarked, AreMarked, CannotMark, IsJudged, IsTaken, Settles, run_of};
+ghost use Rattle.holdings.specs.Settling.{AreTried, IsBlockMarked, AreBlocksMarked, CannotMark, IsBlockJudged, IsTaken, Settles, run_of};
 ghost use Rattle.session.specs.Pieces.{HasPiece};
 
 use crate::run::{Run, Settled};
@@ -100,7 +100,7 @@ fn judge<T: HoldsTorrent, N: NodeMap>(
     requires from { from < piece.size }
     requires size { piece.size ≡ length cells.old }
     requires few { piece.first + piece.size < 2 ^ 64 }
-    ensures { IsJudged session.old piece.tree piece.first piece.size cells.old from result
+    ensures { IsBlockJudged session.old piece.tree piece.first piece.size cells.old from result
         session.new cells.new }
 {
     let count = mark_from(cells, session, piece, from);
@@ -124,8 +124,8 @@ fn mark_from<T: HoldsTorrent, N: NodeMap>(
     requires size { piece.size ≡ length cells.old }
     requires few { piece.first + piece.size < 2 ^ 64 }
     ensures inside { from + result ≤ piece.size }
-    ensures marked { AreMarked session.old piece.tree piece.first cells.old from result session.new
-        cells.new }
+    ensures marked { AreBlocksMarked session.old piece.tree piece.first cells.old from result
+        session.new cells.new }
     ensures all { from + result < piece.size
         → CannotMark session.new piece.tree piece.first cells.new (from + result) }
 {
@@ -148,7 +148,7 @@ fn mark_held<T: HoldsTorrent, N: NodeMap>(
     requires tree { piece.tree < length session.old.torrent.trees }
     requires block { block < length cells.old }
     requires few { piece.first + block < 2 ^ 64 }
-    ensures marked { OnTrue result (IsMarked session.old piece.tree piece.first cells.old block
+    ensures marked { OnTrue result (IsBlockMarked session.old piece.tree piece.first cells.old block
         session.new cells.new) }
     ensures other { OnFalse result
         (CannotMark session.old piece.tree piece.first cells.old block) }

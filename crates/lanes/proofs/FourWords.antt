@@ -5,7 +5,7 @@ use Rattle.std.proofs.lemmas.Bool.{cases_lt}
 use Rattle.std.proofs.lemmas.List.{get_or_append_left, get_or-append-add}
 use Rattle.std.proofs.lemmas.Simd.{get_or-chunk, length-chunk, get_or_wider}
 use lib.Lanes.{Each1, pick_l, number_l, digits_l, chunk}
-use Rattle.lanes.specs.Lanes.{first_pairs, first_words, last_pairs, last_words, word_at, word_in}
+use Rattle.lanes.specs.Lanes.{first_pairs, first_words, last_word_pairs, last_words, word_at, word_in}
 
 -- what holds of 0, 1, 2 and 3
 pub below_four : (P : ℕ → Type 0) → P 0 → P 1 → P 2 → P 3 → (k : ℕ) → k < 4 → P k
@@ -105,9 +105,9 @@ word_of_both x y hx hy k lt =
 abbrev columns_of : List ℕ → List ℕ → List ℕ → List ℕ → List (List ℕ)
 columns_of a b c d =
     first_pairs (first_words a b) (first_words c d)
-    ∷ last_pairs (first_words a b) (first_words c d)
+    ∷ last_word_pairs (first_words a b) (first_words c d)
     ∷ first_pairs (last_words a b) (last_words c d)
-    ∷ last_pairs (last_words a b) (last_words c d)
+    ∷ last_word_pairs (last_words a b) (last_words c d)
     ∷ []
 
 abbrev pub columns : List (List ℕ) → List (List ℕ)

@@ -15,11 +15,13 @@
 #![tactic(auto)]
 
 mod functions;
+mod output;
 mod reading;
 mod rows;
 mod words;
 
 pub use functions::{choice, majority, parity};
+pub use output::{digest_of, digests_of};
 pub use reading::{Block, block_at, block_of_places, same_block};
 pub use words::{
     LANES, Words, common, differing, inverse, lower, rotated_left, rotated_right, same, sum,

@@ -14,7 +14,7 @@
 //! ```
 
 ghost use Rattle.std.specs.Prelude.{◌≡◌, ℕ, ◌+◌, ◌*◌, ◌<◌, ◌≤◌, ◌++◌, drop, length, slice_index, take};
-ghost use Rattle.lanes.specs.Lanes.{first_pairs, first_words, last_pairs, last_words, word_at, word_in};
+ghost use Rattle.lanes.specs.Lanes.{first_pairs, first_words, last_word_pairs, last_words, word_at, word_in};
 ghost use Rattle.lanes.specs.declared.words.TheConstants.{LANES};
 
 use crate::words::{LANES, Words};
@@ -50,7 +50,7 @@ fn first_pairs(x: Words, y: Words) -> Words
 // The last pair of words of each half, of one and then of the other.
 #[inline(always)]
 fn last_pairs(x: Words, y: Words) -> Words
-    ensures { result ≡ last_pairs x y }
+    ensures { result ≡ last_word_pairs x y }
 {
     x.shuffle(y, [2, 3, 10, 11, 6, 7, 14, 15])
 }

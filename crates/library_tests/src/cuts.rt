@@ -1,5 +1,5 @@
 ghost use Rattle.std.specs.Prelude.{◌≡◌, length};
-ghost use Rattle.cut_windows.specs.Windows.{IsWithin, length_of_cuts};
+ghost use Rattle.cut_windows.specs.Windows.{AreCutsWithin, length_of_cuts};
 
 use crate::random::Random;
 use cut_windows::CutWindow;
@@ -44,8 +44,8 @@ fn digests_alone(file: &[u8]) -> ([[u8; 20]; MOST], usize) {
 
 // Puts a file into a window, if it stands in the buffer and there is room: its first cut.
 fn put(window: &mut CutWindow, buffer: &[u8], place: Place) -> Option<usize>
-    requires { IsWithin window.old (length buffer.now) }
-    ensures within { IsWithin window.new (length buffer.now) }
+    requires { AreCutsWithin window.old (length buffer.now) }
+    ensures within { AreCutsWithin window.new (length buffer.now) }
     ensures piece_length { length_of_cuts window.new ≡ length_of_cuts window.old }
 {
     let Some(room) = buffer.len().checked_sub(place.start) else {

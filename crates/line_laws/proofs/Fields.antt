@@ -8,7 +8,7 @@ use Rattle.std.specs.Str.Parse.{digits_value}
 use Rattle.std.proofs.lemmas.Bool.{and_parts, leb-true, true≢false}
 use Rattle.std.proofs.lemmas.Bool.Decides.{nat_tests}
 use Rattle.std.proofs.lemmas.Fmt.{decimal_is_IsNumeral}
-use Rattle.lines.specs.Rows.{Item, word, number, start, over, name, code, text}
+use Rattle.lines.specs.Rows.{Item, word, number, start, over, name, code, text, unprinted}
 use Rattle.lines.specs.Texts.{after_part, gap_after, items_text}
 use Rattle.line_laws.specs.Plain.{is_plain}
 use Rattle.line_laws.specs.Said.{is_solid, is_capital, IsWord, AreSaid}
@@ -42,6 +42,7 @@ erased (over key n) = over key 0
 erased (name key t) = name key (kept (is_key key) t)
 erased (code key letter n) = code key [] 0
 erased (text key t) = text key []
+erased (unprinted key t) = unprinted key t
 
 -- items whose values are read from a text
 unfoldable pub filled : List Item → List ℕ → List Item
@@ -55,8 +56,9 @@ filled (name key s ∷ items) t =
 filled (code key s n ∷ items) t =
     code key (front is_ascii_digit t) (digits_value 10 (front is_no_digit (onward is_ascii_digit t))) ∷ filled items (behind is_gap t)
 filled (text key s ∷ items) t = text key (unescaped outside t) ∷ filled items []
+filled (unprinted key s ∷ items) t = []
 
--- a text stands last
+-- a text stands last, and all is printed
 unfoldable pub text_last : List Item → Bool
 text_last [] = true
 text_last (word w ∷ items) = text_last items
@@ -67,6 +69,7 @@ text_last (name key t ∷ items) = text_last items
 text_last (code key letter n ∷ items) = text_last items
 text_last (text key t ∷ []) = true
 text_last (text key t ∷ item ∷ items) = false
+text_last (unprinted key t ∷ items) = false
 
 -- ---- the gap
 
@@ -263,3 +266,4 @@ reads (code key letter n ∷ items) h last =
     ∙ ap (λ l. code key letter n ∷ l) (reads items h.1 last)
 reads (text key t ∷ []) h last = ap (λ u. text key u ∷ []) (unescaped_back t h.0)
 reads (text key t ∷ item ∷ items) h last = absurd (true≢false (sym last))
+reads (unprinted key t ∷ items) h last = absurd (true≢false (sym last))

@@ -4,14 +4,14 @@ use Rattle.lines.specs.Table.{checked_row}
 use Rattle.lines.specs.Texts.{items_text}
 use Rattle.lines.specs.declared.checked.Checked.{Checked}
 use Rattle.lines.specs.declared.checked.Checked.TheVariants as checked
-use Rattle.line_laws.specs.Said.{AreSaid}
+use Rattle.line_laws.specs.Said.{AreSaid, printed}
 use Rattle.line_laws.proofs.Fields.{text_last}
 use Rattle.line_laws.proofs.Shapes.{bad_shape, starts_digit}
 use Rattle.line_laws.proofs.Known.{KnownIfSaid}
 
 -- ---- lines of a check
 
-pub checked_known : (c : Checked) → KnownIfSaid (checked_row c)
+pub checked_known : (c : Checked) → KnownIfSaid (printed (checked_row c))
 unfolding items_text text_last AreSaid
 checked_known (checked.Extra p) h = record { shape = refl; last = refl }
 checked_known (checked.Good p) h = record { shape = refl; last = refl }
@@ -19,7 +19,7 @@ checked_known (checked.Missing p) h = record { shape = refl; last = refl }
 checked_known (checked.Unreadable p) h = record { shape = refl; last = refl }
 checked_known (checked.WrongLength p) h = record { shape = refl; last = refl }
 checked_known (checked.Bad piece p) h = record { shape = ap bad_shape (starts_digit piece _ h.1.0); last = refl }
-checked_known (checked.BadPieces first last from to) h = record { shape = refl; last = refl }
+checked_known (checked.BadPieces first last from to p) h = record { shape = refl; last = refl }
 checked_known checked.V1Good h = record { shape = refl; last = refl }
 checked_known (checked.V1Bad piece) h = record { shape = refl; last = refl }
 checked_known checked.V1NotChecked h = record { shape = refl; last = refl }

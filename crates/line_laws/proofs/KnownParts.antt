@@ -7,7 +7,7 @@ use Rattle.lines.specs.Table.{parted_row}
 use Rattle.lines.specs.Texts.{items_text}
 use Rattle.lines.specs.declared.parted.Parted.{Parted}
 use Rattle.lines.specs.declared.parted.Parted.TheVariants as parted
-use Rattle.line_laws.specs.Said.{AreSaid, IsWord}
+use Rattle.line_laws.specs.Said.{AreSaid, IsWord, printed}
 use Rattle.line_laws.proofs.Cuts.{onward}
 use Rattle.line_laws.proofs.Fields.{behind, behind_number, is_gap, is_no_digit, text_last, word_onward}
 use Rattle.line_laws.proofs.Shapes.{part_shape, parted_shape, starts_digit}
@@ -31,7 +31,7 @@ part_known part parts hash c rest small few word at =
     ap (λ b. parted_shape b t) (starts_digit part (47 ∷ (decimal parts ++ 32 ∷ (hash ++ c ∷ rest))) small)
     ∙ ap part_shape (part_at part parts hash c rest small few word at)
 
-pub parted_known : (p : Parted) → KnownIfSaid (parted_row p)
+pub parted_known : (p : Parted) → KnownIfSaid (printed (parted_row p))
 unfolding items_text text_last AreSaid encode_with
 parted_known (parted.Part part parts hash) h = record {
   shape = part_known part parts (encode_lower hash.now) 10 [] h.1.0 h.1.1.0 (h.1.1.1.0.1 refl) refl;

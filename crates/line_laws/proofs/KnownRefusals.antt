@@ -1,7 +1,7 @@
 -- The line of a torrent that is refused is known by its text.
 use Rattle.std.proofs.Common.{◌≡◌, ◌∷◌, ◌++◌, ◌∙◌, [], List, ℕ, true, drop, decimal, map, codes, ap, ap₂, refl}
 use Rattle.benc.specs.Messages.{kind_name}
-use Rattle.filetree.specs.Names.{key_text, refusal_name, refusal_number}
+use Rattle.filetree.specs.Names.{key_spelling, refusal_name, refusal_number}
 use Rattle.filetree.specs.declared.refusal.Key.{Key}
 use Rattle.filetree.specs.declared.refusal.Key.TheVariants as keys
 use Rattle.filetree.specs.declared.refusal.Refusal.{Refusal}
@@ -26,8 +26,8 @@ ending_at (part ∷ parts) = refl
 abbrev key_items : List ℕ → List Item → List Item
 key_items key items = name (codes "key") key ∷ items
 
-keyed : (k : Key) (parts : List (List ℕ)) → key_shape shapes.keys (key_text k ++ behind_name (path_items parts))
-    ≡ refusal_shape (key_items (key_text k) (map erased (path_items parts)))
+keyed : (k : Key) (parts : List (List ℕ)) → key_shape shapes.keys (key_spelling k ++ behind_name (path_items parts))
+    ≡ refusal_shape (key_items (key_spelling k) (map erased (path_items parts)))
 keyed keys.Top parts = ap (λ e. refusal_shape (key_items (codes "top") e)) (ending_at parts)
 keyed keys.Info parts = ap (λ e. refusal_shape (key_items (codes "info") e)) (ending_at parts)
 keyed keys.MetaVersion parts = ap (λ e. refusal_shape (key_items (codes "meta version") e)) (ending_at parts)
@@ -36,10 +36,10 @@ keyed keys.Name parts = ap (λ e. refusal_shape (key_items (codes "name") e)) (e
 keyed keys.PieceLength parts = ap (λ e. refusal_shape (key_items (codes "piece length") e)) (ending_at parts)
 keyed keys.PieceLayers parts = ap (λ e. refusal_shape (key_items (codes "piece layers") e)) (ending_at parts)
 
-key_known : (k : Key) (parts : List (List ℕ)) → key_shape shapes.keys (items_text (key_items (key_text k) (path_items parts)))
-    ≡ refusal_shape (key_items (key_text k) (map erased (path_items parts)))
+key_known : (k : Key) (parts : List (List ℕ)) → key_shape shapes.keys (items_text (key_items (key_spelling k) (path_items parts)))
+    ≡ refusal_shape (key_items (key_spelling k) (map erased (path_items parts)))
 unfolding items_text
-key_known k parts = ap (λ g. key_shape shapes.keys (key_text k ++ g)) (gapped (name (codes "key") (key_text k)) (path_items parts) refl) ∙ keyed k parts
+key_known k parts = ap (λ g. key_shape shapes.keys (key_spelling k ++ g)) (gapped (name (codes "key") (key_spelling k)) (path_items parts) refl) ∙ keyed k parts
 
 -- by its name, and what stands behind it
 detailed : (r : Refusal) (parts : List (List ℕ)) → AreSaid (detail_items r ++ path_items parts)

@@ -10,7 +10,7 @@ use Rattle.std.proofs.lemmas.Bool.{and_parts, or_parts}
 use Rattle.std.proofs.lemmas.Bool.Decides.{nat_tests}
 use Rattle.serde_json.specs.Data.{Data, Members, no_members, member, unsigned, put}
 use Rattle.serde_json.specs.Data as json
-use Rattle.lines.specs.Rows.{Item, word, number, start, over, name, code, text}
+use Rattle.lines.specs.Rows.{Item, word, number, start, over, name, code, text, unprinted}
 use Rattle.lines.specs.Objects.{is_before, key_of, placed, all_placed}
 use Rattle.line_laws.specs.Plain.{is_new, are_new}
 use Rattle.line_laws.specs.Values.{with_members}
@@ -47,6 +47,7 @@ data_of (over key n) = json.number (unsigned n)
 data_of (name key t) = json.string t
 data_of (code key letter n) = json.string (letter ++ decimal n)
 data_of (text key t) = json.string t
+data_of (unprinted key t) = json.string t
 
 -- members as they stand
 abbrev pub members : List Item → Members
@@ -179,3 +180,5 @@ all_put (code key letter n ∷ items) seen found h c =
     let p = one_put (code key letter n) items (all_put items) seen found h c in record { same = p.same; ascends = p.ascends }
 all_put (text key t ∷ items) seen found h c =
     let p = one_put (text key t) items (all_put items) seen found h c in record { same = p.same; ascends = p.ascends }
+all_put (unprinted key t ∷ items) seen found h c =
+    let p = one_put (unprinted key t) items (all_put items) seen found h c in record { same = p.same; ascends = p.ascends }

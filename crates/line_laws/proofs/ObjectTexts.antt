@@ -5,7 +5,7 @@ use Rattle.std.proofs.lemmas.Bool.{or_parts}
 use Rattle.json.specs.Print.{quoted}
 use Rattle.serde_json.specs.Written.{compact_text}
 use Rattle.serde_json.specs.Written as written
-use Rattle.lines.specs.Rows.{Item, Row, word, number, start, over, name, code, text}
+use Rattle.lines.specs.Rows.{Item, Row, word, number, start, over, name, code, text, unprinted}
 use Rattle.lines.specs.Objects.{is_before, key_of, placed, all_placed, members_of, key_text, member_text, after_member, members_text}
 use Rattle.lines.specs.Strings as lines
 use Rattle.line_laws.specs.Plain.{ArePlain, ArePlainItems, IsPlainRow}
@@ -23,6 +23,7 @@ IsMember (over key n) = ArePlain key
 IsMember (name key t) = ArePlain key × ArePlain t
 IsMember (code key letter n) = ArePlain key × ArePlain (letter ++ decimal n)
 IsMember (text key t) = ArePlain key
+IsMember (unprinted key t) = ArePlain key
 
 abbrev pub AreMembers : List Item → Type 0
 AreMembers items = AllItems IsMember items
@@ -53,6 +54,7 @@ one_member (name key t) more h = under_key key (lines.plain_string t) (quoted t)
 one_member (code key letter n) more h =
     under_key key (lines.plain_string (letter ++ decimal n)) (quoted (letter ++ decimal n)) more h.0 (same_name (letter ++ decimal n) h.1)
 one_member (text key t) more h = under_key key (lines.quoted t) (quoted t) more h (same_text t)
+one_member (unprinted key t) more h = under_key key (lines.quoted t) (quoted t) more h (same_text t)
 
 regroup_end : (q v s : List ℕ) → q ++ 58 ∷ (v ++ (s ++ 10 ∷ [])) ≡ (q ++ 58 ∷ (v ++ s)) ++ 10 ∷ []
 regroup_end q v s = simp append_assoc
@@ -99,6 +101,7 @@ all_members (name key t ∷ items) found h w = all_members items (placed (name k
 all_members (code key letter n ∷ items) found h w =
     all_members items (placed (code key letter n) found) h.1 (one_more (code key letter n) found h.0 w)
 all_members (text key t ∷ items) found h w = all_members items (placed (text key t) found) h.1 (one_more (text key t) found h.0 w)
+all_members (unprinted key t ∷ items) found h w = all_members items (placed (unprinted key t) found) h.1 (one_more (unprinted key t) found h.0 w)
 
 abbrev pub kind_item : List ℕ → Item
 kind_item kind = name (codes "kind") kind

@@ -5,7 +5,7 @@ use Rattle.std.specs.List.{list_all}
 use Rattle.std.proofs.lemmas.Bool.{and_parts}
 use Rattle.filetree.specs.declared.refusal.Refusal.{Refusal}
 use Rattle.filetree.specs.declared.refusal.Refusal.TheVariants as refusals
-use Rattle.lines.specs.Rows.{Item, Row, word, number, start, over, name, code, text}
+use Rattle.lines.specs.Rows.{Item, Row, word, number, start, over, name, code, text, unprinted}
 use Rattle.lines.specs.Table.{checked_row, file_row, parted_row, refusal_row, root_row, row_of, shown_row}
 use Rattle.lines.specs.declared.checked.Checked.{Checked}
 use Rattle.lines.specs.declared.checked.Checked.TheVariants as checked
@@ -33,6 +33,7 @@ keys_plain (over key n ∷ items) = list_all is_plain key && keys_plain items
 keys_plain (name key t ∷ items) = list_all is_plain key && keys_plain items
 keys_plain (code key letter n ∷ items) = list_all is_plain key && keys_plain items
 keys_plain (text key t ∷ items) = list_all is_plain key && keys_plain items
+keys_plain (unprinted key t ∷ items) = list_all is_plain key && keys_plain items
 
 abbrev is_keyed : Row → Bool
 is_keyed r = list_all is_plain r.kind && (keys_plain r.items && are_new (codes "kind" ∷ []) r.items)
@@ -48,6 +49,7 @@ plain_items (name key t ∷ items) h k = let p = and_parts (list_all is_plain ke
 plain_items (code key letter n ∷ items) h k =
     let p = and_parts (list_all is_plain key) (keys_plain items) k in ((p.0, code_is_plain letter n h.0.0 h.0.1), plain_items items h.1 p.1)
 plain_items (text key t ∷ items) h k = let p = and_parts (list_all is_plain key) (keys_plain items) k in (p.0, plain_items items h.1 p.1)
+plain_items (unprinted key t ∷ items) h k = let p = and_parts (list_all is_plain key) (keys_plain items) k in (p.0, plain_items items h.1 p.1)
 
 plain_row : (r : Row) → IsSaidRow r → is_keyed r ≡ true → IsPlainRow r
 plain_row r h k =

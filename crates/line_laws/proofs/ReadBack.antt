@@ -21,12 +21,12 @@ use Rattle.serde_json.specs.Written.{compact_text, members_outline, outline}
 use Rattle.serde_json.proofs.Numbers.{number_of-decimal}
 use Rattle.serde_json.proofs.Texts.{print-outline}
 use Rattle.lines.specs.Objects.{all_placed, key_of, members_of, placed}
-use Rattle.lines.specs.Rows.{Item, Row, word, number, start, over, name, code, text}
+use Rattle.lines.specs.Rows.{Item, Row, word, number, start, over, name, code, text, unprinted}
 use Rattle.lines.specs.Table.{row_of}
 use Rattle.line_laws.specs.Lines.{LineObjectsReadBack}
 use Rattle.line_laws.specs.Plain.{IsPlainRow}
 use Rattle.line_laws.specs.Said.{AreSaid, IsSaidRow}
-use Rattle.line_laws.specs.Values.{value_of}
+use Rattle.line_laws.specs.Values.{json_value_of}
 use Rattle.line_laws.proofs.Members.{AllItems, Ascends, data_of, members, placed_so}
 use Rattle.line_laws.proofs.ObjectTexts.{kind_item, objects_are_texts, row_put}
 use Rattle.line_laws.proofs.PlainLines.{plain}
@@ -42,6 +42,7 @@ IsFit (over key n) = n < 2 ^ 64
 IsFit (name key t) = ⊤
 IsFit (code key letter n) = ⊤
 IsFit (text key t) = ⊤
+IsFit (unprinted key t) = ⊤
 
 item_back : (item : Item) → IsFit item → of_json (outline (data_of item)) ≡ Some (data_of item)
 item_back (word w) h = refl
@@ -51,6 +52,7 @@ item_back (over key n) h = ap (option_map values.number) (number_of-decimal n h)
 item_back (name key t) h = refl
 item_back (code key letter n) h = refl
 item_back (text key t) h = refl
+item_back (unprinted key t) h = refl
 
 item_number : (item : Item) → IsFit item → HasNumbers (outline (data_of item))
 item_number (word w) h = tt
@@ -60,6 +62,7 @@ item_number (over key n) h = IsNumber-decimal n h
 item_number (name key t) h = tt
 item_number (code key letter n) h = tt
 item_number (text key t) h = tt
+item_number (unprinted key t) h = tt
 
 item_flat : (item : Item) → tree.depth (outline (data_of item)) ≡ 0
 item_flat (word w) = refl
@@ -69,6 +72,7 @@ item_flat (over key n) = refl
 item_flat (name key t) = refl
 item_flat (code key letter n) = refl
 item_flat (text key t) = refl
+item_flat (unprinted key t) = refl
 
 -- ---- all members
 
@@ -140,8 +144,9 @@ all_fit (name key t ∷ items) found h f = all_fit items (placed (name key t) fo
 all_fit (code key letter n ∷ items) found h f =
     all_fit items (placed (code key letter n) found) h.1 (placed_so IsFit (code key letter n) found tt f)
 all_fit (text key t ∷ items) found h f = all_fit items (placed (text key t) found) h.1 (placed_so IsFit (text key t) found tt f)
+all_fit (unprinted key t ∷ items) found h f = all_fit items (placed (unprinted key t) found) h.1 (placed_so IsFit (unprinted key t) found tt f)
 
-row_back : (r : Row) → IsPlainRow r → IsSaidRow r → read (compact_text (value_of r)) ≡ Some (value_of r)
+row_back : (r : Row) → IsPlainRow r → IsSaidRow r → read (compact_text (json_value_of r)) ≡ Some (json_value_of r)
 row_back r p h =
     let in_order = row_put r p in
     subst (λ ms. read (compact_text (values.object ms)) ≡ Some (values.object ms)) (sym in_order.same)
@@ -150,5 +155,5 @@ row_back r p h =
 pub line_objects_read_back : LineObjectsReadBack
 line_objects_read_back l h t e =
     let p = plain l h in
-    let same = append_cancel_right t (compact_text (value_of (row_of l))) (10 ∷ []) (sym e ∙ objects_are_texts (row_of l) p) in
+    let same = append_cancel_right t (compact_text (json_value_of (row_of l))) (10 ∷ []) (sym e ∙ objects_are_texts (row_of l) p) in
     ap read same ∙ row_back (row_of l) p (said l h)

@@ -6,7 +6,7 @@ use Rattle.std.specs.List.{list_all}
 use Rattle.std.proofs.lemmas.Bool.{and_parts, leb-true}
 use Rattle.std.proofs.lemmas.List.{append_cancel_left, length-append}
 use Rattle.hex.specs.Hex.{IsBytes, encode_lower, encode_with, lower_digits}
-use Rattle.lines.specs.Rows.{Item, word, number, start, over, name, code, text, spell}
+use Rattle.lines.specs.Rows.{Item, word, number, start, over, name, code, text, unprinted, spell}
 use Rattle.lines.specs.Table.{row_of}
 use Rattle.lines.specs.Texts.{gap_after, item_text, items_text, text_of}
 use Rattle.lines.specs.declared.line.Line.{Line}
@@ -69,6 +69,7 @@ gap_has_none (over key n) = refl
 gap_has_none (name key t) = refl
 gap_has_none (code key letter n) = refl
 gap_has_none (text key t) = refl
+gap_has_none (unprinted key t) = refl
 
 longer : (front t : List ℕ) → HasNone front → Ended t → Ended (front ++ t)
 longer front t h more = record {
@@ -102,6 +103,8 @@ all_ended (code key letter n ∷ items) h k some =
     ended (code key letter n) items (plain_has_none (letter ++ decimal n) (code_is_plain letter n h.0.0 h.0.1)) (all_ended items h.1 p.1)
 all_ended (text key t ∷ items) h k some =
     let p = and_parts (list_all is_plain key) (keys_plain items) k in ended (text key t) items (escaped_has_none t h.0) (all_ended items h.1 p.1)
+all_ended (unprinted key t ∷ items) h k some =
+    let p = and_parts (list_all is_plain key) (keys_plain items) k in ended (unprinted key t) items refl (all_ended items h.1 p.1)
 
 line_ended : (l : Line) → IsSaid l → Ended (text_of (row_of l))
 line_ended l h = all_ended (row_of l).items (said l h) (line_keys l) (some_items l)

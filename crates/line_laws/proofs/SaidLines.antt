@@ -5,7 +5,7 @@ use Rattle.std.specs.Prelude.{string_bytes}
 use Rattle.benc.specs.Messages.{kind_name}
 use Rattle.benc.specs.declared.fault.FaultKind.{FaultKind}
 use Rattle.benc.specs.declared.fault.FaultKind.TheVariants as faults
-use Rattle.filetree.specs.Names.{key_text, refusal_name, refusal_number}
+use Rattle.filetree.specs.Names.{key_spelling, refusal_name, refusal_number}
 use Rattle.filetree.specs.declared.refusal.Key.{Key}
 use Rattle.filetree.specs.declared.refusal.Key.TheVariants as keys
 use Rattle.filetree.specs.declared.refusal.Refusal.{Refusal}
@@ -55,7 +55,8 @@ checked_said (checked.Missing p) h = (tt, (path_is_bytes (map (λ s. s.now) p.no
 checked_said (checked.Unreadable p) h = (tt, (path_is_bytes (map (λ s. s.now) p.now) h, tt))
 checked_said (checked.WrongLength p) h = (tt, (path_is_bytes (map (λ s. s.now) p.now) h, tt))
 checked_said (checked.Bad piece p) h = (tt, (h.0.0, (path_is_bytes (map (λ s. s.now) p.now) h.1, tt)))
-checked_said (checked.BadPieces first last from to) h = (tt, (h.0, (h.1.0, (tt, (h.1.1.0, (h.1.1.1.0, tt))))))
+checked_said (checked.BadPieces first last from to p) h =
+    let n = h.0 in (path_is_bytes (map (λ s. s.now) p.now) h.1, (tt, (n.0, (n.1.0, (tt, (n.1.1.0, (n.1.1.1.0, tt)))))))
 checked_said checked.V1Good h = (tt, tt)
 checked_said (checked.V1Bad piece) h = (tt, (h.0, tt))
 checked_said checked.V1NotChecked h = (tt, tt)
@@ -85,11 +86,11 @@ number_fits : (r : Refusal) → refusal_number r < 2 ^ 64
 number_fits refusals.TooLarge = omega arith
 number_fits r = omega arith
 
-key_plain : (k : Key) → ArePlain (key_text k)
+key_plain : (k : Key) → ArePlain (key_spelling k)
 key_plain keys.Top = refl
 key_plain k = refl
 
-key_said : (k : Key) → IsSaidItem (name (codes "key") (key_text k))
+key_said : (k : Key) → IsSaidItem (name (codes "key") (key_spelling k))
 key_said k = (key_plain k, λ e. absurd (true≢false e), λ e. absurd (true≢false (sym e)))
 
 path_said : (parts : List (List ℕ)) → AreTexts parts → AreSaid (path_items parts)

@@ -4,6 +4,7 @@ use Rattle.std.proofs.Common.{Some, None, if◌then◌else◌, ap, refl}
 use Rattle.std.specs.Char.{is_ascii_digit}
 use Rattle.lines.specs.Rows.{Item, Row, row, number, name}
 use Rattle.lines.specs.Table
+use Rattle.line_laws.specs.Said.{printed}
 use Rattle.line_laws.proofs.Cuts.{front, onward, decimal_first}
 use Rattle.line_laws.proofs.Fields.{is_gap, is_no_digit, behind, behind_number}
 
@@ -96,7 +97,7 @@ named t = by_name (front is_gap t) (onward is_gap t)
 -- ---- all lines
 
 abbrev pub bad_shape : Bool → Row
-bad_shape digit = (if digit then Table.bad_row 0 [] else Table.bad_pieces_row 0 0 0 0)
+bad_shape digit = (if digit then Table.bad_row 0 [] else printed (Table.bad_pieces_row 0 0 0 0 []))
 
 -- the report of a part: what stands behind the info-hash
 abbrev pub part_shape : List ℕ → Row

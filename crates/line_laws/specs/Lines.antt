@@ -18,8 +18,8 @@ use Rattle.lines.specs.declared.parted.Parted.TheVariants as parted
 use Rattle.lines.specs.declared.shown.Shown.{Shown}
 use Rattle.lines.specs.declared.shown.Shown.TheVariants as shown
 use Rattle.line_laws.specs.Plain.{IsPlainRow}
-use Rattle.line_laws.specs.Said.{AreCapitals, IsSaidRow, IsWord}
-use Rattle.line_laws.specs.Values.{value_of}
+use Rattle.line_laws.specs.Said.{AreCapitals, IsSaidRow, IsWord, printed}
+use Rattle.line_laws.specs.Values.{json_value_of}
 
 -- numbers that fit 64 bits
 abbrev pub Fit : List ℕ → Type 0
@@ -55,7 +55,8 @@ IsChecked (checked.Missing p) = AreTexts (map (λ s. s.now) p.now)
 IsChecked (checked.Unreadable p) = AreTexts (map (λ s. s.now) p.now)
 IsChecked (checked.WrongLength p) = AreTexts (map (λ s. s.now) p.now)
 IsChecked (checked.Bad piece p) = Fit (piece ∷ []) × AreTexts (map (λ s. s.now) p.now)
-IsChecked (checked.BadPieces first last from to) = Fit (first ∷ last ∷ from ∷ to ∷ [])
+IsChecked (checked.BadPieces first last from to p) =
+    Fit (first ∷ last ∷ from ∷ to ∷ []) × AreTexts (map (λ s. s.now) p.now)
 IsChecked checked.V1Good = ⊤
 IsChecked (checked.V1Bad piece) = Fit (piece ∷ [])
 IsChecked checked.V1NotChecked = ⊤
@@ -116,26 +117,28 @@ LinesArePlain = (l : Line) → IsSaid l → IsPlainRow (row_of l)
 -- the object of such a line is the text that `serde_json` writes for its value, and a line feed
 abbrev pub LineObjectsAreTexts : Type 0
 LineObjectsAreTexts =
-    (l : Line) → IsSaid l → object_of (row_of l) ≡ compact_text (value_of (row_of l)) ++ 10 ∷ []
+    (l : Line) → IsSaid l
+    → object_of (row_of l) ≡ compact_text (json_value_of (row_of l)) ++ 10 ∷ []
 
 -- that text is read by `serde_json` as this value
 abbrev pub LineObjectsReadBack : Type 0
 LineObjectsReadBack =
     (l : Line) → IsSaid l → (text : List ℕ) → object_of (row_of l) ≡ text ++ 10 ∷ []
-    → read text ≡ Some (value_of (row_of l))
+    → read text ≡ Some (json_value_of (row_of l))
 
--- such lines with one text are one line
+-- such lines with one text are one line, as far as they are printed
 abbrev pub LineTextsTell : Type 0
 LineTextsTell =
     (a b : Line) → IsSaid a → IsSaid b
-    → text_of (row_of a) ≡ text_of (row_of b) → row_of a ≡ row_of b
+    → text_of (row_of a) ≡ text_of (row_of b) → printed (row_of a) ≡ printed (row_of b)
 
 abbrev pub AllSaid : List Line → Type 0
 AllSaid [] = ⊤
 AllSaid (l ∷ ls) = IsSaid l × AllSaid ls
 
--- reports with one text have the same lines in order
+-- reports with one text have the same lines in order, as far as they are printed
 abbrev pub ReportsTell : Type 0
 ReportsTell =
     (xs ys : List Line) → AllSaid xs → AllSaid ys
-    → spell text_of (map row_of xs) ≡ spell text_of (map row_of ys) → map row_of xs ≡ map row_of ys
+    → spell text_of (map row_of xs) ≡ spell text_of (map row_of ys)
+    → map (λ l. printed (row_of l)) xs ≡ map (λ l. printed (row_of l)) ys

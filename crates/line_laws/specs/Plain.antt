@@ -1,7 +1,7 @@
 -- Texts that a JSON string writes as they are, and rows whose names are such texts.
 use Rattle.std.specs.Prelude.{◌≡◌, ℕ, List, [], ◌∷◌, ◌++◌, codes, decimal, ⊤, Bool, true, not, ◌&&◌, ◌==◌, nat_le, bytes_eq}
 use Rattle.std.specs.List.{list_all, list_any}
-use Rattle.lines.specs.Rows.{Item, Row, word, number, start, over, name, code, text}
+use Rattle.lines.specs.Rows.{Item, Row, word, number, start, over, name, code, text, unprinted}
 
 -- the byte is not escaped in a JSON string (RFC 8259, section 7): it is no control character, no
 -- quote and no backslash
@@ -21,6 +21,7 @@ IsPlainItem (over key n) = ArePlain key
 IsPlainItem (name key t) = ArePlain key × ArePlain t
 IsPlainItem (code key letter n) = ArePlain key × ArePlain (letter ++ decimal n)
 IsPlainItem (text key t) = ArePlain key
+IsPlainItem (unprinted key t) = ArePlain key
 
 unfoldable pub ArePlainItems : List Item → Type 0
 ArePlainItems [] = ⊤
@@ -40,6 +41,7 @@ are_new seen (over key n ∷ items) = is_new key seen && are_new (key ∷ seen) 
 are_new seen (name key t ∷ items) = is_new key seen && are_new (key ∷ seen) items
 are_new seen (code key letter n ∷ items) = is_new key seen && are_new (key ∷ seen) items
 are_new seen (text key t ∷ items) = is_new key seen && are_new (key ∷ seen) items
+are_new seen (unprinted key t ∷ items) = is_new key seen && are_new (key ∷ seen) items
 
 -- the kind, each key, each name and each code is written as it is, and no key comes twice or is
 -- `kind`; of the texts and numbers nothing is asked

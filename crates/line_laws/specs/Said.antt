@@ -2,7 +2,7 @@
 use Rattle.std.specs.Prelude.{◌≡◌, ◌<◌, ◌^◌, ℕ, List, [], ◌∷◌, codes, length, ⊤, Bool, true, false, not, ◌&&◌, ◌==◌, nat_le, bytes_eq}
 use Rattle.std.specs.List.{list_all}
 use Rattle.hex.specs.Hex.{IsBytes}
-use Rattle.lines.specs.Rows.{Item, Row, word, number, start, over, name, code, text}
+use Rattle.lines.specs.Rows.{Item, Row, row, word, number, start, over, name, code, text, unprinted}
 use Rattle.lines.specs.Table.{row_of}
 use Rattle.lines.specs.Texts.{text_of}
 use Rattle.lines.specs.declared.line.Line.{Line}
@@ -35,6 +35,7 @@ IsSaidItem (name key t) =
     × (bytes_eq key (codes "root") ≡ true → length t ≡ 64)
 IsSaidItem (code key letter n) = AreCapitals letter × (n < 2 ^ 64)
 IsSaidItem (text key t) = IsBytes t
+IsSaidItem (unprinted key t) = IsBytes t
 
 unfoldable pub AreSaid : List Item → Type 0
 AreSaid [] = ⊤
@@ -44,8 +45,17 @@ AreSaid (item ∷ items) = IsSaidItem item × AreSaid items
 abbrev pub IsSaidRow : Row → Type 0
 IsSaidRow r = AreSaid r.items
 
--- lines with one text are one line
+-- what is printed of items; what is not printed stands before others
+abbrev pub printed_items : List Item → List Item
+printed_items (unprinted key t ∷ item ∷ items) = item ∷ items
+printed_items items = items
+
+-- what is printed of a line: all but the path of a run of bad pieces, which the line before has
+abbrev pub printed : Row → Row
+printed r = row r.kind (printed_items r.items)
+
+-- lines with one text are one line, as far as they are printed
 abbrev pub TextsTell : Type 0
 TextsTell =
     (a b : Line) → IsSaidRow (row_of a) → IsSaidRow (row_of b)
-    → text_of (row_of a) ≡ text_of (row_of b) → row_of a ≡ row_of b
+    → text_of (row_of a) ≡ text_of (row_of b) → printed (row_of a) ≡ printed (row_of b)

@@ -3,7 +3,7 @@ use Rattle.std.specs.Prelude.{◌≡◌, List, [], ◌∷◌, ◌++◌, codes, d
 use Rattle.serde_json.specs.Data.{Data, Members, no_members, member, unsigned, put}
 use Rattle.serde_json.specs.Data as json
 use Rattle.serde_json.specs.Written.{compact_text}
-use Rattle.lines.specs.Rows.{Item, Row, word, number, start, over, name, code, text}
+use Rattle.lines.specs.Rows.{Item, Row, word, number, start, over, name, code, text, unprinted}
 use Rattle.lines.specs.Objects.{object_of}
 use Rattle.line_laws.specs.Plain.{IsPlainRow}
 
@@ -17,6 +17,7 @@ with_member (over key n) found = put key (json.number (unsigned n)) found
 with_member (name key t) found = put key (json.string t) found
 with_member (code key letter n) found = put key (json.string (letter ++ decimal n)) found
 with_member (text key t) found = put key (json.string t) found
+with_member (unprinted key t) found = put key (json.string t) found
 
 -- members, and those of these items among them
 unfoldable pub with_members : List Item → Members → Members
@@ -24,11 +25,11 @@ with_members [] found = found
 with_members (item ∷ items) found = with_members items (with_member item found)
 
 -- the value that a line says: an object with its kind and its items
-abbrev pub value_of : Row → Data
-value_of r =
+abbrev pub json_value_of : Row → Data
+json_value_of r =
     json.object (with_members r.items (put (codes "kind") (json.string r.kind) no_members))
 
 -- the object of a line is the text that `serde_json` writes for its value, and a line feed
 abbrev pub ObjectsAreTexts : Type 0
 ObjectsAreTexts =
-    (r : Row) → IsPlainRow r → object_of r ≡ compact_text (value_of r) ++ 10 ∷ []
+    (r : Row) → IsPlainRow r → object_of r ≡ compact_text (json_value_of r) ++ 10 ∷ []

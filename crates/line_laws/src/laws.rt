@@ -16,9 +16,11 @@ pub fn objects_are_texts()
 {}
 
 /// Two lines of the table with one text are one line: their kinds, numbers, names and texts are the
-/// same. Numbers fit 64 bits, names are words, a root has its digits and texts are bytes, as the
-/// types of a line say, but for the names of refused messages and of a record's fault; those of a
-/// session's refusals are words. Reports with one text have the same lines, in order.
+/// same, but for what is not printed: the path of a run of bad pieces, which the line before has.
+/// Numbers fit 64 bits, names are words, a root has its digits and texts are bytes, as the types of
+/// a line say, but for the names of refused messages and of a record's fault; those of a session's
+/// refusals are words. Reports with one text have the same lines, in order, as far as they are
+/// printed.
 pub fn texts_tell()
     ensures rows { TextsTell }
     ensures said { LinesAreSaid }

@@ -7,8 +7,8 @@ use Rattle.lines.specs.declared.part.Part.{Part}
 use Rattle.lines.specs.declared.part.Part.TheVariants as part
 
 -- an item of a line: a word; under a key a number, a number with a dash or a slash behind it, a
--- name that is printed as it is, a letter with a number behind it, or a text that is printed with
--- its escapes
+-- name that is printed as it is, a letter with a number behind it, a text that is printed with its
+-- escapes, or a text of the object alone, which is not printed
 pub data Item : Type 0 where
   word : List ℕ → Item
   number : List ℕ → ℕ → Item
@@ -17,6 +17,7 @@ pub data Item : Type 0 where
   name : List ℕ → List ℕ → Item
   code : List ℕ → List ℕ → ℕ → Item
   text : List ℕ → List ℕ → Item
+  unprinted : List ℕ → List ℕ → Item
 
 -- what a part says: a digest is its hexadecimal, and a path is its components with `/` between them
 abbrev pub item_of : Part → Item
@@ -31,6 +32,7 @@ item_of (part.Sha1 key d) = name key.now (encode_lower d.now)
 item_of (part.Text key t) = text key.now t.now
 item_of (part.Path key p) = text key.now (join_with_byte slash (map (λ s. s.now) p.now))
 item_of (part.OwnPath key p) = text key.now (join_with_byte slash (map string_bytes p.now))
+item_of (part.Unprinted key p) = unprinted key.now (join_with_byte slash (map (λ s. s.now) p.now))
 
 -- a line
 pub record Row : Type 0 where

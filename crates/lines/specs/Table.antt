@@ -3,11 +3,11 @@ use Rattle.std.specs.Prelude.{ℕ, List, [], ◌∷◌, ◌++◌, Option, Some, 
 use Rattle.std.specs.List.{join_with_byte}
 use Rattle.benc.specs.Messages.{kind_name}
 use Rattle.filetree.specs.FileTree.{slash}
-use Rattle.filetree.specs.Names.{key_text, refusal_name, refusal_number}
+use Rattle.filetree.specs.Names.{key_spelling, refusal_name, refusal_number}
 use Rattle.filetree.specs.declared.refusal.Refusal.{Refusal}
 use Rattle.filetree.specs.declared.refusal.Refusal.TheVariants as refusals
 use Rattle.hex.specs.Hex.{encode_lower}
-use Rattle.lines.specs.Rows.{Item, Row, row, word, number, start, over, name, code, text}
+use Rattle.lines.specs.Rows.{Item, Row, row, word, number, start, over, name, code, text, unprinted}
 use Rattle.lines.specs.declared.line.Line.{Line}
 use Rattle.lines.specs.declared.line.Line.TheVariants as line
 use Rattle.lines.specs.declared.checked.Checked.{Checked}
@@ -162,11 +162,12 @@ abbrev pub bad_row : ℕ → List (List ℕ) → Row
 bad_row piece parts =
     plain_row (codes "bad") (number (codes "piece") piece ∷ path_item parts ∷ [])
 
--- a run of bad pieces, and its first and last byte
-abbrev pub bad_pieces_row : ℕ → ℕ → ℕ → ℕ → Row
-bad_pieces_row first last from to =
-    plain_row (codes "bad pieces")
-    (number (codes "first") first ∷ number (codes "last") last ∷ word (codes "bytes")
+-- a run of bad pieces of a file, and its first and last byte; the line before has the path
+abbrev pub bad_pieces_row : ℕ → ℕ → ℕ → ℕ → List (List ℕ) → Row
+bad_pieces_row first last from to parts =
+    row (codes "bad pieces")
+    (unprinted (codes "path") (join_with_byte slash parts) ∷ word (codes "bad pieces")
+    ∷ number (codes "first") first ∷ number (codes "last") last ∷ word (codes "bytes")
     ∷ start (codes "from") from ∷ number (codes "to") to ∷ [])
 
 abbrev pub v1_bad_row : ℕ → Row
@@ -179,7 +180,8 @@ checked_row (checked.Missing p) = path_row (codes "missing") (map (λ s. s.now) 
 checked_row (checked.Unreadable p) = path_row (codes "unreadable") (map (λ s. s.now) p.now)
 checked_row (checked.WrongLength p) = path_row (codes "wrong length") (map (λ s. s.now) p.now)
 checked_row (checked.Bad piece p) = bad_row piece (map (λ s. s.now) p.now)
-checked_row (checked.BadPieces first last from to) = bad_pieces_row first last from to
+checked_row (checked.BadPieces first last from to p) =
+    bad_pieces_row first last from to (map (λ s. s.now) p.now)
 checked_row checked.V1Good = plain_row (codes "v1 good") []
 checked_row (checked.V1Bad piece) = v1_bad_row piece
 checked_row checked.V1NotChecked = plain_row (codes "v1 not checked") []
@@ -216,8 +218,8 @@ parted_row parted.No = plain_row (codes "part no") []
 abbrev pub detail_items : Refusal → List Item
 detail_items (refusals.NotBencode fault) =
     name (codes "fault") (kind_name fault.kind) ∷ number (codes "offset") fault.offset ∷ []
-detail_items (refusals.Missing key) = name (codes "key") (key_text key) ∷ []
-detail_items (refusals.WrongType key) = name (codes "key") (key_text key) ∷ []
+detail_items (refusals.Missing key) = name (codes "key") (key_spelling key) ∷ []
+detail_items (refusals.WrongType key) = name (codes "key") (key_spelling key) ∷ []
 detail_items refusal = []
 
 -- the path, if there is one

@@ -1,7 +1,7 @@
 -- The text of a line.
 use Rattle.std.specs.Prelude.{ℕ, List, [], ◌∷◌, ◌++◌, decimal}
 use Rattle.printing.specs.Text.{escaped}
-use Rattle.lines.specs.Rows.{Item, Row, Spelling, word, number, start, over, name, code, text}
+use Rattle.lines.specs.Rows.{Item, Row, Spelling, word, number, start, over, name, code, text, unprinted}
 
 -- an item as it is printed
 abbrev pub item_text : Item → List ℕ
@@ -12,9 +12,10 @@ item_text (over key n) = decimal n
 item_text (name key t) = t
 item_text (code key letter n) = letter ++ decimal n
 item_text (text key t) = escaped t
+item_text (unprinted key t) = []
 
--- what stands between an item and the next: a space, but a dash behind a start, and a slash behind
--- what is over another number
+-- what stands between an item and the next: a space, but a dash behind a start, a slash behind what
+-- is over another number, and nothing behind what is not printed
 abbrev pub gap_after : Item → List ℕ
 gap_after (word w) = 32 ∷ []
 gap_after (number key n) = 32 ∷ []
@@ -23,6 +24,7 @@ gap_after (over key n) = 47 ∷ []
 gap_after (name key t) = 32 ∷ []
 gap_after (code key letter n) = 32 ∷ []
 gap_after (text key t) = 32 ∷ []
+gap_after (unprinted key t) = []
 
 -- what stands behind an item, by the items after it: the gap, or a line feed behind the last
 abbrev pub after_part : Item → List Item → List ℕ

@@ -4,7 +4,7 @@ ghost use Rattle.benc.specs.Device.{Wrote};
 ghost use Rattle.lines.specs.Table.{bad_pieces_row, bad_row, checked_row, extra_row};
 
 use crate::line_sink::LineSink;
-use crate::part::Part::{Number, OwnPath, Path, Start, Word};
+use crate::part::Part::{Number, OwnPath, Path, Start, Unprinted, Word};
 use crate::plain::{say_number, say_path, say_word};
 use benc::DeviceFault;
 
@@ -26,13 +26,14 @@ pub enum Checked<'a> {
         piece: u64,
         path: &'a [&'a str],
     },
-    /// These pieces of the file before are bad, which are its bytes from the one offset to the
-    /// other, both included.
+    /// These pieces of it are bad, which are its bytes from the one offset to the other, both
+    /// included. Its path stands in the object alone: the line before has it.
     BadPieces {
         first: u64,
         last: u64,
         from: u64,
         to: u64,
+        path: &'a [&'a str],
     },
     /// All version 1 pieces are good.
     V1Good,
@@ -62,7 +63,8 @@ pub(crate) fn say_checked<L: LineSink>(found: &Checked<'_>, out: &mut L) -> Resu
             last,
             from,
             to,
-        } => say_bad_pieces(first, last, from, to, out),
+            path,
+        } => say_bad_pieces(first, last, from, to, path, out),
         Checked::V1Good => say_word("v1 good", out),
         Checked::V1Bad(piece) => say_number("v1 bad", "piece", piece, out),
         Checked::V1NotChecked => say_word("v1 not checked", out),
@@ -93,14 +95,16 @@ fn say_bad_pieces<L: LineSink>(
     last: u64,
     from: u64,
     to: u64,
+    path: &[&str],
     out: &mut L,
 ) -> Result<(), DeviceFault>
     ensures { Wrote (L.seen out.old) (L.seen out.new) result
-        (L.spelled (bad_pieces_row first last from to)) }
+        (L.spelled (bad_pieces_row first last from to (map (λ s. s.now) path.now))) }
 {
     out.row(
         "bad pieces",
         &[
+            Unprinted("path", path),
             Word("bad pieces"),
             Number("first", first),
             Number("last", last),

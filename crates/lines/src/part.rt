@@ -29,6 +29,9 @@ pub enum Part<'a> {
     Path(&'static str, &'a [&'a str]),
     /// The same of components that own their texts.
     OwnPath(&'static str, &'a [String]),
+    /// A path by its components, under this key, in the JSON object alone: the text has nothing in
+    /// its place.
+    Unprinted(&'static str, &'a [&'a str]),
 }
 
 impl<'a> Default for Part<'a> {

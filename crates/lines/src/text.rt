@@ -48,6 +48,7 @@ fn behind(part: &Part<'_>, others: &[Part<'_>]) -> &'static [u8]
     match part {
         Part::Start(_, _) => b"-",
         Part::Over(_, _) => b"/",
+        Part::Unprinted(_, _) => b"",
         _ => b" ",
     }
 }
@@ -67,6 +68,7 @@ fn write_part<W: Sink>(part: &Part<'_>, out: &mut W) -> Result<(), DeviceFault>
         Part::Text(_, text) => write_escaped(out, text.as_bytes()),
         Part::Path(_, path) => write_path(out, path),
         Part::OwnPath(_, path) => write_path(out, path),
+        Part::Unprinted(_, _) => Ok(()),
     }
 }
 

@@ -54,7 +54,7 @@ fn make_call<N: NodeMap>(
         "seed" | "seed_onto" => seed_again::<N>(rt, torrent, record, call),
         "replay" => replay_again::<N>(rt, torrent, record, Way::Texts),
         "replay_onto" => replay_again::<N>(rt, torrent, record, Way::Objects),
-        "replay_pieces_onto" => replay_again::<N>(rt, torrent, record, Way::Pieces),
+        "replay_pieces" => replay_again::<N>(rt, torrent, record, Way::Pieces),
         "pieces" => take_pieces::<N>(rt, torrent, record),
         "span" => span_again(rt, record),
         "layer" => layer_again(rt, record),

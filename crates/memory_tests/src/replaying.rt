@@ -6,7 +6,7 @@ use benc::memory::{MemSink, MemSource};
 use holdings::Holdings;
 use lines::Objects;
 use opening::Torrent;
-use replays::{Outcome, replay, replay_onto, replay_pieces_onto};
+use replays::{Outcome, replay, replay_onto, replay_pieces};
 use session::{NodeMap, Session};
 use std::io;
 
@@ -29,7 +29,7 @@ pub(crate) enum Way {
     Texts,
     /// `replay_onto`, with its lines as objects.
     Objects,
-    /// The same of `replay_pieces_onto`.
+    /// The same of `replay_pieces`.
     Pieces,
 }
 
@@ -38,7 +38,7 @@ impl Way {
         match self {
             Way::Texts => "replay",
             Way::Objects => "replay_onto",
-            Way::Pieces => "replay_pieces_onto",
+            Way::Pieces => "replay_pieces",
         }
     }
 
@@ -46,7 +46,7 @@ impl Way {
         match self {
             Way::Texts => "reserve of replay",
             Way::Objects => "reserve of replay_onto",
-            Way::Pieces => "reserve of replay_pieces_onto",
+            Way::Pieces => "reserve of replay_pieces",
         }
     }
 }
@@ -143,7 +143,7 @@ fn outcome_of<N: NodeMap>(
         Way::Pieces => {
             let held = &mut Holdings::new(rt.alloc(), HELD, HELD)?;
             let mut lines = Objects::new(out);
-            replay_pieces_onto(rt.alloc(), session, held, source, &mut lines, answers, true)
+            replay_pieces(rt.alloc(), session, held, source, &mut lines, answers, true)
         }
     };
     Ok(outcome.unwrap_or_default())

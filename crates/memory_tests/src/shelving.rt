@@ -5,7 +5,7 @@ use crate::state::{compare_new, print_state};
 use benc::memory::MemSink;
 use drafts::Draft;
 use folders::memory::{MemFile, MemShelf};
-use folders::{Lines, Report, ShelfFault};
+use folders::{Lines, Report, ShelfFault, Unhurried};
 use gathering::{GatherFault, gather};
 use lines::Objects;
 use opening::Torrent;
@@ -229,7 +229,10 @@ fn seed_file<N: NodeMap>(
     let mut shelf = MemShelf::new(rt.alloc(), &files);
     let mut report = MemSink::with_room(rt.alloc(), 64)?;
     Ok(match call {
-        "seed_onto" => seed_onto(rt.alloc(), session, &mut shelf, &mut Objects::new(report)),
+        "seed_onto" => {
+            let mut lines = Objects::new(report);
+            seed_onto(rt.alloc(), session, &mut shelf, &mut Unhurried, &mut lines)
+        }
         _ => seed(rt.alloc(), session, &mut shelf, &mut report),
     })
 }

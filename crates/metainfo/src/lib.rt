@@ -5,6 +5,6 @@
 pub mod laws;
 
 pub use drafts::Draft;
-pub use filetree::{Key, Parts, Path, Refusal};
+pub use filetree::{Key, Path, PathParts, Refusal};
 pub use opening::{File, MAX_TORRENT, Torrent, TreeInfo};
 pub use pieces::{PieceLength, V1, V1Cuts, V1Feed, V1File};

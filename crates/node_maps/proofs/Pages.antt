@@ -12,7 +12,7 @@ use Rattle.std.proofs.lemmas.List.{get_or-set_same}
 use Rattle.std.specs.Bool.{OnTrue}
 use Rattle.std.specs.Option.{option_map}
 use Rattle.std.specs.List.{insert, remove}
-use Rattle.node_maps.specs.Rising.{AreRising, IsNumberAt, IsGapFor, page_numbered}
+use Rattle.node_maps.specs.Rising.{AreNumbersRising, IsNumberAt, IsGapFor, page_numbered}
 use Rattle.node_maps.proofs.Rising.{stands, found_gap, set-found, set-beside, insert-found, remove-found, within_items}
 use Rattle.node_maps.specs.Pages.{Numbered, page_within, find_under, cell_of, cell_in, is_among, is_spare, AreAlike, IsChanged, IsPut, AreSpare}
 
@@ -133,7 +133,7 @@ changed-twice q o f g h first second n = second n ∙ ap (cond (eqb q n) o) (fir
 
 -- ---- a number whose first bits a search found
 
-module _ {D : Type 0} (find : D → Numbered) (ns : List ℕ) (ds : List D) (rising : AreRising ns) (beside : length ds ≡ length ns) (shift q at : ℕ) where
+module _ {D : Type 0} (find : D → Numbered) (ns : List ℕ) (ds : List D) (rising : AreNumbersRising ns) (beside : length ds ≡ length ns) (shift q at : ℕ) where
   abbrev key : ℕ
   key = q / 2 ^ shift
 
@@ -176,7 +176,8 @@ module _ {D : Type 0} (find : D → Numbered) (ns : List ℕ) (ds : List D) (ris
       both false o = refl
 
 -- an index whose last page is given back goes with it
-pub under-emptied : {D : Type 0} (find : D → Numbered) (ns : List ℕ) (ds : List D) (rising : AreRising ns) (beside : length ds ≡ length ns) (shift q at : ℕ)
+pub under-emptied : {D : Type 0} (find : D → Numbered) (ns : List ℕ) (ds : List D) (rising : AreNumbersRising ns) (beside : length ds ≡ length ns)
+    (shift q at : ℕ)
     → IsNumberAt ns (q / 2 ^ shift) at → (d w : D) → d ≡ get_or ds at d → IsChanged q None (find d) (find w) → ((n : ℕ) → find w n ≡ None)
     → IsChanged q None (find_under find ns ds shift) (find_under find (remove ns at) (remove (set ds at w) at) shift)
 under-emptied find ns ds rising beside shift q at is d w here below none =

@@ -10,7 +10,7 @@ use Rattle.std.proofs.lemmas.List.Edits.{get_or-remove_above}
 use Rattle.std.proofs.lemmas.Bool.{cases_lt, eq-eqb}
 use Rattle.std.proofs.lemmas.Bool.Decides.{nat_tests}
 use Rattle.std.proofs.Math.ListN.{length-set}
-use Rattle.node_maps.specs.Rising.{AreRising, IsNumberAt, IsGapFor, page_numbered}
+use Rattle.node_maps.specs.Rising.{AreNumbersRising, IsNumberAt, IsGapFor, page_numbered}
 
 -- no number before place i is q
 abbrev pub NotBefore : List ℕ → ℕ → ℕ → Type 0
@@ -83,7 +83,7 @@ found-remove (n ∷ ns) (p ∷ ps) q (suc i) beside at free r =
           (λ j low other. free (suc j) (omega arith) (omega arith)) r,
     )
 
-module _ (ns : List ℕ) (rising : AreRising ns) where
+module _ (ns : List ℕ) (rising : AreNumbersRising ns) where
   -- what a binary search answers
   pub searched_at : (q : ℕ) (r : Result ℕ ℕ) → IsBinarySearchResult (λ y. nat_cmp y q) ns r
       → record { at : IfOk r (IsNumberAt ns q); gap : IfErr r (IsGapFor ns q) }
@@ -115,7 +115,7 @@ pub found_gap : {A : Type 0} (ns : List ℕ) (ps : List A) (q i : ℕ) → IsGap
 found_gap ns ps q i gap = found_absent ns ps q
     (λ j lt same. elim (cases_lt j i) [ inl less ↦ omega (arith, gap.below j less) | inr more ↦ omega (arith, gap.above j more lt) ])
 
-pub rising-insert : (ns : List ℕ) (q at : ℕ) → IsGapFor ns q at → AreRising ns → AreRising (insert ns at q)
+pub rising-insert : (ns : List ℕ) (q at : ℕ) → IsGapFor ns q at → AreNumbersRising ns → AreNumbersRising (insert ns at q)
 rising-insert ns q at gap rising i j lt in_range =
     let new : List ℕ = insert ns at q in
     let length_new : length new ≡ suc (length ns) = length-insert ns at q gap.in_range ∙ omega arith in
@@ -126,7 +126,7 @@ rising-insert ns q at gap rising i j lt in_range =
     gap.in_range) in
     grind (arith, below' i, here i, above' i, below' j, here j, above' j, rising i j, rising i (j - 1), rising (i - 1) (j - 1), gap.below i, gap.above (j - 1))
 
-pub rising-remove : (ns : List ℕ) (at : ℕ) → at < length ns → AreRising ns → AreRising (remove ns at)
+pub rising-remove : (ns : List ℕ) (at : ℕ) → at < length ns → AreNumbersRising ns → AreNumbersRising (remove ns at)
 rising-remove ns at inside rising i j lt in_range =
     let new : List ℕ = remove ns at in
     let length_new : length new + 1 ≡ length ns = length-remove ns at inside in
@@ -136,7 +136,7 @@ rising-remove ns at inside rising i j lt in_range =
 
 -- ---- an item at a number that a search found
 
-module _ {A : Type 0} (ns : List ℕ) (xs : List A) (rising : AreRising ns) (beside : length xs ≡ length ns) (q at : ℕ) where
+module _ {A : Type 0} (ns : List ℕ) (xs : List A) (rising : AreNumbersRising ns) (beside : length xs ≡ length ns) (q at : ℕ) where
   pub stands : IsNumberAt ns q at → (x : A) → x ≡ get_or xs at x → page_numbered ns xs q ≡ Some x
   stands is x here = found_present ns xs q at x beside is (not_before_at ns rising q at is) ∙ ap Some (sym here)
 

@@ -2,8 +2,9 @@
 use Rattle.std.specs.Prelude.{◌≡◌, ℕ, ◌<◌, ◌≤◌, ◌==◌, if◌then◌else◌, List, [], ◌∷◌, length, slice_index_or, Option, Some, None}
 
 -- each number is below those after it
-abbrev pub AreRising : List ℕ → Type 0
-AreRising ns = (i j : ℕ) → i < j → j < length ns → slice_index_or ns i 0 < slice_index_or ns j 0
+abbrev pub AreNumbersRising : List ℕ → Type 0
+AreNumbersRising ns =
+    (i j : ℕ) → i < j → j < length ns → slice_index_or ns i 0 < slice_index_or ns j 0
 
 -- the number stands at place i
 pub record IsNumberAt (ns : List ℕ) (n i : ℕ) : Type 0 where

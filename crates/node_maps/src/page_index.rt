@@ -4,7 +4,7 @@ ghost use Rattle.std.specs.Prelude.{◌≡◌, ◌↔◌, ℕ, ◌<◌, IsTrue, 
 ghost use Rattle.std.specs.Bool.{OnTrue};
 ghost use Rattle.node_maps.specs.Cell.{page_length};
 ghost use Rattle.node_maps.specs.Pages.{Numbered, IsChanged, AreAlike, IsPut, find_under, AreInUse};
-ghost use Rattle.node_maps.specs.Rising.{AreRising, page_numbered};
+ghost use Rattle.node_maps.specs.Rising.{AreNumbersRising, page_numbered};
 
 use crate::page::Page;
 use crate::search::{insert_reserved, make_room, search};
@@ -74,7 +74,7 @@ pub(crate) struct PageList {
     pages: Vec<Page>,
     /// Where the last write was.
     last: usize,
-    ghost rising: { AreRising numbers.items },
+    ghost rising: { AreNumbersRising numbers.items },
     ghost beside: { length pages.items ≡ length numbers.items },
 }
 
@@ -145,7 +145,7 @@ pub(crate) struct PageIndexNode<D: Drop> {
     /// Where the last write was.
     last: usize,
     ghost low: { shift < 64 },
-    ghost rising: { AreRising numbers.items },
+    ghost rising: { AreNumbersRising numbers.items },
     ghost beside: { length lists.items ≡ length numbers.items },
 }
 

@@ -2,14 +2,14 @@
 
 ghost use Rattle.std.specs.Prelude.{◌≡◌, ◌+◌, ◌<◌, ◌≤◌, IfOk, IfErr, OnOk, vec_len, vec_capacity};
 ghost use Rattle.std.specs.List.{insert};
-ghost use Rattle.node_maps.specs.Rising.{AreRising, IsNumberAt, IsGapFor};
+ghost use Rattle.node_maps.specs.Rising.{AreNumbersRising, IsNumberAt, IsGapFor};
 
 use hashtree::NoMemory;
 
 /// Where the number stands, or where it would go. The place of the last write and the end are
 /// looked at first, since most work is there. Condition: the numbers ascend.
 pub(crate) fn search(numbers: &[u64], last: usize, number: u64) -> Result<usize, usize>
-    requires { AreRising numbers.now }
+    requires { AreNumbersRising numbers.now }
     ensures at { IfOk result (IsNumberAt numbers.now number) }
     ensures gap { IfErr result (IsGapFor numbers.now number) }
 {

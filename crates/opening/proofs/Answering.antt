@@ -23,6 +23,7 @@ use Rattle.opening.specs.Trees.{AreFiles, roots_in}
 use Rattle.filetree.specs.declared.refusal.Refusal.{Refusal}
 use Rattle.filetree.specs.declared.refusal.Refusal.TheVariants as refusals
 use Rattle.chains.proofs.Cases.{item_at}
+use Rattle.opening.proofs.Legal.{accepted_if_legal, legal_if_accepted}
 use Rattle.opening.proofs.Listing.{are_files}
 use Rattle.opening.proofs.EachTest.{table_tested}
 
@@ -94,7 +95,7 @@ no_both value fault b t r one other = elim other [
     | inl failed ↦ fault b one.value failed.0.kind failed.0.offset one.spelled failed.1
     | inr held ↦
         let same = (value held.0 one.value b b [] [] held.1 one.spelled refl).0 in
-        none_first (table one.value) r one.accepted (subst (λ (v : Bencode). First (table v) r) same held.2)
+        none_first (table one.value) r (accepted_if_legal one.value one.legal) (subst (λ (v : Bencode). First (table v) r) same held.2)
   ]
 ]
 
@@ -202,7 +203,7 @@ value_tested : (b : List ℕ) (v : Bencode) → length b ≤ max_torrent → Spe
 value_tested b v small spelled (inl first) = inr (first.0, inr (small, inr (v, spelled, first.1)))
 value_tested b v small spelled (inr none) =
     let known = described_by v in
-    inl (known.0, record { small = small; value = v; spelled = spelled; accepted = none; described = known.1 })
+    inl (known.0, record { small = small; value = v; spelled = spelled; legal = legal_if_accepted v none; described = known.1 })
 
 abbrev ValueOrFault : Type 0
 ValueOrFault = (b : List ℕ) → ((v : Bencode) × Spells v b) ⊎ ((kind : FaultKind) × (offset : ℕ) × benc.Fails b kind offset)

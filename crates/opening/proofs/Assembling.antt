@@ -9,7 +9,7 @@ use Rattle.benc.specs.Value.{Bencode, Pairs}
 use Rattle.filetree.proofs.Bytes.{false_or_true}
 use Rattle.opening.specs.Describes.{IsDescribed}
 use Rattle.opening.specs.Description.{Description, FileEntry}
-use Rattle.filetree.specs.FileTree.{Walk, lacks_root, listed, walks}
+use Rattle.filetree.specs.FileTree.{Walk, file_of_walk, lacks_root, walks}
 use Rattle.filetree.specs.declared.files.ListedFile.{ListedFile}
 use Rattle.opening.specs.Matching.{FitsStream, named_entry}
 use Rattle.opening.specs.Opening.{content_rows}
@@ -37,16 +37,17 @@ pub record IsReadFrom (v : Bencode) (k : ℕ) (info : Bencode) (name : List ℕ)
   pub tree_is : tree ≡ file_tree_in v
   pub layers_is : layers ≡ layers_in v
   pub length_is : k ≡ piece_length_in v
-  pub files_are : fs ≡ map listed (walks tree)
+  pub files_are : fs ≡ map file_of_walk (walks tree)
   pub keys : NoneHolds (all_key_rows v)
   pub trees : NoneHolds (tree_rows tree)
 
-pub sizes_of : (tree : Pairs) (fs : List ListedFile) → NoneHolds (tree_rows tree) → fs ≡ map listed (walks tree) → (f : ListedFile) → IsIn fs f → IsSized f
+pub sizes_of : (tree : Pairs) (fs : List ListedFile) → NoneHolds (tree_rows tree) → fs ≡ map file_of_walk (walks tree) → (f : ListedFile) → IsIn fs f
+    → IsSized f
 sizes_of tree fs rows is f there = all_sized (walks tree) (false_or_true (list_any (λ (w : Walk). lacks_root w.file) (walks tree)) rows.1.1.1.1.0) f
     (subst (λ gs. IsIn gs f) is there)
 
-all_files : (v : Bencode) (tree : Pairs) (fs : List ListedFile) → tree ≡ file_tree_in v → fs ≡ map listed (walks tree) → fs ≡ files_of v
-all_files v tree fs tree_is is = is ∙ ap (λ t. map listed (walks t)) tree_is
+all_files : (v : Bencode) (tree : Pairs) (fs : List ListedFile) → tree ≡ file_tree_in v → fs ≡ map file_of_walk (walks tree) → fs ≡ files_of v
+all_files v tree fs tree_is is = is ∙ ap (λ t. map file_of_walk (walks t)) tree_is
 
 pub keys_refused : (v : Bencode) (r : Refusal) → First (all_key_rows v) r → First (table v) r
 keys_refused v r first =

@@ -66,17 +66,17 @@ utf8_tested : (s : List ℕ) (b : Bool) → is_utf8 s ≡ b → Decided (IsUtf8 
 utf8_tested s true is = inl (IsUtf8-from_is_utf8 s is)
 utf8_tested s false is = inr (λ u. let never : true ≡ false = sym (is_utf8-from_IsUtf8 s u) ∙ is in cc)
 
-utf8 : (s : List ℕ) → Decided (IsUtf8 s)
+pub utf8 : (s : List ℕ) → Decided (IsUtf8 s)
 utf8 s = utf8_tested s (is_utf8 s) refl
 
-named_text : (o : Option Bencode) → Decided (IsName o)
+pub named_text : (o : Option Bencode) → Decided (IsName o)
 named_text None = inr (λ never. never)
 named_text (Some (int z)) = inr (λ never. never)
 named_text (Some (text s)) = utf8 s
 named_text (Some (list vs)) = inr (λ never. never)
 named_text (Some (dict ps)) = inr (λ never. never)
 
-two : (o : Option Bencode) → Decided (o ≡ Some (int (pos 2)))
+pub two : (o : Option Bencode) → Decided (o ≡ Some (int (pos 2)))
 two None = inr (λ is. cc)
 two (Some (int (pos n))) = elim (cases_eq n 2) [
   | inl is ↦ inl (ap (λ m. Some (int (pos m))) is)
@@ -90,7 +90,7 @@ two (Some (dict ps)) = inr (λ is. cc)
 abbrev IsPower : ℕ → ℕ → Type 0
 IsPower n k = (14 ≤ k) × (n ≡ 2 ^ k)
 
-power : (n : ℕ) → Decided (IsPieceLength n)
+pub power : (n : ℕ) → Decided (IsPieceLength n)
 power n = moved (SomeBelow (IsPower n) 31) (IsPieceLength n)
     (λ found. (found.0, found.2.0, omega (arith, found.1), found.2.1))
     (λ found. (found.0, omega (arith, found.2), (found.1, found.3)))
@@ -201,7 +201,7 @@ layer_tested p layers ts = row _ _ (is_bool _ true) (row _ _ (is_bool _ true) (r
 
 -- ---- the version 1 part
 
-same_named : (f g : Named) → Decided (f ≡ g)
+pub same_named : (f g : Named) → Decided (f ≡ g)
 same_named f g = moved ((f.path ≡ g.path) × (f.length ≡ g.length)) (f ≡ g)
     (λ same. ap (λ (p : List (List ℕ)). make p f.length) same.0 ∙ ap (λ (n : ℕ). make g.path n) same.1)
     (λ same. (ap (λ (h : Named). h.path) same, ap (λ (h : Named). h.length) same))

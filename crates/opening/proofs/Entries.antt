@@ -11,7 +11,7 @@ use Rattle.opening.specs.Seen.{file_entry}
 use Rattle.opening.specs.declared.torrent.File.{File}
 use Rattle.filetree.specs.FileTree.{has_attribute}
 use Rattle.filetree.proofs.Folders.{texts}
-use Rattle.opening.specs.Matching.{is_text, are_texts, is_sized, is_entry_of, begins, are_same}
+use Rattle.opening.specs.Matching.{is_text, are_texts, is_sized, is_entry_of, begins_with_entry, are_same}
 
 pub items_more : (xs : List Value) (i : ℕ) (x : Value) → i < length xs → x ≡ get_or xs i x
     → items_view (drop i xs) ≡ item (view x) (items_view (drop (i + 1) xs))
@@ -84,19 +84,20 @@ texts_end xs i ts j end le =
 same_more : (xs : List Value) (i : ℕ) (x : Value) (fs : List FileEntry) (sized pad : Bool) → i < length xs → x ≡ get_or xs i x
     → sized ≡ is_sized (view x) → pad ≡ has_attribute 112 (view x)
     → are_same (items_view (drop i xs)) fs
-    ≡ (if sized then (if pad then are_same (items_view (drop (i + 1) xs)) fs else begins (view x) (are_same (items_view (drop (i + 1) xs))) fs) else false)
+    ≡ (if sized then (if pad then are_same (items_view (drop (i + 1) xs)) fs else begins_with_entry (view x) (are_same (items_view (drop (i + 1) xs))) fs)
+    else false)
 same_more xs i x fs sized pad lt is is_sized is_pad =
     let rest = are_same (items_view (drop (i + 1) xs)) in
     ap (λ t. are_same t fs) (items_more xs i x lt is)
-    ∙ ap (λ t. if t then (if has_attribute 112 (view x) then rest fs else begins (view x) rest fs) else false) (sym is_sized)
-    ∙ ap (λ t. if sized then (if t then rest fs else begins (view x) rest fs) else false) (sym is_pad)
+    ∙ ap (λ t. if t then (if has_attribute 112 (view x) then rest fs else begins_with_entry (view x) rest fs) else false) (sym is_sized)
+    ∙ ap (λ t. if sized then (if t then rest fs else begins_with_entry (view x) rest fs) else false) (sym is_pad)
 
 pub same_unsized : (xs : List Value) (i : ℕ) (x : Value) (fs : List FileEntry) (sized : Bool) → i < length xs → x ≡ get_or xs i x
     → sized ≡ is_sized (view x) → sized ≡ false → are_same (items_view (drop i xs)) fs ≡ false
 same_unsized xs i x fs sized lt is is_sized unsized =
     let rest = are_same (items_view (drop (i + 1) xs)) in
     same_more xs i x fs sized (has_attribute 112 (view x)) lt is is_sized refl
-    ∙ ap (λ t. if t then (if has_attribute 112 (view x) then rest fs else begins (view x) rest fs) else false) unsized
+    ∙ ap (λ t. if t then (if has_attribute 112 (view x) then rest fs else begins_with_entry (view x) rest fs) else false) unsized
 
 pub same_pad : (xs : List Value) (i : ℕ) (x : Value) (fs : List FileEntry) (sized pad : Bool) → i < length xs → x ≡ get_or xs i x
     → sized ≡ is_sized (view x) → sized ≡ true → pad ≡ has_attribute 112 (view x) → pad ≡ true
@@ -104,18 +105,18 @@ pub same_pad : (xs : List Value) (i : ℕ) (x : Value) (fs : List FileEntry) (si
 same_pad xs i x fs sized pad lt is is_sized has_size is_pad padded =
     let rest = are_same (items_view (drop (i + 1) xs)) in
     same_more xs i x fs sized pad lt is is_sized is_pad
-    ∙ ap (λ t. if t then (if pad then rest fs else begins (view x) rest fs) else false) has_size
-    ∙ ap (λ t. if t then rest fs else begins (view x) rest fs) padded
+    ∙ ap (λ t. if t then (if pad then rest fs else begins_with_entry (view x) rest fs) else false) has_size
+    ∙ ap (λ t. if t then rest fs else begins_with_entry (view x) rest fs) padded
 
 -- one more file's entry
 same_file : (xs : List Value) (i : ℕ) (x : Value) (fs : List FileEntry) (sized pad : Bool) → i < length xs → x ≡ get_or xs i x
     → sized ≡ is_sized (view x) → sized ≡ true → pad ≡ has_attribute 112 (view x) → pad ≡ false
-    → are_same (items_view (drop i xs)) fs ≡ begins (view x) (are_same (items_view (drop (i + 1) xs))) fs
+    → are_same (items_view (drop i xs)) fs ≡ begins_with_entry (view x) (are_same (items_view (drop (i + 1) xs))) fs
 same_file xs i x fs sized pad lt is is_sized has_size is_pad unpadded =
     let rest = are_same (items_view (drop (i + 1) xs)) in
     same_more xs i x fs sized pad lt is is_sized is_pad
-    ∙ ap (λ t. if t then (if pad then rest fs else begins (view x) rest fs) else false) has_size
-    ∙ ap (λ t. if t then rest fs else begins (view x) rest fs) unpadded
+    ∙ ap (λ t. if t then (if pad then rest fs else begins_with_entry (view x) rest fs) else false) has_size
+    ∙ ap (λ t. if t then rest fs else begins_with_entry (view x) rest fs) unpadded
 
 pub same_short : (xs : List Value) (i : ℕ) (x : Value) (fs : List File) (j : ℕ) (sized pad : Bool) → i < length xs → x ≡ get_or xs i x
     → sized ≡ is_sized (view x) → sized ≡ true → pad ≡ has_attribute 112 (view x) → pad ≡ false → length fs ≤ j
@@ -123,7 +124,7 @@ pub same_short : (xs : List Value) (i : ℕ) (x : Value) (fs : List File) (j : �
 same_short xs i x fs j sized pad lt is is_sized has_size is_pad unpadded le =
     let past : length (map file_entry fs) ≤ j = omega (arith, length-map fs file_entry) in
     same_file xs i x (drop j (map file_entry fs)) sized pad lt is is_sized has_size is_pad unpadded
-    ∙ ap (begins (view x) (are_same (items_view (drop (i + 1) xs)))) (drop_all j (map file_entry fs) past)
+    ∙ ap (begins_with_entry (view x) (are_same (items_view (drop (i + 1) xs)))) (drop_all j (map file_entry fs) past)
 
 same_next : (xs : List Value) (i : ℕ) (x : Value) (fs : List File) (j : ℕ) (f : File) (sized pad b : Bool) → i < length xs → x ≡ get_or xs i x
     → sized ≡ is_sized (view x) → sized ≡ true → pad ≡ has_attribute 112 (view x) → pad ≡ false → j < length fs → f ≡ get_or fs j f
@@ -137,7 +138,7 @@ same_next xs i x fs j f sized pad b lt is is_sized has_size is_pad unpadded in_f
     let within : j < length es = omega (arith, length-map fs file_entry) in
     let left : drop j es ≡ file_entry f ∷ drop (j + 1) es = drop_more es j (file_entry f) within ∙ ap (λ t. t ∷ drop (j + 1) es) at in
     same_file xs i x (drop j es) sized pad lt is is_sized has_size is_pad unpadded
-    ∙ ap (begins (view x) rest) left
+    ∙ ap (begins_with_entry (view x) rest) left
     ∙ ap (λ t. t && rest (drop (j + 1) es)) (sym is_b)
 
 pub same_holds : (xs : List Value) (i : ℕ) (x : Value) (fs : List File) (j : ℕ) (f : File) (sized pad b : Bool) → i < length xs → x ≡ get_or xs i x

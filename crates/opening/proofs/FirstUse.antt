@@ -2,13 +2,10 @@
 use Rattle.std.proofs.Common.{◌≡◌, ℕ, zero, suc, ◌+◌, ◌<◌, List, [], ◌∷◌, ◌++◌, length, map, Option, Some, None, inl, inr, refl, sym, ap, subst}
 use Rattle.std.proofs.Common.{◌∙◌, add-zero, zero-add, arith, slice_get}
 use Rattle.std.specs.Prelude.{fold, option_and_then}
-use Rattle.std.specs.List.{list_any}
 use Rattle.std.proofs.lemmas.Bool.Decides.{eqb_tells}
 use Rattle.std.proofs.lemmas.Option.{slice_get_within}
 use Rattle.benc.specs.Value.{Pairs}
-use Rattle.filetree.specs.FileTree.{Walk, lacks_root}
 use Rattle.filetree.specs.declared.files.ListedFile.{ListedFile}
-use Rattle.filetree.proofs.Bytes.{false_or_true}
 use Rattle.opening.specs.Description.{Description, TreeEntry}
 use Rattle.opening.specs.FirstUse.{AreTreesOf, HasNoTree, HasTreeOf, IsFirstUsed, IsUsedBefore}
 use Rattle.opening.specs.Laws.{TreesAreRoots}
@@ -17,6 +14,7 @@ use Rattle.opening.specs.Refusals.{files_of, layers_in, piece_length_in, walks_o
 use Rattle.opening.specs.Trees.{AreFiles, IsIn, IsReused, entry_at, place_in, roots_in, with_file, with_root}
 use Rattle.opening.specs.declared.roots.Root.{Root}
 use Rattle.chains.proofs.Cases.{last_or_before, some_or_none}
+use Rattle.opening.proofs.Legal.{not_reused}
 use Rattle.opening.proofs.Rooting.{place_at, place_push_new, place_push_there}
 use Rattle.opening.proofs.Sounding.{tree_of}
 use Rattle.opening.proofs.SoundTrees.{IsSized}
@@ -234,6 +232,5 @@ trees_of p layers fs t trees files sizes one_length = record {
 pub trees_are_roots : TreesAreRoots
 trees_are_roots b t d =
     let v = d.value in
-    let files = d.accepted.1.1.1.1.1.1.1.1.1.1.1.1.1.1.1.1 in
-    let rooted = false_or_true (list_any (λ (w : Walk). lacks_root w.file) (walks_of v)) files.1.1.0 in
-    trees_of (piece_length_in v) (layers_in v) (files_of v) t d.described.trees d.described.files (all_sized (walks_of v) rooted) files.1.1.1.0
+    trees_of (piece_length_in v) (layers_in v) (files_of v) t d.described.trees d.described.files (all_sized (walks_of v) d.legal.roots)
+    (not_reused (files_of v) d.legal.one_length)

@@ -9,7 +9,7 @@ use Rattle.benc.specs.Value.{Bencode, int, text, list, dict, Items, no_items, it
 use Rattle.opening.specs.Description.{FileEntry}
 use Rattle.filetree.specs.Dictionary.{get, as_text}
 use Rattle.filetree.specs.FileTree.{has_attribute, is_dict, length_at}
-use Rattle.opening.specs.Matching.{is_text, are_texts, is_path_value, is_length, is_entry_of, is_sized, begins, are_same, named_entry}
+use Rattle.opening.specs.Matching.{is_text, are_texts, is_path_value, is_length, is_entry_of, is_sized, begins_with_entry, are_same, named_entry}
 use Rattle.opening.specs.Stream.{Part, Named, texts_in, some_texts, as_path, entry_part, parts_of, is_broken, named_part, files_in}
 
 -- ---- tests that hold of both
@@ -165,7 +165,7 @@ file_added v vs f fs sized file is h =
     }
 
 same_step : (v : Bencode) (vs : Items) (fs : List FileEntry) (sized pad : Bool) → is_sized v ≡ sized → has_attribute 112 v ≡ pad
-    → (if sized then (if pad then are_same vs fs else begins v (are_same vs) fs) else false) ≡ true
+    → (if sized then (if pad then are_same vs fs else begins_with_entry v (are_same vs) fs) else false) ≡ true
     → ((gs : List FileEntry) → are_same vs gs ≡ true → AreParts vs gs) → AreParts (item v vs) fs
 same_step v vs fs false pad s p e rest = let bad : ⊥ = cc in absurd bad
 same_step v vs fs true true s p e rest = pad_added v vs fs s p (rest fs e)
@@ -206,7 +206,7 @@ head_is v f sized file whole named =
     entry_back v f (some_number (length_at v) (and_parts _ _ sized).1 ∙ ap Some size) (some_path (entry_part v).path has_path ∙ ap Some path)
 
 other_step : (v : Bencode) (vs : Items) (fs : List FileEntry) (sized pad : Bool) → is_sized v ≡ sized → has_attribute 112 v ≡ pad
-    → (if sized then (if pad then are_same vs fs else begins v (are_same vs) fs) else false) ≡ false
+    → (if sized then (if pad then are_same vs fs else begins_with_entry v (are_same vs) fs) else false) ≡ false
     → ((gs : List FileEntry) → are_same vs gs ≡ false → AreOther vs gs) → AreOther (item v vs) fs
 other_step v vs fs false pad s p e rest ps listed whole same =
     let b = parts_back v vs ps listed in

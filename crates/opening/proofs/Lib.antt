@@ -13,6 +13,7 @@ pub mod InStream
 pub mod KeyTests
 pub mod Keys
 pub mod Layering
+pub mod Legal
 pub mod Listing
 pub mod Placing
 pub mod Rooting

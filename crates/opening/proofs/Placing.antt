@@ -195,7 +195,7 @@ place_is_found t i b f n e =
     let begins = begins_place t.piece_length (i * t.piece_length + b) found.0 found.3 in
     let all : f - 0 ≡ f = omega arith in
     record {
-      file = found.0;
+      entry = found.0;
       there = subst (λ x. slice_get t.files x ≡ Some found.0) all found.2;
       in_file = omega (arith, begins.0, found.4);
       address = omega (arith, begins.1, found.4);
@@ -206,11 +206,11 @@ pub place_is_only : (t : Description) (i b f n : ℕ) → 0 < t.piece_length →
 place_is_only t i b f n h laid place =
     let p = t.piece_length in
     let a = i * t.piece_length + b in
-    let here = place_begins p a place.file n place.in_file place.address in
-    let some : place_from p a 0 t.files ≡ Some (0 + f, (a - place.file.first_piece * p) / 16384)
-    = place_some p a 0 f t.files place.file place.there here.0
-    (λ j g lt e. false_or_true _ (λ begins. one_covers p a j f t.files g place.file laid e place.there lt (covers p a g h begins)
-    (covers p a place.file h here.0))) in
+    let here = place_begins p a place.entry n place.in_file place.address in
+    let some : place_from p a 0 t.files ≡ Some (0 + f, (a - place.entry.first_piece * p) / 16384)
+    = place_some p a 0 f t.files place.entry place.there here.0
+    (λ j g lt e. false_or_true _ (λ begins. one_covers p a j f t.files g place.entry laid e place.there lt (covers p a g h begins)
+    (covers p a place.entry h here.0))) in
     let number : 0 + f ≡ f = omega arith in
     some ∙ rw (number, here.1) refl
 

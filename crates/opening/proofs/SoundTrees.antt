@@ -14,7 +14,7 @@ use Rattle.benc.specs.Value.{Bencode, int, text, list, dict, Pairs}
 use Rattle.filetree.proofs.Bytes.{same_bytes, true_or_false}
 use Rattle.opening.specs.Description.{TreeEntry}
 use Rattle.filetree.specs.Dictionary.{get, under}
-use Rattle.filetree.specs.FileTree.{Walk, as_length, as_root, length_of, listed, lacks_root, root_at}
+use Rattle.filetree.specs.FileTree.{Walk, as_length, as_root, length_of, file_of_walk, lacks_root, root_at}
 use Rattle.filetree.specs.declared.files.ListedFile.{ListedFile}
 use Rattle.opening.specs.PieceLayers.{as_digests, layer_at, leads_to, lacks_size, mismatches, tree_at}
 use Rattle.opening.specs.Rooted.{AreRoots}
@@ -64,10 +64,10 @@ root_length : (o : Option Bencode) (s : List ℕ) → option_and_then as_root o 
 root_length None s is = cc
 root_length (Some v) s is = as_root_length v s is
 
-sized : (w : Walk) → lacks_root w.file ≡ false → IsSized (listed w)
+sized : (w : Walk) → lacks_root w.file ≡ false → IsSized (file_of_walk w)
 sized w lacks = by_test (nat_lt 0 (length_of w.file)) refl
   where
-    by_test : (b : Bool) → nat_lt 0 (length_of w.file) ≡ b → IsSized (listed w)
+    by_test : (b : Bool) → nat_lt 0 (length_of w.file) ≡ b → IsSized (file_of_walk w)
     by_test true e = record {
       bound = and_then_bound (get (codes "length") w.file);
       some = λ s is. (grind (arith, e), root_length (get (codes "pieces root") w.file) s (let at : root_at w.file ≡ Some s = rw e at is in at));
@@ -93,13 +93,13 @@ none_any p (y ∷ ys) (suc k) x none at = elim (true_or_false (p y)) [
   | inr other ↦ let rest : list_any p ys ≡ false = rw other at none in none_any p ys k x rest at
 ]
 
-mapped_at : (o : Option Walk) (f : ListedFile) → option_map listed o ≡ Some f → (w : Walk) × (o ≡ Some w) × (listed w ≡ f)
+mapped_at : (o : Option Walk) (f : ListedFile) → option_map file_of_walk o ≡ Some f → (w : Walk) × (o ≡ Some w) × (file_of_walk w ≡ f)
 mapped_at None f is = cc
-mapped_at (Some w) f is = let same : listed w ≡ f = cc in (w, refl, same)
+mapped_at (Some w) f is = let same : file_of_walk w ≡ f = cc in (w, refl, same)
 
-pub all_sized : (ws : List Walk) → list_any (λ w. lacks_root w.file) ws ≡ false → (f : ListedFile) → IsIn (map listed ws) f → IsSized f
+pub all_sized : (ws : List Walk) → list_any (λ w. lacks_root w.file) ws ≡ false → (f : ListedFile) → IsIn (map file_of_walk ws) f → IsSized f
 all_sized ws none f there =
-    let at = mapped_at (slice_get ws there.0) f (sym (slice_get-map listed ws there.0) ∙ there.1) in
+    let at = mapped_at (slice_get ws there.0) f (sym (slice_get-map file_of_walk ws there.0) ∙ there.1) in
     subst IsSized at.2 (sized at.0 (none_any (λ (w : Walk). lacks_root w.file) ws there.0 at.0 none at.1))
 
 -- ---- trees

@@ -8,7 +8,7 @@ use Rattle.benc.specs.Value.{Bencode, dict, Pairs}
 use Rattle.filetree.proofs.Bytes.{false_or_true}
 use Rattle.opening.specs.Description.{Description, FileEntry, TreeEntry, Version1}
 use Rattle.filetree.specs.Dictionary.{get}
-use Rattle.filetree.specs.FileTree.{HasBadPath, Walk, is_directory, walks, listed}
+use Rattle.filetree.specs.FileTree.{HasBadPath, Walk, is_directory, walks, file_of_walk}
 use Rattle.filetree.specs.declared.files.ListedFile.{ListedFile}
 use Rattle.opening.specs.PieceLayers.{as_digests, lacks_size, mismatches, tree_at}
 use Rattle.opening.specs.Places.{AreLaidOut}
@@ -38,7 +38,8 @@ pub record ArePaths (fs : List ListedFile) : Type 0 where
   pub in_order : AreInOrder (map (λ (f : ListedFile). f.path) fs)
 
 -- the walks of a file tree without fault have such paths
-pub tree_paths : (tree : Pairs) (fs : List ListedFile) → Fits 126 (dict tree) → is_directory tree ≡ true → (HasBadPath tree → ⊥) → fs ≡ map listed (walks tree)
+pub tree_paths : (tree : Pairs) (fs : List ListedFile) → Fits 126 (dict tree) → is_directory tree ≡ true → (HasBadPath tree → ⊥)
+    → fs ≡ map file_of_walk (walks tree)
     → ArePaths fs
 tree_paths tree fs fits shape good is =
     let all = walks_are_all 126 tree fits shape in
@@ -49,12 +50,13 @@ tree_paths tree fs fits shape good is =
       in_order = subst AreInOrder (sym (ap (map (λ (f : ListedFile). f.path)) is ∙ listed_paths (walks tree))) all.in_order;
     }
   where
-    listed_there : (ws : List Walk) (n : ℕ) (f : ListedFile) → slice_get (map listed ws) n ≡ Some f → (w : Walk) × (slice_get ws n ≡ Some w) × (listed w ≡ f)
+    listed_there : (ws : List Walk) (n : ℕ) (f : ListedFile) → slice_get (map file_of_walk ws) n ≡ Some f
+        → (w : Walk) × (slice_get ws n ≡ Some w) × (file_of_walk w ≡ f)
     listed_there [] n f at = cc
-    listed_there (w ∷ ws) zero f at = let same : listed w ≡ f = cc in (w, refl, same)
+    listed_there (w ∷ ws) zero f at = let same : file_of_walk w ≡ f = cc in (w, refl, same)
     listed_there (w ∷ ws) (suc n) f at = listed_there ws n f at
 
-    listed_paths : (ws : List Walk) → map (λ (f : ListedFile). f.path) (map listed ws) ≡ map (λ (w : Walk). w.path) ws
+    listed_paths : (ws : List Walk) → map (λ (f : ListedFile). f.path) (map file_of_walk ws) ≡ map (λ (w : Walk). w.path) ws
     listed_paths [] = refl
     listed_paths (w ∷ ws) = ap (λ ps. w.path ∷ ps) (listed_paths ws)
 

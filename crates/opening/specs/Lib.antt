@@ -5,11 +5,13 @@ pub mod Describes
 pub mod FirstUse
 pub mod Laws
 pub mod Layered
+pub mod Legal
 pub mod Matching
 pub mod Opening
 pub mod PieceLayers
 pub mod Places
 pub mod Refusals
+pub mod Room
 pub mod Rooted
 pub mod Seen
 pub mod Sound

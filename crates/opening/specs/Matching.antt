@@ -57,9 +57,9 @@ abbrev pub is_entry_of : Bencode → FileEntry → Bool
 is_entry_of v f = is_length f.length (length_at v) && is_path_value f.path (get (codes "path") v)
 
 -- the first file is the entry's, and the rest serves
-abbrev pub begins : Bencode → (List FileEntry → Bool) → List FileEntry → Bool
-begins v rest [] = false
-begins v rest (f ∷ fs) = is_entry_of v f && rest fs
+abbrev pub begins_with_entry : Bencode → (List FileEntry → Bool) → List FileEntry → Bool
+begins_with_entry v rest [] = false
+begins_with_entry v rest (f ∷ fs) = is_entry_of v f && rest fs
 
 -- a dictionary with a length
 abbrev pub is_sized : Bencode → Bool
@@ -71,7 +71,7 @@ are_same no_items [] = true
 are_same no_items (f ∷ fs) = false
 are_same (item v vs) fs =
     if is_sized v then (if has_attribute pad_letter v then are_same vs fs
-    else begins v (are_same vs) fs) else false
+    else begins_with_entry v (are_same vs) fs) else false
 
 -- the ends of a stream of no entries
 abbrev pub nowhere : Ends

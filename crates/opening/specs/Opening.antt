@@ -8,6 +8,7 @@ use Rattle.filetree.specs.declared.files.ListedFile.{ListedFile}
 use Rattle.opening.specs.PieceLayers.{tree_at}
 use Rattle.filetree.specs.Tests.{TestRow}
 use Rattle.opening.specs.Refusals.{count_rows, file_tree_in, info_in, layer_rows, layers_in, name_in, number_in, piece_length_in}
+use Rattle.opening.specs.Room.{HasExactRoom}
 use Rattle.opening.specs.Rooted.{AreNumbers, AreRoots}
 use Rattle.opening.specs.Trees.{entries_from}
 use Rattle.opening.specs.Seen.{file_entry, tree_entry}
@@ -37,6 +38,7 @@ pub record AreFilledIn (piece_length : ℕ) (layers : Pairs) (fs : List ListedFi
   pub files : map file_entry c.files.items ≡ entries_from piece_length ts 0 fs
   pub trees : map tree_entry c.trees.items ≡ map (tree_at piece_length layers) ts
   pub numbers : AreNumbers c.numbers ts
+  pub room : HasExactRoom c.files × HasExactRoom c.trees
 
 -- the same over the roots of the files
 pub record AreContents (piece_length : ℕ) (layers : Pairs) (fs : List ListedFile) (c : Contents)
@@ -46,3 +48,4 @@ pub record AreContents (piece_length : ℕ) (layers : Pairs) (fs : List ListedFi
   pub numbers : AreNumbers c.numbers (roots_in fs)
   pub roots : AreRoots fs (roots_in fs)
   pub pieces : pieces_in piece_length fs < 2 ^ 32
+  pub room : HasExactRoom c.files × HasExactRoom c.trees

@@ -6,13 +6,13 @@ use Rattle.hashtree.specs.Tree.{block_count}
 use Rattle.opening.specs.Description.{Description, FileEntry}
 use Rattle.pieces.specs.Pieces.{pieces_of}
 
--- file f and its block b stand at index and begin; only the address counts, so begin may pass the
--- piece length
-pub record IsBlockPlace (t : Description) (index begin f b : ℕ) : Type 0 where
-  pub file : FileEntry
-  pub there : slice_get t.files f ≡ Some file
-  pub in_file : b < block_count file.length
-  pub address : index * t.piece_length + begin ≡ file.first_piece * t.piece_length + 16384 * b
+-- block b of the file with this number stands at index and begin; only the address counts, so begin
+-- may pass the piece length
+pub record IsBlockPlace (t : Description) (index begin file b : ℕ) : Type 0 where
+  pub entry : FileEntry
+  pub there : slice_get t.files file ≡ Some entry
+  pub in_file : b < block_count entry.length
+  pub address : index * t.piece_length + begin ≡ entry.first_piece * t.piece_length + 16384 * b
 
 -- a block of the file begins at the address
 abbrev pub begins_in : ℕ → ℕ → FileEntry → Bool

@@ -7,17 +7,17 @@ use Rattle.benc.specs.Value.{Bencode, int, text, list, dict, Pairs}
 use Rattle.benc.specs.Spelling.{Spells}
 use Rattle.benc.specs.Fails as benc
 use Rattle.benc.specs.declared.fault.Fault.{Fault}
-use Rattle.filetree.specs.Dictionary.{get, value_at, pairs_in, as_int, as_text, as_dict}
+use Rattle.filetree.specs.Dictionary.{get, value_under_key, pairs_in, as_int, as_text, as_dict}
 use Rattle.pieces.specs.Pieces.{IsPieceLength}
 use Rattle.filetree.specs.Tests.{TestRow, First, NoneHolds}
 use Rattle.filetree.specs.TreeTests.{file_rows, shape_rows, tree_rows}
-use Rattle.filetree.specs.FileTree.{Walk, walks, listed}
+use Rattle.filetree.specs.FileTree.{Walk, walks, file_of_walk}
 use Rattle.filetree.specs.declared.files.ListedFile.{ListedFile}
 use Rattle.opening.specs.Trees.{roots_in, pieces_in, IsReused}
 use Rattle.opening.specs.declared.roots.Root.{Root}
 use Rattle.opening.specs.PieceLayers.{lacks_layer, lacks_size, mismatches}
 use Rattle.opening.specs.Stream.{Part, is_hybrid, parts_in, the_parts, DiffersFromFiles, IsUnaligned, cuts_in}
-use Rattle.filetree.specs.Names.{key_text}
+use Rattle.filetree.specs.Names.{key_spelling}
 use Rattle.filetree.specs.declared.refusal.Key.{Key}
 use Rattle.filetree.specs.declared.refusal.Key.TheVariants as keys
 use Rattle.filetree.specs.declared.refusal.Refusal.{Refusal}
@@ -27,19 +27,19 @@ use Rattle.filetree.specs.declared.refusal.Refusal.TheVariants as refusals
 -- what these give then is never looked at
 
 abbrev pub info_in : Bencode → Bencode
-info_in v = value_at (codes "info") v
+info_in v = value_under_key (codes "info") v
 
 abbrev pub file_tree_in : Bencode → Pairs
-file_tree_in v = pairs_in (value_at (codes "file tree") (info_in v))
+file_tree_in v = pairs_in (value_under_key (codes "file tree") (info_in v))
 
 abbrev pub walks_of : Bencode → List Walk
 walks_of v = walks (file_tree_in v)
 
 abbrev pub files_of : Bencode → List ListedFile
-files_of v = map listed (walks_of v)
+files_of v = map file_of_walk (walks_of v)
 
 abbrev pub layers_in : Bencode → Pairs
-layers_in v = pairs_in (value_at (codes "piece layers") v)
+layers_in v = pairs_in (value_under_key (codes "piece layers") v)
 
 -- the number, or 0 if the value is none
 abbrev pub number_in : Bencode → ℕ
@@ -50,7 +50,7 @@ number_in (list vs) = 0
 number_in (dict ps) = 0
 
 abbrev pub piece_length_in : Bencode → ℕ
-piece_length_in v = number_in (value_at (codes "piece length") (info_in v))
+piece_length_in v = number_in (value_under_key (codes "piece length") (info_in v))
 
 abbrev pub text_in : Bencode → List ℕ
 text_in (int z) = []
@@ -59,7 +59,7 @@ text_in (list vs) = []
 text_in (dict ps) = []
 
 abbrev pub name_in : Bencode → List ℕ
-name_in v = text_in (value_at (codes "name") (info_in v))
+name_in v = text_in (value_under_key (codes "name") (info_in v))
 
 abbrev pub parts_of_torrent : Bencode → List Part
 parts_of_torrent v = the_parts (parts_in (info_in v) (name_in v))
@@ -67,7 +67,7 @@ parts_of_torrent v = the_parts (parts_in (info_in v) (name_in v))
 -- ---- tests
 
 abbrev pub lacks : Key → Bencode → Type 0
-lacks key v = get (key_text key) v ≡ None
+lacks key v = get (key_spelling key) v ≡ None
 
 -- the value under a key, if there is one, is of another kind
 abbrev pub IsOther : {A : Type 0} → (Bencode → Option A) → Option Bencode → Type 0
@@ -75,7 +75,7 @@ IsOther kind None = ⊥
 IsOther kind (Some w) = kind w ≡ None
 
 abbrev pub Other : {A : Type 0} → (Bencode → Option A) → Key → Bencode → Type 0
-Other kind key v = IsOther kind (get (key_text key) v)
+Other kind key v = IsOther kind (get (key_spelling key) v)
 
 -- a byte string that is UTF-8
 abbrev pub IsName : Option Bencode → Type 0

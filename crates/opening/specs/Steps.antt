@@ -15,7 +15,7 @@ pub record ArePresent (info : Bencode) (p : Present) : Type 0 where
   pub piece_length : get (codes "piece length") info ≡ Some (view p.piece_length.now)
 
 -- the file tree, the name and the piece length of an info dictionary
-pub record AreOfKind (info : Bencode) (t : InfoKeys) : Type 0 where
+pub record AreInfoKeys (info : Bencode) (t : InfoKeys) : Type 0 where
   pub tree : get (codes "file tree") info ≡ Some (dict (pairs_view t.tree.now))
   pub name : get (codes "name") info ≡ Some (text t.name.now)
   pub piece_length : get (codes "piece length") info ≡ Some (int t.piece_length)

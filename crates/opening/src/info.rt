@@ -6,11 +6,11 @@ ghost use Rattle.std.specs.Str.{IsUtf8};
 ghost use Rattle.benc.specs.Value.{Bencode, int};
 ghost use Rattle.benc.specs.View.{view, pairs_view};
 ghost use Rattle.filetree.specs.Dictionary.{as_dict, as_int, as_text, get};
-ghost use Rattle.filetree.specs.Names.{key_text};
+ghost use Rattle.filetree.specs.Names.{key_spelling};
 ghost use Rattle.filetree.specs.Tests.{Passes};
 ghost use Rattle.opening.specs.Opening.{AreKeys};
 ghost use Rattle.opening.specs.Refusals.{head_rows, kind_rows, layers_in, layers_rows, number_in, piece_length_rows, present_rows, top_rows, info_rows, version_rows};
-ghost use Rattle.opening.specs.Steps.{AreOfKind, ArePresent, pairs_seen};
+ghost use Rattle.opening.specs.Steps.{AreInfoKeys, ArePresent, pairs_seen};
 ghost use Rattle.pieces.specs.Pieces.{IsPieceLength};
 
 use benc::{Pair, Value};
@@ -76,7 +76,7 @@ fn info<'v, 'a>(top: &'v Value<'a>) -> Result<&'v Value<'a>, Refusal>
 
 // The keys of the info dictionary, the version first.
 fn read_info<'v, 'a>(info: &'v Value<'a>) -> Result<InfoKeys<'v, 'a>, Refusal>
-    ensures { Passes (info_rows (view info.now)) (AreOfKind (view info.now)) result }
+    ensures { Passes (info_rows (view info.now)) (AreInfoKeys (view info.now)) result }
 {
     version(info)?;
     let present = all_present(info)?;
@@ -125,7 +125,7 @@ struct InfoKeys<'v, 'a> {
 // What these values say, each of which has to be of its kind.
 fn all_of_kind<'v, 'a>(values: Present<'v, 'a>) -> Result<InfoKeys<'v, 'a>, Refusal>
     ensures { (info : Bencode) → ArePresent info values.entry
-        → Passes (kind_rows info) (AreOfKind info) result }
+        → Passes (kind_rows info) (AreInfoKeys info) result }
 {
     let Present {
         tree,
@@ -155,8 +155,8 @@ fn layers<'v, 'a>(top: &'v Value<'a>) -> Result<Option<&'v [Pair<'a>]>, Refusal>
 
 // The value under a key that has to be there.
 fn required<'v, 'a>(v: &'v Value<'a>, key: Key) -> Result<&'v Value<'a>, Refusal>
-    ensures { MatchResult result (λ w. get (key_text key) (view v.now) ≡ Some (view w.now))
-        (λ r. (get (key_text key) (view v.now) ≡ None) × (r ≡ Refusal.Missing key)) }
+    ensures { MatchResult result (λ w. get (key_spelling key) (view v.now) ≡ Some (view w.now))
+        (λ r. (get (key_spelling key) (view v.now) ≡ None) × (r ≡ Refusal.Missing key)) }
 {
     match v.get(key.text().as_bytes()) {
         Some(value) => Ok(value),

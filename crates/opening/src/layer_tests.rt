@@ -7,6 +7,7 @@ ghost use Rattle.filetree.specs.Tests.{Passes, Tests};
 ghost use Rattle.opening.specs.Layered.{layer_pairs};
 ghost use Rattle.opening.specs.PieceLayers.{lacks_layer, lacks_size, leads_to, mismatches, tree_at};
 ghost use Rattle.opening.specs.Refusals.{layer_rows};
+ghost use Rattle.opening.specs.Room.{HasExactRoom};
 ghost use Rattle.opening.specs.Seen.{tree_entry};
 ghost use Rattle.pieces.specs.Pieces.{pieces_of};
 
@@ -123,13 +124,14 @@ pub(crate) fn infos<'a>(
     layers: &Layers<'_, 'a>,
     piece_length: PieceLength,
 ) -> Result<Vec<TreeInfo<'a>>, AllocError>
-    ensures { IfOk result
+    ensures trees { IfOk result
         (λ ts. map tree_entry ts.items
         ≡ map (tree_at piece_length (layer_pairs layers.now)) trees.now) }
+    ensures room { IfOk result HasExactRoom }
 {
     let mut infos = Vec::with_capacity(alloc, trees.len())?;
     'trees: for tree in trees {
-        infos.push(tree_info(tree, layers, piece_length))?;
+        infos.push_reserved(tree_info(tree, layers, piece_length));
     }
     Ok(infos)
 }

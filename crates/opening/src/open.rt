@@ -8,7 +8,7 @@ ghost use Rattle.benc.specs.Value.{Bencode};
 ghost use Rattle.benc.specs.View.{view, pairs_view};
 ghost use Rattle.benc.specs.declared.fault.FaultKind.{FaultKind};
 ghost use Rattle.filetree.specs.Dictionary.{get};
-ghost use Rattle.filetree.specs.FileTree.{listed, walks};
+ghost use Rattle.filetree.specs.FileTree.{file_of_walk, walks};
 ghost use Rattle.filetree.specs.Tests.{First, NoneHolds, PassesUnlessNoMemory};
 ghost use Rattle.filetree.specs.TreeTests.{tree_rows};
 ghost use Rattle.filetree.specs.declared.files.ListedFile.{ListedFile};
@@ -140,7 +140,7 @@ fn read_listed<'v, 'a>(alloc: Global, top: &'v Value<'a>) -> Result<Listed<'v, '
     ensures passes { MatchResult result (λ x. NoneHolds (all_key_rows (view top.now))
         × AreKeys (view top.now) x.keys × (x.piece_length ≡ piece_length_in (view top.now))
         × IsPieceLength x.piece_length × NoneHolds (tree_rows (pairs_view x.keys.tree.now))
-        × (x.files.items ≡ map listed (walks (pairs_view x.keys.tree.now))))
+        × (x.files.items ≡ map file_of_walk (walks (pairs_view x.keys.tree.now))))
         (λ r. r ≢ Refusal.NoMemory → First (table (view top.now)) r) }
     ensures memory { IfErr result
         (λ r. r ≡ Refusal.NoMemory → NoneHolds (plain_rows (view top.now))) }

@@ -3,6 +3,7 @@
 ghost use Rattle.std.specs.Prelude.{◌≡◌, ◌≢◌, ◌<◌, ◌^◌, [], map, Some, MatchResult, IfErr, IfOk, OnOk, nat_le, option_and_then};
 ghost use Rattle.filetree.specs.Tests.{PassesUnlessNoMemory, Tests};
 ghost use Rattle.opening.specs.Refusals.{count_rows};
+ghost use Rattle.opening.specs.Room.{HasExactRoom};
 ghost use Rattle.opening.specs.Rooted.{AreNumbers, AreRoots, AreTrees, IsRootAt, IsRootRefused};
 ghost use Rattle.opening.specs.Trees.{entries_from};
 ghost use Rattle.opening.specs.Seen.{file_entry};
@@ -127,14 +128,15 @@ pub(crate) fn place_files<'a>(
     piece_length: PieceLength,
 ) -> Result<Vec<File<'a>>, AllocError>
     requires { pieces_in piece_length listed.items < 2 ^ 32 }
-    ensures { IfOk result
+    ensures files { IfOk result
         (λ fs. map file_entry fs.items ≡ entries_from piece_length roots.now 0 listed.entry.items) }
+    ensures room { IfOk result HasExactRoom }
 {
     let mut files = Vec::with_capacity(alloc, listed.len())?;
     let mut first_piece = 0;
     'listed: for file in listed {
         let length = file.length;
-        files.push(placed(file, roots, first_piece))?;
+        files.push_reserved(placed(file, roots, first_piece));
         first_piece += piece_length.pieces(length);
     }
     Ok(files)

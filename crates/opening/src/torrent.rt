@@ -34,6 +34,8 @@ pub struct TreeInfo<'a> {
 }
 
 /// An opened torrent, which borrows the bytes that it was read from.
+///
+/// Its lists of files and trees have room for what they hold, and for no more.
 #[derive(Drop)]
 pub struct Torrent<'a> {
     name: &'a str,
@@ -49,6 +51,7 @@ pub struct Torrent<'a> {
 impl<'a> Model for Torrent<'a> {
     ghost use Rattle.std.specs.Prelude.{map};
     ghost use Rattle.opening.specs.Description.{Description};
+    ghost use Rattle.opening.specs.Room.{HasExactRoom};
     ghost use Rattle.opening.specs.Rooted.{AreNumbers};
     ghost use Rattle.opening.specs.Seen.{described, tree_entry};
     ghost use Rattle.opening.specs.Sound.{IsSound};
@@ -61,7 +64,8 @@ impl<'a> Model for Torrent<'a> {
 
     ghost invariant = { λ t. IsSound (described t.name.now t.piece_length t.files.items
         t.trees.items t.info_hash_v2 t.info_hash_v1 t.v1)
-        × AreNumbers t.numbers (map root_of_tree (map tree_entry t.trees.items)) };
+        × AreNumbers t.numbers (map root_of_tree (map tree_entry t.trees.items))
+        × HasExactRoom t.files × HasExactRoom t.trees };
 }
 
 impl<'a> Torrent<'a> {
@@ -69,6 +73,7 @@ impl<'a> Torrent<'a> {
     ghost use Rattle.opening.specs.Description.{FileEntry};
     ghost use Rattle.opening.specs.Seen.{file_entry, tree_entry, version1};
     ghost use Rattle.opening.specs.Sound.{IsSound};
+    ghost use Rattle.opening.specs.Room.{HasExactRoom};
     ghost use Rattle.opening.specs.Seen.{described};
     ghost use Rattle.opening.specs.Rooted.{AreNumbers};
     ghost use Rattle.opening.specs.Trees.{IsTreeWithRoot, root_of_tree};
@@ -87,6 +92,7 @@ impl<'a> Torrent<'a> {
         requires sound { IsSound (described name.now piece_length files.items trees.items
             info_hash_v2 info_hash_v1 v1) }
         requires numbers { AreNumbers numbers (map root_of_tree (map tree_entry trees.items)) }
+        requires room { HasExactRoom files × HasExactRoom trees }
         ensures { result
             ≡ described name.now piece_length files.entry.items trees.entry.items info_hash_v2
             info_hash_v1 v1.entry }

@@ -28,13 +28,13 @@ abbrev pub IsPadded : Description → ℕ → ℕ → List ℕ → ℕ → Type 
 IsPadded t index begin bytes left = HasLeft t index begin left × IsPaddedTo bytes left
 
 -- what is the file's of the bytes at this place: all of them, if they are not padded
-abbrev pub IsCut : Description → ℕ → ℕ → List ℕ → List ℕ → Type 0
-IsCut t index begin bytes cut =
+abbrev pub IsUnpadded : Description → ℕ → ℕ → List ℕ → List ℕ → Type 0
+IsUnpadded t index begin bytes cut =
     ((left : ℕ) × IsPadded t index begin bytes left × (cut ≡ take left bytes))
     ⊎ (((left : ℕ) → ¬ IsPadded t index begin bytes left) × (cut ≡ bytes))
 
 -- the message without its padding, if it has any
 abbrev pub IsWithoutPadding : Description → Message → Message → Type 0
 IsWithoutPadding t (message.Piece index begin bytes) m = (cut : Bor (List ℕ))
-    × (m ≡ message.Piece index begin cut) × IsCut t index begin bytes.now cut.now
+    × (m ≡ message.Piece index begin cut) × IsUnpadded t index begin bytes.now cut.now
 IsWithoutPadding t other m = m ≡ other

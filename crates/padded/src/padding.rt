@@ -1,7 +1,7 @@
 //! Clients that take each piece as a row of whole blocks fill the last block of a file up with
 //! zeros. BEP 52 has no such block, but a message can be read as if the zeros were not there.
 ghost use Rattle.std.specs.Prelude.{◌≡◌, ◌⊎◌, ◌↔◌, ℕ, All, IsTrue, IfSome, Some, take};
-ghost use Rattle.padded.specs.Padding.{HasLeft, IsCut, IsPaddedTo, IsWithoutPadding};
+ghost use Rattle.padded.specs.Padding.{HasLeft, IsPaddedTo, IsUnpadded, IsWithoutPadding};
 
 use hashtree::BLOCK_LENGTH;
 use opening::Torrent;
@@ -29,7 +29,7 @@ pub fn without_padding<'a>(torrent: &Torrent<'_>, message: &Message<'a>) -> Mess
 
 // What is the file's of the bytes at this place.
 fn cut<'a>(torrent: &Torrent<'_>, index: u32, begin: u32, bytes: &'a [u8]) -> &'a [u8]
-    ensures { IsCut torrent.now index begin bytes.now result.now }
+    ensures { IsUnpadded torrent.now index begin bytes.now result.now }
 {
     match left_at(torrent, index, begin) {
         None => bytes,

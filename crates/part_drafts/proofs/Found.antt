@@ -14,11 +14,6 @@ use Rattle.sha1.specs.Sha1.{sha1}
 use Rattle.benc.specs.Device.{SourceSeen}
 use Rattle.folders.specs.Seeking.{from_offset}
 use Rattle.folders.specs.Shelf.{IsFound}
-use Rattle.folders.specs.Exactly.{TakesExactly, TookExactly}
-use Rattle.gathering.specs.Hashing.{AreHashesOf, Begins, EndsWithHashes, Hashes}
-use Rattle.gathering.specs.declared.hashing.Hashing.{Hashing}
-use Rattle.gathering.proofs.Digests.{found_whole}
-use Rattle.gathering.specs.declared.hashing.FileHashes.{FileHashes}
 use Rattle.hashtree.specs.Pieces.{piece_at, piece_node, piece_nodes}
 use Rattle.hashtree.specs.Tree.{block_count, first_pad, height, layer_of, root_of}
 use Rattle.hashtree.proofs.PieceNodes.{layer_is_pieces}
@@ -29,7 +24,7 @@ use Rattle.part_texts.specs.Divisions.{bytes_of, offset_of}
 use Rattle.part_texts.specs.Listings.{Listed}
 use Rattle.part_texts.specs.declared.division.Span.{Span}
 use Rattle.part_drafts.specs.Parts.{IsRow, KnownPaths}
-use Rattle.part_drafts.specs.Rows.{ReadsRow, joined, row_cuts, row_nodes, row_text}
+use Rattle.part_drafts.specs.Rows.{GivesRow, joined_hashes, row_cuts, row_nodes, row_text}
 
 -- ---- the nodes over one piece
 
@@ -50,26 +45,27 @@ only_node row layer some low =
 -- ---- the text of a row
 
 pub row_is : (piece_length : ℕ) (hybrid : Bool) (n : ℕ) (row : List ℕ) → 0 < length row
-    → row_text piece_length hybrid n row ≡ joined (row_nodes piece_length n row) ++ joined (row_cuts piece_length hybrid row)
+    → row_text piece_length hybrid n row ≡ joined_hashes (row_nodes piece_length n row) ++ joined_hashes (row_cuts piece_length hybrid row)
 row_is piece_length hybrid n [] some = absurd (omega (arith, some))
 row_is piece_length hybrid n (b ∷ bytes) some = refl
 
-pub cuts_joined : (cuts : List (List ℕ)) (padded : List ℕ) → joined (cuts ++ padded ∷ []) ≡ joined cuts ++ padded
-cuts_joined cuts padded = flat_map-append (λ x. x) cuts (padded ∷ []) ∙ ap (λ l. joined cuts ++ l) (append-nil padded)
+pub cuts_joined : (cuts : List (List ℕ)) (padded : List ℕ) → joined_hashes (cuts ++ padded ∷ []) ≡ joined_hashes cuts ++ padded
+cuts_joined cuts padded = flat_map-append (λ x. x) cuts (padded ∷ []) ∙ ap (λ l. joined_hashes cuts ++ l) (append-nil padded)
 
 over_piece : (n piece_length : ℕ) (xs ys : List (List ℕ)) → piece_length < n → (if nat_le n piece_length then xs else ys) ≡ ys
 over_piece n piece_length xs ys over = ap (λ b. (if b then xs else ys)) (lt-leb n piece_length over)
 
 pub nodes_of_one : (piece_length n : ℕ) (row : List ℕ) (layer : ℕ) (node : List ℕ) → piece_length < n → layer ≡ piece_layer piece_length → 0 < length row
-    → height (block_count (length row)) ≤ layer → node ≡ piece_node layer row → node ≡ joined (row_nodes piece_length n row)
+    → height (block_count (length row)) ≤ layer → node ≡ piece_node layer row → node ≡ joined_hashes (row_nodes piece_length n row)
 nodes_of_one piece_length n row layer node over is some low there =
-    there ∙ sym (append-nil (piece_node layer row)) ∙ ap joined (sym (only_node row layer some low)) ∙ ap (λ l. joined (piece_nodes l row)) is
-    ∙ ap joined (sym (over_piece n piece_length (root_of row ∷ []) (piece_nodes (piece_layer piece_length) row) over))
+    there ∙ sym (append-nil (piece_node layer row)) ∙ ap joined_hashes (sym (only_node row layer some low)) ∙ ap (λ l. joined_hashes (piece_nodes l row)) is
+    ∙ ap joined_hashes (sym (over_piece n piece_length (root_of row ∷ []) (piece_nodes (piece_layer piece_length) row) over))
 
 pub nodes_of_many : (piece_length n : ℕ) (row : List ℕ) (layer : ℕ) (nodes : List (List ℕ)) → piece_length < n → layer ≡ piece_layer piece_length
-    → layer ≤ height (block_count (length row)) → nodes ≡ layer_of row (piece_layer piece_length) → joined nodes ≡ joined (row_nodes piece_length n row)
+    → layer ≤ height (block_count (length row)) → nodes ≡ layer_of row (piece_layer piece_length)
+    → joined_hashes nodes ≡ joined_hashes (row_nodes piece_length n row)
 nodes_of_many piece_length n row layer nodes over is low are =
-    ap joined (are ∙ layer_is_pieces row (piece_layer piece_length) (subst (λ l. l ≤ height (block_count (length row))) is low)
+    ap joined_hashes (are ∙ layer_is_pieces row (piece_layer piece_length) (subst (λ l. l ≤ height (block_count (length row))) is low)
     ∙ sym (over_piece n piece_length (root_of row ∷ []) (piece_nodes (piece_layer piece_length) row) over))
 
 -- what was put behind a text, if it was
@@ -80,12 +76,12 @@ put_ok (Ok u) old new more Q is then_so = then_so is
 put_ok (Err e) old new more Q is then_so = tt
 
 pub cuts_of : (piece_length : ℕ) (hybrid : Bool) (row : List ℕ) (cuts : List (List ℕ)) (padded : List ℕ) → hybrid ≡ true → cuts ≡ cut_digests piece_length row
-    → padded ≡ sha1 (filled_up piece_length (last_cut_of piece_length row)) → joined cuts ++ padded ≡ joined (row_cuts piece_length hybrid row)
+    → padded ≡ sha1 (filled_up piece_length (last_cut_of piece_length row)) → joined_hashes cuts ++ padded ≡ joined_hashes (row_cuts piece_length hybrid row)
 cuts_of piece_length hybrid row cuts padded is cuts_are padded_is =
     sym (cuts_joined cuts padded)
-    ∙ ap (λ l. joined (l ++ padded ∷ [])) cuts_are
-    ∙ ap (λ x. joined (cut_digests piece_length row ++ x ∷ [])) padded_is
-    ∙ ap (λ h. joined (if h then cut_digests piece_length row ++ sha1 (filled_up piece_length (last_cut_of piece_length row)) ∷ [] else [])) (sym is)
+    ∙ ap (λ l. joined_hashes (l ++ padded ∷ [])) cuts_are
+    ∙ ap (λ x. joined_hashes (cut_digests piece_length row ++ x ∷ [])) padded_is
+    ∙ ap (λ h. joined_hashes (if h then cut_digests piece_length row ++ sha1 (filled_up piece_length (last_cut_of piece_length row)) ∷ [] else [])) (sym is)
 
 -- ---- a row of a file
 
@@ -107,20 +103,16 @@ known_row (Some (Some x)) (Some y) (Some z) offset row found gave content is =
           omega (arith, all, length-drop offset content, ap length none),
     )
 
-pub row_found : (under : KnownPaths) (piece_length : ℕ) (hybrid : Bool) (f : Listed) (s : Span) (old new : SourceSeen) (found : FileHashes) (size offset : ℕ)
-    → IsFound (from_offset offset (under f.path)) (Some old.left) → ReadsRow piece_length hybrid size s.ends old new found
-    → size ≡ bytes_of piece_length f.bytes s → offset ≡ offset_of piece_length s
-    → (row : List ℕ) × IsRow under piece_length f s row × AreHashesOf piece_length hybrid row found
-row_found under piece_length hybrid f s old new found size offset opened read size_is offset_is =
-    let known = known_row (under f.path) old.left read.after.left offset read.row opened read.gave.given in (
-      read.row,
-      record {
-        size = read.size_is ∙ size_is;
-        agrees = λ content is. (known content is).0 ∙ ap (λ k. take (length read.row) (drop k content)) offset_is;
-        ended = λ ends content is. ap (λ k. length content - k) (sym offset_is) ∙ (known content is).1 (read.ended ends);
-      },
-      read.hashes,
-    )
+pub row_known : (under : KnownPaths) (piece_length : ℕ) (f : Listed) (s : Span) (old new : SourceSeen) (row : List ℕ)
+    → IsFound (from_offset (offset_of piece_length s) (under f.path)) (Some old.left) → GivesRow (bytes_of piece_length f.bytes s) s.ends old new row
+    → IsRow under piece_length f s row
+row_known under piece_length f s old new row opened gives =
+    let known = known_row (under f.path) old.left new.left (offset_of piece_length s) row opened gives.gave.given in
+    record {
+      size = gives.size_is;
+      agrees = λ content is. (known content is).0;
+      ended = λ ends content is. (known content is).1 (gives.ended ends);
+    }
 
 -- of no bytes there is no row
 pub nothing_found : (under : KnownPaths) (piece_length : ℕ) (f : Listed) (s : Span) → 0 ≡ bytes_of piece_length f.bytes s → s.ends ≡ false
@@ -130,26 +122,3 @@ nothing_found under piece_length f s none no_end = record {
   agrees = λ content is. refl;
   ended = λ ends content is. let no : ⊥ = cc in absurd no;
 }
-
--- ---- a source
-
-module _ (piece_length : ℕ) (hybrid : Bool) (size : ℕ) (ends : Bool) (old mid new : SourceSeen) (before after : Hashing) (found : FileHashes) where
-  took_all : (b : Bool) → b ≡ true → TakesExactly Hashes old mid size before after b → TookExactly Hashes old mid size before after
-  took_all b is taken = subst (TakesExactly Hashes old mid size before after) is taken
-
-  read_as : (b : Bool) (over : Bool) → (t : TookExactly Hashes old mid size before after) → (over ≡ true → ends ≡ true → IsAtEnd mid.left) → over ≡ true
-      → AreHashesOf piece_length hybrid t.bytes found → ReadsRow piece_length hybrid size ends old new found
-  read_as b over t ended is hashes =
-      record { row = t.bytes; size_is = t.count; after = mid; gave = t.gave; ended = ended is; hashes = hashes }
-
-  pub read_none : (b over : Bool) → b ≡ true → TakesExactly Hashes old mid size before after b → (over ≡ true → ends ≡ true → IsAtEnd mid.left) → over ≡ true
-      → size ≡ 0 → AreHashesOf piece_length hybrid [] found → ReadsRow piece_length hybrid size ends old new found
-  read_none b over all taken ended is none hashes =
-      let t = took_all b all taken in
-      read_as b over t ended is (subst (λ row. AreHashesOf piece_length hybrid row found) (sym (nil_from_length t.bytes (t.count ∙ none))) hashes)
-
-  pub read_some : (b over : Bool) → b ≡ true → TakesExactly Hashes old mid size before after b → (over ≡ true → ends ≡ true → IsAtEnd mid.left) → over ≡ true
-      → Begins piece_length hybrid before → EndsWithHashes after found → ReadsRow piece_length hybrid size ends old new found
-  read_some b over all taken ended is begins finished =
-      let t = took_all b all taken in
-      read_as b over t ended is (found_whole piece_length hybrid before after t.bytes found begins t.taken finished)

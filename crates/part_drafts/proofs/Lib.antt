@@ -2,3 +2,5 @@
 pub mod Halves
 pub mod Found
 pub mod Gathered
+pub mod Reading
+pub mod Visited

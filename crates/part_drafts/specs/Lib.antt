@@ -2,3 +2,5 @@
 pub mod Faults
 pub mod Parts
 pub mod Rows
+pub mod Steps
+pub mod Visits

@@ -1,14 +1,11 @@
 -- What a part says of a folder's files.
-use Rattle.std.specs.Prelude.{◌≡◌, ℕ, ◌*◌, ◌-◌, ◌^◌, ◌<◌, ◌≤◌, min, Bool, true, List, [], ◌∷◌, ◌++◌, length, take, drop, Option, Some}
+use Rattle.std.specs.Prelude.{◌≡◌, ℕ, ◌*◌, ◌-◌, ◌^◌, ◌<◌, ◌≤◌, min, Bool, true, List, [], ◌∷◌, ◌++◌, length, take, drop, Some}
+pub use Rattle.folders.specs.Shelf.{KnownPaths}
 use Rattle.part_drafts.specs.Rows.{row_text}
 use Rattle.part_texts.specs.Divisions.{bytes_of, capped, hashed, offset_of, span_of, total_of}
 use Rattle.part_texts.specs.Listings.{Inventory, Listed}
 use Rattle.part_texts.specs.Texts.{head_text, listing_text}
 use Rattle.part_texts.specs.declared.division.Span.{Span}
-
--- what is known of the files under paths
-abbrev pub KnownPaths : Type 0
-KnownPaths = List (List ℕ) → Option (Option (List ℕ))
 
 -- these are the bytes of the pieces that a part has of this file, as far as its content is known;
 -- and the file is as long as it is listed, if its end is the part's

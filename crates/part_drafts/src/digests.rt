@@ -1,7 +1,7 @@
 //! What was found of a row of pieces, written.
 ghost use Rattle.std.specs.Prelude.{◌≡◌, ℕ, ◌+◌, ◌^◌, ◌<◌, ◌≤◌, List, ◌++◌, length, OnOk};
 ghost use Rattle.gathering.specs.Hashing.{AreHashesOf};
-ghost use Rattle.part_drafts.specs.Rows.{joined, row_cuts, row_nodes, row_text};
+ghost use Rattle.part_drafts.specs.Rows.{joined_hashes, row_cuts, row_nodes, row_text};
 
 use crate::lifting::lifted;
 use gathering::{FileHashes, TorrentKind};
@@ -43,7 +43,7 @@ fn put_nodes(
     ensures { OnOk result ((row : List ℕ)
         → AreHashesOf kind.now.piece_length kind.now.hybrid row found.now
         → text.new.items ≡ text.old.items
-        ++ joined (row_nodes kind.now.piece_length length row)) }
+        ++ joined_hashes (row_nodes kind.now.piece_length length row)) }
 {
     kind.recall_legal();
     let layer = Shape::of(kind.piece_length.bytes()).unwrap().height();
@@ -62,7 +62,7 @@ fn put_nodes(
 // Puts the digests of a hybrid's cuts behind a text.
 fn put_cuts(text: &mut Vec<u8>, found: &FileHashes) -> Result<(), AllocError>
     ensures { OnOk result (text.new.items
-        ≡ text.old.items ++ (joined found.now.v1.cuts.items ++ found.now.v1.padded)) }
+        ≡ text.old.items ++ (joined_hashes found.now.v1.cuts.items ++ found.now.v1.padded)) }
 {
     'cuts: for cut in &found.v1.cuts {
         text.extend_from_slice(cut)?;

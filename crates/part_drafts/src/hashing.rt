@@ -1,16 +1,17 @@
 //! The hashing of one part.
-ghost use Rattle.std.specs.Prelude.{◌≡◌, ◌<◌, ◌≤◌, ◌++◌, ℕ, List, length, map, IfErr, IfOk, OnOk};
+ghost use Rattle.std.specs.Prelude.{◌≡◌, ◌^◌, ◌<◌, ◌↔◌, IfOk, IsTrue, length, map};
 ghost use Rattle.std.specs.String.{string_bytes};
-ghost use Rattle.gathering.specs.Hashing.{AreHashesOf};
-ghost use Rattle.part_drafts.specs.Faults.{IsAtFile, IsFault};
-ghost use Rattle.part_drafts.specs.Parts.{AreRows, IsPartText, IsRow, rows_text};
-ghost use Rattle.part_drafts.specs.Rows.{row_text};
+ghost use Rattle.part_drafts.specs.Steps.{FindsShare, PutsRows, PutsShare, found_by};
+ghost use Rattle.part_drafts.specs.Visits.{HashesPart, IsTouched};
 ghost use Rattle.part_texts.specs.Divisions.{total_of};
 ghost use Rattle.part_texts.specs.Listings.{inventory, listed};
+ghost use Rattle.part_texts.specs.Readings.{CanBeListed};
+ghost use Rattle.part_texts.specs.Texts.{listing_text};
 
 use crate::digests::put_digests;
 use crate::fault::{PartFault, RowFault};
-use crate::row::RowReader;
+use crate::row::{Hashed, RowReader};
+use benc::DeviceFault;
 use folders::{ReadFault, SeekShelf, visit_at};
 use gathering::{FileHashes, TorrentKind};
 use part_texts::{Division, ListedFile, Listing, Span, hashed, write_head};
@@ -20,14 +21,19 @@ use std::alloc::{AllocError, Global};
 /// gives the part's text (BEP 52, "piece layers", "pieces root"; for a hybrid BEP 3, "pieces", and
 /// BEP 47 too).
 ///
-/// Each file of which the part has a piece, or the end, is opened once, at the first of its pieces,
-/// and handed back; no byte behind the last of these is read, but one if the file ends there. What
-/// is on the shelf stays. Condition: there is such a part.
+/// Each file of which the part has a byte, or the end, is opened once, in the order of the listing,
+/// at the first of its pieces, and handed back. No byte behind the last of these is read, but one
+/// of a file that is longer than it is listed, if the part has its end. No other file is opened.
+/// What is on the shelf stays. Condition: there is such a part.
 ///
 /// # Errors
 ///
 /// `PieceLength`: the piece length is none, and nothing was opened. `Device` and `Changed` name the
-/// file at which it stopped. `NoMemory` comes only if memory was refused.
+/// first file that was not read, and those before it were, without a fault: `Device` if it could
+/// not be opened or not be read, which the shelf counts once; `Changed` if nothing is there, or it
+/// ended before the part's last byte of it, or has one more where it was to end. `NoMemory` comes
+/// only if memory was refused: before anything was opened, or at a file, before it was opened or
+/// once it was read.
 pub fn hash_part<S: SeekShelf>(
     alloc: Global,
     shelf: &mut S,
@@ -36,17 +42,23 @@ pub fn hash_part<S: SeekShelf>(
     parts: u64,
 ) -> Result<Vec<u8>, PartFault>
     requires { part < parts }
-    ensures text { IfOk result (λ text. IsPartText (S.Shelf.contents shelf.old).under
-        (inventory listing.now) part parts text.items) }
-    ensures fault { IfErr result (IsFault (inventory listing.now)) }
+    ensures hashes { HashesPart S.Shelf S.opens_at S.File.seen (inventory listing.now) part parts
+        shelf.old shelf.new result }
+    ensures listed { IfOk result (λ _. CanBeListed (inventory listing.now)) }
+    ensures short { IfOk result (λ _. length (listing_text (inventory listing.now)) < 2 ^ 64) }
     ensures stays { S.Shelf.contents shelf.new ≡ S.Shelf.contents shelf.old }
 {
     let Some(kind) = TorrentKind::new(listing.piece_length, listing.hybrid) else {
         return Err(PartFault::PieceLength);
     };
-    let mut text = write_head(alloc, listing, part, parts)?;
-    put_rows(alloc, shelf, &kind, &listing.files, part, parts, &mut text)?;
-    Ok(text)
+    let mut text = match write_head(alloc, listing, part, parts) {
+        Ok(text) => text,
+        Err(_) => return Err(PartFault::NoMemory),
+    };
+    match put_rows(alloc, shelf, &kind, &listing.files, part, parts, &mut text) {
+        Ok(()) => Ok(text),
+        Err(fault) => Err(fault),
+    }
 }
 
 // Puts behind a text what is found of the rows of all files.
@@ -60,12 +72,9 @@ fn put_rows<S: SeekShelf>(
     text: &mut Vec<u8>,
 ) -> Result<(), PartFault>
     requires { part < parts }
-    ensures rows { OnOk result ((rows : List (List ℕ))
-        × AreRows (S.Shelf.contents shelf.old).under kind.now.piece_length
-        (total_of (map listed files.now)) parts part 0 (map listed files.now) rows
-        × (text.new.items ≡ text.old.items ++ rows_text kind.now.piece_length kind.now.hybrid
-        (map listed files.now) rows)) }
-    ensures fault { IfErr result (IsAtFile (length files.now)) }
+    ensures rows { PutsRows S.Shelf S.opens_at S.File.seen kind.now.piece_length kind.now.hybrid
+        (total_of (map listed files.now)) parts part (map listed files.now) shelf.old shelf.new
+        text.old.items text.new.items result }
     ensures stays { S.Shelf.contents shelf.new ≡ S.Shelf.contents shelf.old }
 {
     let division = Division::of(kind.piece_length, files, parts);
@@ -94,22 +103,35 @@ fn put_row<S: SeekShelf>(
     buffer: &mut [u8],
 ) -> Result<(), RowFault>
     requires { 0 < length buffer.old }
-    ensures row { OnOk result ((row : List ℕ)
-        × IsRow (S.Shelf.contents shelf.old).under kind.now.piece_length (listed file.now) span row
-        × (text.new.items ≡ text.old.items
-        ++ row_text kind.now.piece_length kind.now.hybrid file.now.length row)) }
+    ensures row { PutsShare S.Shelf S.opens_at S.File.seen kind.now.piece_length kind.now.hybrid
+        shelf.old (record { file = listed file.now; span = span }) shelf.new text.old.items
+        text.new.items result }
     ensures stays { S.Shelf.contents shelf.new ≡ S.Shelf.contents shelf.old }
     ensures buffer { length buffer.new ≡ length buffer.old }
 {
-    let size = span.bytes(kind.piece_length, file.length);
-    if size == 0 && !span.ends {
+    let touched = is_touched(kind, file, span);
+    if !touched {
         return Ok(());
     }
-    let found = visit_row(alloc, shelf, kind, file, span, buffer)?;
-    if size > 0 {
-        put_digests(text, kind, file.length, &found)?;
+    let found = match visit_row(alloc, shelf, kind, file, span, buffer) {
+        Ok(found) => found,
+        Err(fault) => return Err(fault),
+    };
+    if found.length == 0 {
+        return Ok(());
     }
-    Ok(())
+    match put_digests(text, kind, file.length, &found) {
+        Ok(()) => Ok(()),
+        Err(_) => Err(RowFault::NoMemory),
+    }
+}
+
+// Whether a part that has these pieces of a file has a byte of it, or its end.
+fn is_touched(kind: &TorrentKind, file: &ListedFile, span: Span) -> bool
+    ensures { IsTrue result ↔ IsTouched kind.now.piece_length
+        (record { file = listed file.now; span = span }) }
+{
+    span.ends || span.bytes(kind.piece_length, file.length) > 0
 }
 
 // Opens a file at the first of some pieces, hashes them, and hands it back.
@@ -121,14 +143,17 @@ fn visit_row<S: SeekShelf>(
     span: Span,
     buffer: &mut [u8],
 ) -> Result<FileHashes, RowFault>
-    requires { 0 < length buffer.old }
-    ensures found { IfOk result (λ found. (row : List ℕ)
-        × IsRow (S.Shelf.contents shelf.old).under kind.now.piece_length (listed file.now) span row
-        × AreHashesOf kind.now.piece_length kind.now.hybrid row found) }
+    requires some { 0 < length buffer.old }
+    requires touched { IsTouched kind.now.piece_length
+        (record { file = listed file.now; span = span }) }
+    ensures found { FindsShare S.Shelf S.opens_at S.File.seen kind.now.piece_length kind.now.hybrid
+        shelf.old (record { file = listed file.now; span = span }) shelf.new result }
     ensures stays { S.Shelf.contents shelf.new ≡ S.Shelf.contents shelf.old }
     ensures buffer { length buffer.new ≡ length buffer.old }
 {
-    let path = components(alloc, &file.path)?;
+    let Ok(path) = components(alloc, &file.path) else {
+        return Err(RowFault::NoMemory);
+    };
     let offset = span.offset(kind.piece_length);
     let mut reader = RowReader {
         alloc,
@@ -136,7 +161,14 @@ fn visit_row<S: SeekShelf>(
         size: span.bytes(kind.piece_length, file.length),
         ends: span.ends,
     };
-    match visit_at(shelf, &path, offset, &mut reader, buffer) {
+    found_of(visit_at(shelf, &path, offset, &mut reader, buffer))
+}
+
+// What was hashed of a file, or why nothing was, by what came of its visit.
+fn found_of(answer: Result<Option<Hashed>, DeviceFault>) -> Result<FileHashes, RowFault>
+    ensures { result ≡ found_by answer }
+{
+    match answer {
         Ok(Some(Ok(Some(found)))) => Ok(found),
         Ok(None | Some(Ok(None))) => Err(RowFault::Changed),
         Ok(Some(Err(ReadFault::NoMemory))) => Err(RowFault::NoMemory),

@@ -1,9 +1,8 @@
 //! The reading of the pieces that a part has of one opened file.
-ghost use Rattle.std.specs.Prelude.{◌≡◌, ◌+◌, ◌^◌, ◌<◌, ◌≤◌, length, true, IfOk, IfSome};
-ghost use Rattle.std.specs.Io.KnownBytes.{IsAtEnd};
+ghost use Rattle.std.specs.Prelude.{◌^◌, ◌<◌, ◌≤◌, length, IfOk, OnErr};
 ghost use Rattle.benc.specs.Device.{CountsFault};
-ghost use Rattle.folders.specs.TakeAll.{CountsReading, IsReadWithin};
-ghost use Rattle.part_drafts.specs.Rows.{ReadsRow};
+ghost use Rattle.folders.specs.TakeAll.{IsReadWithin};
+ghost use Rattle.part_drafts.specs.Rows.{EndsHere, ReadsCounted};
 
 use benc::{DeviceFault, Source};
 use folders::{FileReader, ReadFault, fill, take_exactly};
@@ -49,10 +48,8 @@ fn read_row<F: Source>(
 ) -> Hashed
     requires some { 0 < length buffer.old }
     requires fits { size ≤ 2 ^ 46 }
-    ensures row { IfOk result (λ found. IfSome found (ReadsRow kind.now.piece_length kind.now.hybrid
-        size ends (F.seen source.old) (F.seen source.new))) }
-    ensures no_further { IsReadWithin (size + 1) (F.seen source.old) (F.seen source.new) }
-    ensures counts { CountsReading (F.seen source.old).faults (F.seen source.new).faults result }
+    ensures { ReadsCounted kind.now.piece_length kind.now.hybrid size ends result
+        (F.seen source.old) (F.seen source.new) }
 {
     let mut hashing = Hashing::new(alloc, kind, Some(size));
     if !take_exactly(source, size, buffer, &mut hashing)? {
@@ -67,12 +64,11 @@ fn read_row<F: Source>(
     Ok(Some(hashing.finish(alloc)?))
 }
 
-// Whether the source has no more bytes, if it is to end.
+// Whether the source has no more bytes, if it is to end. A fault comes before one is read.
 fn is_over<F: Source>(source: &mut F, ends: bool, buffer: &mut [u8]) -> Result<bool, DeviceFault>
     requires { 0 < length buffer.old }
-    ensures over { IfOk result (λ over. over ≡ true → ends ≡ true
-        → IsAtEnd (F.seen source.old).left) }
-    ensures no_further { IsReadWithin 1 (F.seen source.old) (F.seen source.new) }
+    ensures over { IfOk result (EndsHere ends (F.seen source.old) (F.seen source.new)) }
+    ensures blamed { OnErr result (IsReadWithin 0 (F.seen source.old) (F.seen source.new)) }
     ensures counts { CountsFault (F.seen source.old).faults (F.seen source.new).faults result }
 {
     if !ends {

@@ -7,4 +7,5 @@ pub mod MarkedReadings
 pub mod MarkedPieces
 pub mod MarkedReports
 pub mod MarkedTexts
+pub mod MarkedYes
 pub mod TrueMarked

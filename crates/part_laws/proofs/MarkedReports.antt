@@ -13,7 +13,7 @@ use Rattle.folders.specs.declared.report.FileVerdict.TheVariants as file
 use Rattle.folders.specs.declared.report.V1Verdict.{V1Verdict}
 use Rattle.parts.specs.MarkedChecks.{AreAllMarked}
 use Rattle.parts.specs.MarkedLines.{marked_head_text, marked_lines_text, marked_text, verdicts_of}
-use Rattle.parts.specs.PartLines.{end_lines, has_place, head_text, part_text}
+use Rattle.parts.specs.PartLines.{end_lines, has_place, part_text, report_head_text}
 use Rattle.parts.specs.Parts.{IsPartVerdict, IsTruePart, Touches, piece_count}
 use Rattle.parts.specs.Runs.{AreRunsIn, Run}
 use Rattle.parts.specs.Shares.{share}
@@ -150,7 +150,7 @@ marked_true t contents part count marked v1 sound can told =
     (end_no_run told.v1 (is_yes (verdicts_of told.marked) told.v1)) lines in
     let said : List ℕ = part_text t part count (verdicts_of marked) v1 in
     let plain : said ≡ part_text t part count (verdicts_of told.marked) told.v1 =
-    ap₂ (λ l e. head_text t part count ++ (l ++ e)) (plain_lines_agree t r t.files marked told.marked (count_m ∙ sym count_o) both.0) both.1 in
+    ap₂ (λ l e. report_head_text t part count ++ (l ++ e)) (plain_lines_agree t r t.files marked told.marked (count_m ∙ sym count_o) both.0) both.1 in
     let report : IsTrueReport t contents said = record {
       part = part;
       count = count;

@@ -11,7 +11,6 @@ use Rattle.folders.specs.Printed.{end_text, file_verdict_text}
 use Rattle.folders.specs.declared.report_lines.Lines.TheVariants as lines
 use Rattle.folders.specs.declared.report.FileVerdict.{FileVerdict}
 use Rattle.folders.specs.declared.report.FileVerdict.TheVariants as file
-use Rattle.parts.specs.Checking.{AreTold, verdicts_in}
 use Rattle.parts.specs.Joins.{NoWorse, says_of}
 use Rattle.parts.specs.Laws.{PartsMakeTheReport}
 use Rattle.parts.specs.MarkedLines.{verdicts_of}
@@ -19,6 +18,7 @@ use Rattle.parts.specs.Parts.{Holds, IsPartVerdict, IsTruePart, PartReport, piec
 use Rattle.parts.specs.RowBits.{HasGoodPiece}
 use Rattle.parts.specs.Runs.{AreRunsIn, AreRunsOf, IsInOne, Run, runs_text}
 use Rattle.parts.specs.Telling.{AreToldRuns, has_runs}
+use Rattle.parts.specs.Visiting.{AreTold, verdicts_in}
 use Rattle.parts.specs.Words.{words_in_text}
 use Rattle.parts.specs.declared.places.Places.{Places}
 use Rattle.parts.specs.declared.telling.Telling.TheVariants as telling
@@ -27,7 +27,7 @@ use Rattle.parts.proofs.Runs.{same_runs}
 use Rattle.parts.proofs.Streams.{place_of_piece}
 use Rattle.part_reports.specs.Lines.{MarkedPart, part_of}
 use Rattle.part_reports.specs.MarkedJoins.{AreJoinedAs}
-use Rattle.part_reports.specs.Marks.{IsMarked}
+use Rattle.part_reports.specs.Marks.{IsPieceMarked}
 use Rattle.part_reports.specs.WholeLines.{AreShown, IsNotBad, ShowsAll, whole_lines}
 use Rattle.part_reports.specs.declared.kind.Kind.TheVariants as kind
 use Rattle.part_reports.specs.declared.marked_report.MarkedReport.{MarkedReport}
@@ -123,7 +123,7 @@ module _ (t : Description) (contents : Contents) (texts : List (List ℕ)) (join
               omega (arith, one.inside, inside.4)
 
           -- a marked piece is bad
-          marked_bad : IsMarked joined.bad (f.first_piece + k) → HasGoodPiece t f bytes k → ⊥
+          marked_bad : IsPieceMarked joined.bad (f.first_piece + k) → HasGoodPiece t f bytes k → ⊥
           marked_bad mark good =
               let by = (j.marks (f.first_piece + k)).0 mark in
               let told = by.told in
@@ -139,7 +139,7 @@ module _ (t : Description) (contents : Contents) (texts : List (List ℕ)) (join
 
           -- the part that has it among its places tells of it, if it is bad
           bad_told : (i : ℕ) (m : MarkedPart) → slice_get j.parts i ≡ Some m → Holds m.places (f.first_piece + k)
-              → (HasGoodPiece t f bytes k → ⊥) → IsMarked joined.bad (f.first_piece + k)
+              → (HasGoodPiece t f bytes k → ⊥) → IsPieceMarked joined.bad (f.first_piece + k)
           bad_told i m at held bad =
               let true_part = part_true i m at in
               let x = told_at m true_part in
@@ -152,7 +152,7 @@ module _ (t : Description) (contents : Contents) (texts : List (List ℕ)) (join
               mapped (y ∷ parts) zero m at = ap (λ z. Some (part_of z)) (same_Some y m at)
               mapped (y ∷ parts) (suc i) m at = mapped parts i m at
 
-              told_in : (x : FileVerdict × List Run) → slice_get m.marked n ≡ Some x → IsInOne x.1 k → IsMarked joined.bad (f.first_piece + k)
+              told_in : (x : FileVerdict × List Run) → slice_get m.marked n ≡ Some x → IsInOne x.1 k → IsPieceMarked joined.bad (f.first_piece + k)
               told_in x x_at inside = (j.marks (f.first_piece + k)).1 (record {
                 number = i;
                 part = m;
@@ -161,7 +161,7 @@ module _ (t : Description) (contents : Contents) (texts : List (List ℕ)) (join
               })
 
               by_verdict : IsTrueMarked t contents m → (x : FileVerdict × List Run) → slice_get m.marked n ≡ Some x
-                  → IsPartVerdict t m.places f (contents n) x.0 → (x.0 ≡ file.Good) ⊎ (has_runs x.0 ≡ true) → IsMarked joined.bad (f.first_piece + k)
+                  → IsPartVerdict t m.places f (contents n) x.0 → (x.0 ≡ file.Good) ⊎ (has_runs x.0 ≡ true) → IsPieceMarked joined.bad (f.first_piece + k)
               by_verdict true_part x x_at verdict (inl best) =
                   let found = (subst (IsPartVerdict t m.places f (contents n)) best verdict) (piece_touches t m.places f k lt held) in
                   let own = good_in t n f sound there k lt m.places found.0 found.2 held in

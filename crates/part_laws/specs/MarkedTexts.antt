@@ -1,16 +1,16 @@
 -- What the texts of marked reports make together: what a check prints that tells of bad pieces.
-use Rattle.std.specs.Prelude.{◌≡◌, ◌⊎◌, ℕ, ◌<◌, ◌^◌, false, List, [], ◌∷◌, ◌++◌, Option, Some, slice_get}
+use Rattle.std.specs.Prelude.{◌≡◌, ◌⊎◌, ℕ, ◌<◌, ◌^◌, true, false, List, [], ◌∷◌, ◌++◌, Option, Some, slice_get}
 use Rattle.opening.specs.Description.{Description, FileEntry}
 use Rattle.opening.specs.Sound.{IsSound}
-use Rattle.folders.specs.Folder.{Contents}
+use Rattle.folders.specs.Folder.{Contents, GoodFolder}
 use Rattle.folders.specs.Printed.{end_text}
+use Rattle.folders.specs.Verdicts.{is_yes}
 use Rattle.folders.specs.declared.report_lines.Lines.TheVariants as lines
 use Rattle.folders.specs.declared.report.FileVerdict.{FileVerdict}
 use Rattle.folders.specs.declared.report.FileVerdict.TheVariants as file
 use Rattle.folders.specs.declared.report.V1Verdict.{V1Verdict}
-use Rattle.parts.specs.Checking.{AreTold, verdicts_in}
 use Rattle.parts.specs.Collisions.{FileCollides}
-use Rattle.parts.specs.Laws.{IsReportOf}
+use Rattle.parts.specs.Laws.{IsReportOfContents}
 use Rattle.parts.specs.MarkedChecks.{AreAllMarked}
 use Rattle.parts.specs.MarkedLines.{marked_text, verdicts_of}
 use Rattle.parts.specs.PartLines.{has_place}
@@ -18,6 +18,7 @@ use Rattle.parts.specs.Parts.{IsTruePart}
 use Rattle.parts.specs.Runs.{AreRunsOf, Run}
 use Rattle.parts.specs.Shares.{share}
 use Rattle.parts.specs.Telling.{AreToldRuns, has_runs}
+use Rattle.parts.specs.Visiting.{AreTold, verdicts_in}
 use Rattle.parts.specs.Words.{words_in_text}
 use Rattle.parts.specs.declared.telling.Telling.TheVariants as telling
 use Rattle.part_reports.specs.MarkedJoins.{AreJoinedAs}
@@ -59,7 +60,7 @@ all_told (x ∷ xs) = x.1 ++ all_told xs
 -- these are its verdicts
 pub record IsCheckText (t : Description) (contents : Contents) (verdicts : List FileVerdict)
     (v1 : Option V1Verdict) (text : List ℕ) : Type 0 where
-  pub report : IsReportOf t contents verdicts v1
+  pub report : IsReportOfContents t contents verdicts v1
   pub told : List (FileVerdict × List ℕ)
   pub verdicts_are : verdicts_in told ≡ verdicts
   pub tells : AreTold words_in_text t (telling.LineAndRuns lines.All) contents told
@@ -102,3 +103,11 @@ JoinPrintsTheCheck =
     → AreJoinedAs Marked t texts joined → ShowsAll t joined marked
     → IsCheckText t contents joined.report.files.items joined.report.v1
     (whole_text t marked joined) ⊎ FileCollides t contents
+
+-- A yes of such texts is a yes: if each is the marked report of a part, and true of the same
+-- contents, and what is joined of them says yes, the folder is good. No collision excuses it.
+abbrev pub YesOfMarkedTexts : Type 0
+YesOfMarkedTexts =
+    (t : Description) (contents : Contents) (texts : List (List ℕ)) (joined : MarkedReport)
+    → IsSound t → AreTrueMarkedReports t contents texts → AreJoinedAs Marked t texts joined
+    → is_yes joined.report.files.items joined.report.v1 ≡ true → GoodFolder t contents

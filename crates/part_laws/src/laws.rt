@@ -1,8 +1,8 @@
 //! The laws of parts that each saw contents of their own, and of the texts of marked reports, each
 //! as the contract of a function that does nothing.
 ghost use Rattle.part_laws.specs.Apart.{YesOfPartsApart};
-ghost use Rattle.part_laws.specs.ApartTexts.{YesOfTextsApart};
-ghost use Rattle.part_laws.specs.MarkedTexts.{JoinPrintsTheCheck, JoinedRunsAreTheChecks, TrueMarkedPartsReport};
+ghost use Rattle.part_laws.specs.ApartTexts.{YesOfMarkedTextsApart, YesOfTextsApart};
+ghost use Rattle.part_laws.specs.MarkedTexts.{JoinPrintsTheCheck, JoinedRunsAreTheChecks, TrueMarkedPartsReport, YesOfMarkedTexts};
 
 use parts::laws::{parts_make_the_report, yes_of_parts};
 
@@ -36,4 +36,20 @@ pub fn join_prints_the_check()
     ensures text { JoinPrintsTheCheck }
 {
     parts_make_the_report();
+}
+
+/// If each of the texts that are joined is the marked report of a part, and true of the same
+/// contents, and their report says yes, the folder is good.
+pub fn yes_of_marked_texts()
+    ensures { YesOfMarkedTexts }
+{
+    yes_of_parts();
+}
+
+/// The same where each part saw contents of its own, as on machines that each have a folder: their
+/// pieces together are a good folder.
+pub fn yes_of_marked_texts_apart()
+    ensures { YesOfMarkedTextsApart }
+{
+    yes_of_parts_apart();
 }

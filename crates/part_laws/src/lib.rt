@@ -5,5 +5,6 @@
 mod laws;
 
 pub use laws::{
-    join_prints_the_check, true_marked_parts_report, yes_of_parts_apart, yes_of_texts_apart,
+    join_prints_the_check, true_marked_parts_report, yes_of_marked_texts,
+    yes_of_marked_texts_apart, yes_of_parts_apart, yes_of_texts_apart,
 };

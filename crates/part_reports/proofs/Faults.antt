@@ -1,18 +1,18 @@
 -- The reasons of the faults of a join.
-use Rattle.std.proofs.Common.{◌≡◌, ◌≢◌, ℕ, suc, ◌+◌, ◌-◌, ◌<◌, ◌^◌, Bool, true, false, nat_eq, ◌||◌, List, [], zero}
+use Rattle.std.proofs.Common.{◌≡◌, ◌≢◌, ℕ, suc, ◌+◌, ◌<◌, ◌^◌, Bool, true, false, nat_eq, ◌||◌, List, [], zero}
 use Rattle.std.proofs.Common.{◌∷◌, ◌++◌, length, slice_get, Some, inl, inr, refl, sym, ap, subst, ◌∙◌, arith}
 use Rattle.std.specs.List.{list_any}
 use Rattle.std.proofs.lemmas.Bool.Decides.{nat_tests}
-use Rattle.std.proofs.lemmas.Option.{same_Some, slice_get_within}
+use Rattle.std.proofs.lemmas.Option.{none-some, same_Some, slice_get_within}
 use Rattle.chains.proofs.Cases.{item_at, or_right}
 use Rattle.opening.proofs.SoundTrees.{push_at}
 use Rattle.opening.specs.Description.{Description}
 use Rattle.parts.specs.MarkedLines.{marked_head_text, marked_lines_text, verdicts_of}
-use Rattle.parts.specs.PartLines.{end_lines, head_text, lines_text}
+use Rattle.parts.specs.PartLines.{end_lines, lines_text, report_head_text}
 use Rattle.parts.specs.Shares.{share}
 use Rattle.parts.proofs.AsTexts.{part_words_are}
 use Rattle.part_reports.specs.Heads.{HasHead, IsInfoHash, first_line}
-use Rattle.part_reports.specs.Reasons.{AreAllReportsOf, AreNamed, AreTwo, HasHeadReason, HasReasonOf, IsMissing, IsReportOf}
+use Rattle.part_reports.specs.Reasons.{AreAllReportsOf, AreNamed, HasHeadReason, HasReasonOf, IsReportMissing, IsReportOfKind, StopsBehind}
 use Rattle.part_reports.specs.declared.join_fault.JoinFault.{JoinFault}
 use Rattle.part_reports.specs.declared.join_fault.JoinFault.TheVariants as fault
 use Rattle.part_reports.specs.declared.kind.Kind.{Kind}
@@ -20,14 +20,14 @@ use Rattle.part_reports.specs.declared.kind.Kind.TheVariants as kind
 use Rattle.part_reports.proofs.Heads.{one_hash, one_head}
 
 -- the first lines of both kinds of reports are rows of the table of lines
-pub plain_head : (t : Description) (part count : ℕ) → head_text t part count ≡ first_line kind.Plain part count t.info_hash_v2
+pub plain_head : (t : Description) (part count : ℕ) → report_head_text t part count ≡ first_line kind.Plain part count t.info_hash_v2
 plain_head t part count = sym (ap (λ words. words.head t part count) part_words_are)
 
 pub marked_head : (t : Description) (part count : ℕ) → marked_head_text t part count ≡ first_line kind.Marked part count t.info_hash_v2
 marked_head t part count = sym (ap (λ words. words.bad_head t part count) part_words_are)
 
 -- the first line of a report
-pub head_of : (k : Kind) (t : Description) (part count : ℕ) (text : List ℕ) → IsReportOf k t part count text → HasHead k text part count t.info_hash_v2
+pub head_of : (k : Kind) (t : Description) (part count : ℕ) (text : List ℕ) → IsReportOfKind k t part count text → HasHead k text part count t.info_hash_v2
 head_of kind.Plain t part count text r =
     let more : List ℕ = lines_text t (share t part count) r.files t.files ++ end_lines r.files r.v1 in
     record {
@@ -46,35 +46,59 @@ head_of kind.Marked t part count text r =
     }
 
 -- a fault of a first line is one of the join
-pub reason_of_head : (k : Kind) (t : Description) (texts : List (List ℕ)) (place : ℕ) (text : List ℕ) (e : JoinFault) → IsInfoHash t.info_hash_v2
-    → slice_get texts place ≡ Some text → HasHeadReason k t.info_hash_v2 place text e → HasReasonOf k t texts e
-reason_of_head k t texts place text (fault.NoReport i) own at why = (
-  text,
-  subst (λ k. slice_get texts k ≡ Some text) (sym why.0) at,
-  record {
-    none = λ part count r. why.1 part count t.info_hash_v2 (own, head_of k t part count text r);
-    own = λ part count hash h. absurd (why.1 part count hash h);
-  },
-)
-reason_of_head k t texts place text (fault.OtherTorrent i) own at why = (text, subst (λ k. slice_get texts k ≡ Some text) (sym why.0) at, why.1)
-reason_of_head k t texts place text (fault.OtherCount i) own at why = absurd why
-reason_of_head k t texts place text (fault.Twice number) own at why = absurd why
-reason_of_head k t texts place text (fault.Missing number count) own at why = absurd why
-reason_of_head k t texts place text fault.NoMemory own at why = absurd why
+pub reason_of_head : (k : Kind) (t : Description) (texts : List (List ℕ)) (parts : List ℕ) (count place : ℕ) (text : List ℕ) (e : JoinFault)
+    → IsInfoHash t.info_hash_v2 → AreNamed k t texts parts count → length parts ≡ place → slice_get texts place ≡ Some text
+    → HasHeadReason k t.info_hash_v2 place text e → HasReasonOf k t texts e
+reason_of_head k t texts parts count place text (fault.NoReport i) own named all at why =
+    let there : slice_get texts i ≡ Some text = subst (λ j. slice_get texts j ≡ Some text) (sym why.0) at in (
+      (
+        text,
+        there,
+        record {
+          none = λ part n r. why.1 part n t.info_hash_v2 (own, head_of k t part n text r);
+          own = λ part n hash h. absurd (why.1 part n hash h);
+        },
+      ),
+      inl (record {
+        parts = parts;
+        count = count;
+        before = named;
+        all = all ∙ sym why.0;
+        text = text;
+        there = there;
+        why = why.1;
+      }),
+    )
+reason_of_head k t texts parts count place text (fault.OtherTorrent i) own named all at why = record {
+  parts = parts;
+  count = count;
+  before = named;
+  all = all ∙ sym why.0;
+  text = text;
+  there = subst (λ j. slice_get texts j ≡ Some text) (sym why.0) at;
+  why = why.1;
+}
+reason_of_head k t texts parts count place text (fault.OtherCount i) own named all at why = absurd why
+reason_of_head k t texts parts count place text (fault.Twice number) own named all at why = absurd why
+reason_of_head k t texts parts count place text (fault.Missing number n) own named all at why = absurd why
+reason_of_head k t texts parts count place text fault.NoMemory own named all at why = absurd why
 
 -- and so is that a text is not the report of its part
-pub reason_of_text : (k : Kind) (t : Description) (texts : List (List ℕ)) (part count place : ℕ) (text : List ℕ) → slice_get texts place ≡ Some text
-    → HasHead k text part count t.info_hash_v2 → (IsReportOf k t part count text → ⊥)
+pub reason_of_text : (k : Kind) (t : Description) (texts : List (List ℕ)) (part count place : ℕ) (text : List ℕ) → StopsBehind k t texts part count
+    → slice_get texts place ≡ Some text → HasHead k text part count t.info_hash_v2 → (IsReportOfKind k t part count text → ⊥)
     → HasReasonOf k t texts (fault.NoReport place)
-reason_of_text k t texts part count place text at head why = (
-  text,
-  at,
-  record {
-    none = λ p n r.
-        let same = one_head k text p n part count t.info_hash_v2 t.info_hash_v2 (head_of k t p n text r) head in
-        why (subst (λ m. IsReportOf k t part m text) same.1 (subst (λ m. IsReportOf k t m n text) same.0 r));
-    own = λ p n hash of. one_hash k text p n part count hash t.info_hash_v2 of.0.bytes of.1 head;
-  },
+reason_of_text k t texts part count place text stops at head why = (
+  (
+    text,
+    at,
+    record {
+      none = λ p n r.
+          let same = one_head k text p n part count t.info_hash_v2 t.info_hash_v2 (head_of k t p n text r) head in
+          why (subst (λ m. IsReportOfKind k t part m text) same.1 (subst (λ m. IsReportOfKind k t m n text) same.0 r));
+      own = λ p n hash of. one_hash k text p n part count hash t.info_hash_v2 of.0.bytes of.1 head;
+    },
+  ),
+  inr (record { part = part; count = count; stops = stops; text = text; at = at; head = head; none = why }),
 )
 
 -- one more first line was read
@@ -102,118 +126,128 @@ named_more k t texts parts count part n text are there head same new = record {
   ];
 }
 
--- a text of another number of parts than the first
+-- a text of another number of parts than those before it
 pub other_counts : (k : Kind) (t : Description) (texts : List (List ℕ)) (parts : List ℕ) (count part n : ℕ) (text : List ℕ) → AreNamed k t texts parts count
-    → 0 < length parts → length parts < length texts → slice_get texts (length parts) ≡ Some text
+    → 0 < length parts → slice_get texts (length parts) ≡ Some text
     → HasHead k text part n t.info_hash_v2 → n ≢ count → HasReasonOf k t texts (fault.OtherCount (length parts))
-other_counts k t texts parts count part n text are some within there head other =
-    let own = t.info_hash_v2 in
-    let first = item_at texts 0 (omega (arith, within)) in
-    let named = item_at parts 0 some in (
-      first.0,
-      text,
-      first.1,
-      there,
-      (count, n, (named.0, own, are.heads 0 named.0 first.0 first.1 named.1), (part, own, head), λ same. other (sym same)),
+other_counts k t texts parts count part n text named some there head other = record {
+  parts = parts;
+  count = count;
+  before = named;
+  all = refl;
+  text = text;
+  there = there;
+  why = (some, part, n, head, other);
+}
+
+-- a text of a part that is there
+pub are_two : (k : Kind) (t : Description) (texts : List (List ℕ)) (parts : List ℕ) (count part n number j : ℕ) (text : List ℕ) → AreNamed k t texts parts count
+    → slice_get parts j ≡ Some part → slice_get texts (length parts) ≡ Some text
+    → HasHead k text part n t.info_hash_v2 → (0 < length parts → n ≡ count) → (part + 1 < 2 ^ 64 → number ≡ part + 1)
+    → HasReasonOf k t texts (fault.Twice number)
+are_two k t texts parts count part n number j text named again there head same number_is =
+    let number : number ≡ part + 1 = number_is (omega (arith, head.there, head.small)) in (
+      length parts,
+      record {
+        parts = parts;
+        count = count;
+        before = named;
+        all = refl;
+        text = text;
+        there = there;
+        why = (part, n, head, same, sym number, j, again);
+      },
     )
 
--- two texts are of one part
-pub are_two : (k : Kind) (t : Description) (texts : List (List ℕ)) (parts : List ℕ) (count part n number j : ℕ) (text : List ℕ) → AreNamed k t texts parts count
-    → length parts < length texts → slice_get parts j ≡ Some part → slice_get texts (length parts) ≡ Some text
-    → HasHead k text part n t.info_hash_v2 → (part + 1 < 2 ^ 64 → number ≡ part + 1) → AreTwo k texts number
-are_two k t texts parts count part n number j text are within again there head number_is =
-    let own = t.info_hash_v2 in
-    let before = slice_get_within parts j part again in
-    let first = item_at texts j (omega (arith, before, within)) in
-    let number : number ≡ part + 1 = number_is (omega (arith, head.there, head.small)) in
-    record {
-      i = j;
-      j = length parts;
-      first = first.0;
-      second = text;
-      order = before;
-      first_is = first.1;
-      second_is = there;
-      one = (part, count, own, are.heads j part first.0 first.1 again, sym number);
-      other = (part, n, own, head, sym number);
-    }
-
 -- no text is of this part
-pub is_missing : (k : Kind) (t : Description) (texts : List (List ℕ)) (parts : List ℕ) (count part : ℕ) → AreNamed k t texts parts count
-    → length parts ≡ length texts → part < count → ((i : ℕ) → slice_get parts i ≢ Some part) → IsMissing k texts (part + 1) count
-is_missing k t texts parts count part are all there none = record {
-  from_one = omega arith;
-  there = omega (arith, there);
-  others = λ i text at.
-      let within = slice_get_within texts i text at in
-      let named = item_at parts i (omega (arith, within, all)) in (
-        named.0,
-        t.info_hash_v2,
-        are.heads i named.0 text at named.1,
-        λ same.
-            let part_is : named.0 ≡ part = omega (arith, same) in
-            none i (named.1 ∙ ap Some part_is),
-      );
+pub is_missing : (k : Kind) (t : Description) (texts : List (List ℕ)) (part count : ℕ) (stops : StopsBehind k t texts part count)
+    → ((i : ℕ) → slice_get stops.parts i ≢ Some part) → (texts ≡ [] → count ≡ 1) → IsReportMissing k t texts (part + 1) count
+is_missing k t texts part count stops none no_text = record {
+  part = part;
+  number_is = refl;
+  stops = stops;
+  others = none;
+  no_text = no_text;
 }
 
--- no text is of any part, as there is none
-pub none_there : (k : Kind) (t : Description) (texts : List (List ℕ)) (parts : List ℕ) (count : ℕ) → AreNamed k t texts parts count
-    → length parts ≡ length texts → count ≡ 0 → IsMissing k texts 1 1
-none_there k t texts parts count are all none = record {
-  from_one = omega arith;
-  there = omega arith;
-  others = λ i text at.
-      let within = slice_get_within texts i text at in
-      let named = item_at parts i (omega (arith, within, all)) in
-      let head = are.heads i named.0 text at named.1 in
-      absurd (omega (arith, head.there, none));
-}
+-- of no text one part is missing
+pub none_there : (k : Kind) (t : Description) (texts : List (List ℕ)) → length texts ≡ 0 → IsReportMissing k t texts 1 1
+none_there k t texts empty =
+    is_missing k t texts 0 1 (record {
+      parts = [];
+      named = record { heads = λ i p text at of. absurd (none-some p of); once = λ i j p one other. absurd (none-some p one) };
+      all = sym empty;
+      there = omega arith;
+      before = λ earlier less. absurd (omega (arith, less));
+    }) (λ i at. none-some 0 at) (λ is. refl)
 
--- the law
+-- there is a part if there is a text
+pub some_parts : (k : Kind) (t : Description) (texts : List (List ℕ)) (parts : List ℕ) (count : ℕ) → AreNamed k t texts parts count
+    → length parts ≡ length texts → 0 < length texts → (0 < count) × (count < 2 ^ 64)
+some_parts k t texts parts count named all some =
+    let first = item_at texts 0 some in
+    let part = item_at parts 0 (omega (arith, all, some)) in
+    let head = named.heads 0 part.0 first.0 first.1 part.1 in (omega (arith, head.there), head.small)
+
+-- ---- the law
+
+module _ (k : Kind) (t : Description) (texts : List (List ℕ)) (all : AreAllReportsOf k t texts) where
+  abbrev n : ℕ
+  n = length texts
+
+  abbrev own : List ℕ
+  own = t.info_hash_v2
+
+  -- the first line of each text is that of its part
+  own_head : (i : ℕ) (text : List ℕ) → slice_get texts i ≡ Some text → HasHead k text (all.part_of i) n own
+  own_head i text at = head_of k t (all.part_of i) n text (all.are i text at)
+
+  -- and no other
+  known_part : (i part count : ℕ) (text : List ℕ) → slice_get texts i ≡ Some text → HasHead k text part count own → (part ≡ all.part_of i) × (count ≡ n)
+  known_part i part count text at head = let one = one_head k text part count (all.part_of i) n own own head (own_head i text at) in (one.0, one.1)
+
+  -- as many parts as the texts before one are of
+  known_count : (parts : List ℕ) (count : ℕ) → AreNamed k t texts parts count → 0 < length parts → count ≡ n
+  known_count parts count named some =
+      let first = item_at texts 0 all.some in
+      let part = item_at parts 0 some in
+      (known_part 0 part.0 count first.0 first.1 (named.heads 0 part.0 first.0 first.1 part.1)).1
+
+  pub no_reason_of : (e : JoinFault) → HasReasonOf k t texts e → e ≡ fault.NoMemory
+  no_reason_of (fault.NoReport i) why = let at = why.0 in absurd (at.2.none (all.part_of i) n (all.are i at.0 at.1))
+  no_reason_of (fault.OtherTorrent i) s =
+      let other = s.why in
+      absurd (other.4 (one_hash k s.text other.0 other.1 (all.part_of i) n other.2 own other.3.0.bytes other.3.1 (own_head i s.text s.there)))
+  no_reason_of (fault.OtherCount i) s =
+      let w = s.why in
+      absurd (w.4 ((known_part i w.1 w.2 s.text s.there w.3).1 ∙ sym (known_count s.parts s.count s.before w.0)))
+  no_reason_of (fault.Twice number) why =
+      let s = why.1 in
+      let w = s.why in
+      let part = known_part why.0 w.0 w.1 s.text s.there w.2 in
+      let place_in = slice_get_within texts why.0 s.text s.there in
+      let before = slice_get_within s.parts w.5 w.0 w.6 in
+      let earlier_in : w.5 < length texts = omega (arith, before, s.all, place_in) in
+      let earlier = item_at texts w.5 earlier_in in
+      let named = s.before.heads w.5 w.0 earlier.0 earlier.1 w.6 in
+      let its = known_part w.5 w.0 s.count earlier.0 earlier.1 named in
+      let again = all.once w.5 why.0 earlier_in place_in (sym its.0 ∙ part.0) in
+      absurd (omega (arith, again, before, s.all))
+  no_reason_of (fault.Missing number count) m =
+      let some : 0 < length m.stops.parts = omega (arith, m.stops.all, all.some) in
+      let count_is = known_count m.stops.parts count m.stops.named some in
+      let there = all.all m.part (omega (arith, m.stops.there, count_is)) in
+      let place = all.place_of m.part in
+      let text = item_at texts place there.0 in
+      let part = item_at m.stops.parts place (omega (arith, there.0, m.stops.all)) in
+      let its = known_part place part.0 count text.0 text.1 (m.stops.named.heads place part.0 text.0 text.1 part.1) in
+      absurd (m.others place (part.1 ∙ ap Some (its.0 ∙ there.1)))
+  no_reason_of fault.NoMemory why = refl
+
 pub no_reason : (k : Kind) (t : Description) (texts : List (List ℕ)) (e : JoinFault) → AreAllReportsOf k t texts → HasReasonOf k t texts e → e ≡ fault.NoMemory
-no_reason k t texts (fault.NoReport i) all why = absurd (why.2.none (all.part_of i) (length texts) (all.are i why.0 why.1))
-no_reason k t texts (fault.OtherTorrent i) all why =
-    let own = t.info_hash_v2 in
-    let head = head_of k t (all.part_of i) (length texts) why.0 (all.are i why.0 why.1) in
-    let other = why.2 in
-    absurd (other.4 (one_hash k why.0 other.0 other.1 (all.part_of i) (length texts) other.2 own other.3.0.bytes other.3.1 head))
-no_reason k t texts (fault.OtherCount i) all why =
-    let n = length texts in
-    let own = t.info_hash_v2 in
-    let one = head_of k t (all.part_of 0) n why.0 (all.are 0 why.0 why.2) in
-    let two = head_of k t (all.part_of i) n why.1 (all.are i why.1 why.3) in
-    let counts = why.4 in
-    let first = one_head k why.0 counts.2.0 counts.0 (all.part_of 0) n counts.2.1 own counts.2.2 one in
-    let second = one_head k why.1 counts.3.0 counts.1 (all.part_of i) n counts.3.1 own counts.3.2 two in
-    absurd (counts.4 (first.1 ∙ sym second.1))
-no_reason k t texts (fault.Twice number) all why =
-    let n = length texts in
-    let own = t.info_hash_v2 in
-    let one = head_of k t (all.part_of why.i) n why.first (all.are why.i why.first why.first_is) in
-    let two = head_of k t (all.part_of why.j) n why.second (all.are why.j why.second why.second_is) in
-    let first = (one_head k why.first why.one.0 why.one.1 (all.part_of why.i) n why.one.2 own why.one.3 one).0 in
-    let second = (one_head k why.second why.other.0 why.other.1 (all.part_of why.j) n why.other.2 own why.other.3 two).0 in
-    let i_in = slice_get_within texts why.i why.first why.first_is in
-    let j_in = slice_get_within texts why.j why.second why.second_is in
-    let same : all.part_of why.i ≡ all.part_of why.j = omega (arith, first, second, why.one.4, why.other.4) in
-    let again = all.once why.i why.j i_in j_in same in
-    absurd (omega (arith, again, why.order))
-no_reason k t texts (fault.Missing number count) all why =
-    let n = length texts in
-    let own = t.info_hash_v2 in
-    let first = item_at texts 0 all.some in
-    let first_head = why.others 0 first.0 first.1 in
-    let count_is = (one_head k first.0 first_head.0 count (all.part_of 0) n first_head.1 own first_head.2
-    (head_of k t (all.part_of 0) n first.0 (all.are 0 first.0 first.1))).1 in
-    let part : ℕ = number - 1 in
-    let there = all.all part (omega (arith, why.from_one, why.there, count_is)) in
-    let place = all.place_of part in
-    let text = item_at texts place there.0 in
-    let other = why.others place text.0 text.1 in
-    let part_is = (one_head k text.0 other.0 count (all.part_of place) n other.1 own other.2
-    (head_of k t (all.part_of place) n text.0 (all.are place text.0 text.1))).0 in
-    absurd (other.3 (omega (arith, part_is, there.1, why.from_one)))
-no_reason k t texts fault.NoMemory all why = refl
+no_reason k t texts e all why = no_reason_of k t texts all e why
+
+-- ---- numbers among others
 
 same_number : (a b : ℕ) → nat_eq a b ≡ true → a ≡ b
 same_number a b is = grind (arith, nat_tests, is)

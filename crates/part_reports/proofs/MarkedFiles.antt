@@ -11,7 +11,7 @@ use Rattle.parts.specs.MarkedLines.{marked_line, marked_lines_text, verdicts_of}
 use Rattle.parts.specs.PartLines.{has_place, held_line}
 use Rattle.parts.specs.Runs.{Run, runs_text}
 use Rattle.parts.specs.declared.places.Places.{Places}
-use Rattle.part_reports.specs.Lines.{HasFile, HasLine, HasNoRun, HasRuns, IsSmall, ReadsFile, ReadsLine, ReadsRuns, TellsFile}
+use Rattle.part_reports.specs.Lines.{BeginsWithFile, HasLine, HasNoRun, HasRuns, IsSmall, ReadsFileLine, ReadsLine, ReadsRuns, TellsOfFile}
 use Rattle.part_reports.specs.Marks.{CanMark, IsInRuns, IsTold}
 use Rattle.part_reports.specs.Reported.{CanSay}
 use Rattle.part_reports.specs.declared.marked_report.BadPieces.{BadPieces}
@@ -94,7 +94,8 @@ files_no_run k t r (f ∷ fs) (x ∷ marked) end can none =
 
 -- ---- one file, read
 
-pub line_of_file : (k : Kind) (t : Description) (r : Places) (f : FileEntry) (text : List ℕ) → HasFile k t r f text → HasLine t r f (has_place t r f) text
+pub line_of_file : (k : Kind) (t : Description) (r : Places) (f : FileEntry) (text : List ℕ) → BeginsWithFile k t r f text
+    → HasLine t r f (has_place t r f) text
 line_of_file k t r f text has =
     let told = has.3 in (
       has.0,
@@ -107,7 +108,7 @@ line_of_file k t r f text has =
 
 -- what another reading tells, behind the line that was read
 pub behind_line : (k : Kind) (t : Description) (r : Places) (f : FileEntry) (text : List ℕ) (v : FileVerdict) (rest : List ℕ) (w : FileVerdict)
-    (others : List Run) (more : List ℕ) → IsSmall v → IsSmall w → ReadsLine t r f (has_place t r f) text v rest → TellsFile k t r f text w others more
+    (others : List Run) (more : List ℕ) → IsSmall v → IsSmall w → ReadsLine t r f (has_place t r f) text v rest → TellsOfFile k t r f text w others more
     → (v ≡ w) × (rest ≡ runs_text t f others ++ more)
 behind_line k t r f text v rest w others more small short line told =
     held_same t r f v w rest (runs_text t f others ++ more) (has_place t r f) refl small short line.can told.can
@@ -116,7 +117,7 @@ behind_line k t r f text v rest w others more small short line told =
 -- a file of a report without runs was read
 pub plain_file : (t : Description) (r : Places) (f : FileEntry) (text : List ℕ) (v : FileVerdict) (rest : List ℕ) (bad : BadPieces)
     → ((w : FileVerdict) → CanSay t r f w → IsSmall w) → ReadsLine t r f (has_place t r f) text v rest
-    → ReadsFile kind.Plain t r f text v rest bad bad
+    → ReadsFileLine kind.Plain t r f text v rest bad bad
 plain_file t r f text v rest bad small line = record {
   runs = [];
   can = line.can;
@@ -131,7 +132,7 @@ plain_file t r f text v rest bad small line = record {
 -- a file of a marked report was read
 pub marked_file : (t : Description) (r : Places) (f : FileEntry) (text : List ℕ) (v : FileVerdict) (rest more : List ℕ) (old new : BadPieces)
     → ((w : FileVerdict) → CanSay t r f w → IsSmall w) → ReadsLine t r f (has_place t r f) text v rest → ReadsRuns t r f v rest more old new
-    → ReadsFile kind.Marked t r f text v more old new
+    → ReadsFileLine kind.Marked t r f text v more old new
 marked_file t r f text v rest more old new small line read = record {
   runs = read.runs;
   can = line.can;
@@ -152,7 +153,7 @@ marked_file t r f text v rest more old new small line read = record {
 -- and if its runs cannot be read, it is none
 pub no_runs_no_file : (t : Description) (r : Places) (f : FileEntry) (text : List ℕ) (v : FileVerdict) (rest : List ℕ)
     → ((w : FileVerdict) → CanSay t r f w → IsSmall w) → ReadsLine t r f (has_place t r f) text v rest → (HasRuns t r f v rest → ⊥)
-    → HasFile kind.Marked t r f text → ⊥
+    → BeginsWithFile kind.Marked t r f text → ⊥
 no_runs_no_file t r f text v rest small line none has =
     let told = has.3 in
     let same = behind_line kind.Marked t r f text v rest has.0 has.1 has.2 (small v line.can) (small has.0 told.can) line told in

@@ -5,7 +5,7 @@ use Rattle.std.proofs.lemmas.Option.{none-some, slice_get_within}
 use Rattle.chains.proofs.Cases.{item_stays, pushed_at, pushed_last}
 use Rattle.opening.specs.Description.{Description, FileEntry}
 use Rattle.parts.specs.Runs.{AreBadRuns, IsBadRun, Run}
-use Rattle.part_reports.specs.Marks.{AreUnmarked, IsMarkedRun}
+use Rattle.part_reports.specs.Marks.{AreUnmarked, IsRunOfMarks}
 use Rattle.parts.specs.Parts.{piece_count}
 use Rattle.part_reports.specs.WholeLines.{AreFirstShown, IsNotBad}
 use Rattle.part_reports.specs.declared.marked_report.BadPieces.{BadPieces}
@@ -31,7 +31,7 @@ none_shown count bad f = record {
 
 -- the next run
 pub one_shown : (count at first end : ℕ) (bad : BadPieces) (f : FileEntry) (runs : List Run)
-    → IsMarkedRun bad (f.first_piece + at) (f.first_piece + count) (f.first_piece + first) (f.first_piece + end) → ShownUpTo count at bad f runs
+    → IsRunOfMarks bad (f.first_piece + at) (f.first_piece + count) (f.first_piece + first) (f.first_piece + end) → ShownUpTo count at bad f runs
     → ShownUpTo count end bad f (runs ++ record { first = first; last = end - 1 } ∷ [])
 one_shown count at first end bad f runs run so_far = record {
   inside = omega (arith, run.within);
@@ -108,12 +108,12 @@ all_shown count at bad f runs none so_far = record {
 }
 
 -- a run of the torrent's pieces, by the numbers of a file's
-pub run_of_file : (bad : BadPieces) (at to first end a b c d : ℕ) → at ≡ a → to ≡ b → first ≡ c → end ≡ d → IsMarkedRun bad at to first end
-    → IsMarkedRun bad a b c d
+pub run_of_file : (bad : BadPieces) (at to first end a b c d : ℕ) → at ≡ a → to ≡ b → first ≡ c → end ≡ d → IsRunOfMarks bad at to first end
+    → IsRunOfMarks bad a b c d
 run_of_file bad at to first end a b c d at_is to_is first_is end_is run =
-    subst (λ n. IsMarkedRun bad a b c n) end_is
-    (subst (λ n. IsMarkedRun bad a b n end) first_is
-    (subst (λ n. IsMarkedRun bad a n first end) to_is (subst (λ n. IsMarkedRun bad n to first end) at_is run)))
+    subst (λ n. IsRunOfMarks bad a b c n) end_is
+    (subst (λ n. IsRunOfMarks bad a b n end) first_is
+    (subst (λ n. IsRunOfMarks bad a n first end) to_is (subst (λ n. IsRunOfMarks bad n to first end) at_is run)))
 
 pub none_of_file : (bad : BadPieces) (at to a b : ℕ) → at ≡ a → to ≡ b → AreUnmarked bad at to → AreUnmarked bad a b
 none_of_file bad at to a b at_is to_is none =

@@ -18,7 +18,7 @@ use Rattle.parts.specs.Runs.{Run}
 use Rattle.parts.specs.declared.places.Places.{Places}
 use Rattle.parts.proofs.SharedPlaces.{sum_next}
 use Rattle.parts.specs.Parts.{piece_count}
-use Rattle.part_reports.specs.Lines.{HasLines, IsSmall, TellsFile}
+use Rattle.part_reports.specs.Lines.{HasLines, IsSmall, TellsOfFile}
 use Rattle.part_reports.specs.Marks.{CanMarkAll}
 use Rattle.part_reports.specs.Reported.{CanReport, CanSay, CanSayAll}
 use Rattle.part_reports.specs.declared.kind.Kind.{Kind}
@@ -98,7 +98,7 @@ can_be_told k t r lines marked v1 sound reading n f x there at =
 -- what another reading tells of the next file
 pub next_told : (k : Kind) (t : Description) (r : Places) (lines : List ℕ) (marked : List (FileVerdict × List Run)) (v1 : Option V1Verdict) (i : ℕ)
     (f : FileEntry) (x : FileVerdict × List Run) (rest : List ℕ) → IsSound t → Reading k t r lines marked v1 → slice_get t.files i ≡ Some f
-    → slice_get marked i ≡ Some x → rest ≡ left_of t r marked v1 i → TellsFile k t r f rest x.0 x.1 (left_of t r marked v1 (i + 1))
+    → slice_get marked i ≡ Some x → rest ≡ left_of t r marked v1 i → TellsOfFile k t r f rest x.0 x.1 (left_of t r marked v1 (i + 1))
 next_told k t r lines marked v1 i f x rest sound reading there at rest_is =
     let told = can_be_told k t r lines marked v1 sound reading in
     let one = told i f x there at in

@@ -16,10 +16,10 @@ use Rattle.parts.specs.MarkedLines.{verdicts_of}
 use Rattle.parts.specs.Parts.{PartReport}
 use Rattle.parts.specs.Worse.{worse, worse_v1}
 use Rattle.part_reports.specs.Lines.{JoinsMore, MarkedPart}
-use Rattle.part_reports.specs.MarkedJoins.{AreMarksOf, AreReadAs, IsReadAs, IsTextAs, text_of}
-use Rattle.part_reports.specs.Marks.{IsMarked, IsTold, MarksMore}
+use Rattle.part_reports.specs.MarkedJoins.{AreMarksOf, AreReadAs, IsReadAs, IsTextAs, report_text_of}
+use Rattle.part_reports.specs.Marks.{IsPieceMarked, IsTold, MarksMore}
 use Rattle.part_reports.specs.Reported.{CanReport}
-use Rattle.part_reports.specs.Reasons.{AreNamed, IsReportOf}
+use Rattle.part_reports.specs.Reasons.{AreNamed, IsReportOfKind}
 use Rattle.part_reports.proofs.Faults.{head_of}
 use Rattle.part_reports.proofs.Heads.{one_head}
 use Rattle.part_reports.specs.declared.kind.Kind.{Kind}
@@ -81,7 +81,7 @@ text_there texts i other text within is =
 
 -- the report of a part, which was read, is one
 pub read_report : (k : Kind) (t : Description) (texts : List (List ℕ)) (part count : ℕ) (p : MarkedPart) → part < count → count < 2 ^ 64
-    → IsReadAs k t texts part count p → IsReportOf k t part count (text_of k t part count p)
+    → IsReadAs k t texts part count p → IsReportOfKind k t part count (report_text_of k t part count p)
 read_report kind.Plain t texts part count p there small read = record {
   there = there;
   small = small;
@@ -110,7 +110,7 @@ no_other_text k t texts parts reports named all are i text at =
     let head = named.heads i part.0 text at part.1 in
     let p = item_at reports part.0 head.there in
     let read = are part.0 p.0 p.1 in
-    let said : List ℕ = text_of k t part.0 (length reports) p.0 in
+    let said : List ℕ = report_text_of k t part.0 (length reports) p.0 in
     let other = item_at parts read.number (omega (arith, all, slice_get_within texts read.number said read.there)) in
     let other_head = named.heads read.number other.0 said read.there other.1 in
     let own_head = head_of k t part.0 (length reports) said (read_report k t texts part.0 (length reports) p.0 head.there head.small read) in
@@ -133,12 +133,12 @@ pub few_parts : (k : Kind) (t : Description) (texts : List (List ℕ)) (parts : 
 few_parts k t texts parts reports named all are some =
     let p = item_at reports 0 some in
     let read = are 0 p.0 p.1 in
-    let said : List ℕ = text_of k t 0 (length reports) p.0 in
+    let said : List ℕ = report_text_of k t 0 (length reports) p.0 in
     let part = item_at parts read.number (omega (arith, all, slice_get_within texts read.number said read.there)) in
     (named.heads read.number part.0 said read.there part.1).small
 
 -- no part tells of a piece
-pub no_marks : (t : Description) (joined : MarkedReport) → ((q : ℕ) → IsMarked joined.bad q → ⊥) → AreMarksOf t [] joined
+pub no_marks : (t : Description) (joined : MarkedReport) → ((q : ℕ) → IsPieceMarked joined.bad q → ⊥) → AreMarksOf t [] joined
 no_marks t joined none q = (λ on. absurd (none q on), λ told. absurd (none-some told.part told.there))
 
 -- the marks of one part more

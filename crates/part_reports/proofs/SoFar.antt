@@ -20,7 +20,7 @@ use Rattle.parts.specs.PartLines.{answer_line, end_lines, has_place}
 use Rattle.parts.specs.Runs.{Run}
 use Rattle.parts.specs.Worse.{worse, worse_v1}
 use Rattle.parts.specs.declared.places.Places.{Places}
-use Rattle.part_reports.specs.Lines.{HasEnd, HasFile, HasLines, JoinsLines, ReadsEnd, ReadsFile}
+use Rattle.part_reports.specs.Lines.{BeginsWithFile, HasEnd, HasLines, JoinsLines, ReadsEnd, ReadsFileLine}
 use Rattle.part_reports.specs.Marks.{CanMark, IsInRuns, IsTold, MarksMore}
 use Rattle.part_reports.specs.Reported.{CanSay}
 use Rattle.part_reports.specs.declared.marked_report.BadPieces.{BadPieces}
@@ -106,7 +106,7 @@ so_far_none k t r lines old was first inside off = record {
 
 pub so_far_next : (k : Kind) (t : Description) (r : Places) (lines : List ℕ) (old new : List FileVerdict) (was now later : BadPieces) (i : ℕ)
     (worst : FileVerdict) (rest : List ℕ) (f : FileEntry) (v a : FileVerdict) (more : List ℕ) → IsSound t → slice_get t.files i ≡ Some f
-    → slice_get new i ≡ Some a → ReadsFile k t r f rest v more now later → LinesSoFar k t r lines old new was now i worst rest
+    → slice_get new i ≡ Some a → ReadsFileLine k t r f rest v more now later → LinesSoFar k t r lines old new was now i worst rest
     → LinesSoFar k t r lines old (set new i (worse a v)) was later (i + 1) (worse worst v) more
 so_far_next k t r lines old new was now later i worst rest f v a more sound there at file so_far =
     let one : FileVerdict × List Run = (v, file.runs) in
@@ -172,7 +172,7 @@ so_far_next k t r lines old new was now later i worst rest f v a more sound ther
 -- so what is told of the next file is there
 pub file_there : (k : Kind) (t : Description) (r : Places) (lines : List ℕ) (old new : List FileVerdict) (was now : BadPieces) (i : ℕ)
     (worst : FileVerdict) (rest : List ℕ) (f : FileEntry) → IsSound t → slice_get t.files i ≡ Some f
-    → LinesSoFar k t r lines old new was now i worst rest → HasLines k t r lines → HasFile k t r f rest
+    → LinesSoFar k t r lines old new was now i worst rest → HasLines k t r lines → BeginsWithFile k t r f rest
 file_there k t r lines old new was now i worst rest f sound there so_far has =
     let reading = reading_of k t r lines has in
     let marked = has.0.marked in

@@ -7,7 +7,7 @@ use Rattle.opening.specs.Description.{Description, FileEntry}
 use Rattle.folders.specs.declared.report.FileVerdict.{FileVerdict}
 use Rattle.parts.specs.MarkedLines.{marked_head_text, marked_lines_text, verdicts_of}
 use Rattle.parts.specs.Parts.{PartReport}
-use Rattle.parts.specs.PartLines.{end_lines, has_place, head_text, held_line, lines_text, part_text}
+use Rattle.parts.specs.PartLines.{end_lines, has_place, held_line, lines_text, part_text, report_head_text}
 use Rattle.parts.specs.Runs.{Run, runs_text}
 use Rattle.parts.specs.Shares.{share}
 use Rattle.parts.specs.declared.places.Places.{Places}
@@ -15,10 +15,10 @@ use Rattle.std.specs.Option.{MatchOption}
 use Rattle.part_reports.specs.Heads.{first_line}
 use Rattle.part_reports.specs.Joined.{AreJoined, IsRead}
 use Rattle.part_reports.specs.Lines.{CanReportMarked, HasLines, JoinsLines, MarkedPart, marked_rest, part_of}
-use Rattle.part_reports.specs.MarkedJoins.{AreJoinedAs, IsReadAs, JoinsText, text_of}
+use Rattle.part_reports.specs.MarkedJoins.{AreJoinedAs, IsReadAs, JoinsText, report_text_of}
 use Rattle.part_reports.specs.Marks.{CanMarkAll}
 use Rattle.part_reports.specs.Reported.{CanReport}
-use Rattle.part_reports.specs.Reasons.{IsReportOf}
+use Rattle.part_reports.specs.Reasons.{IsReportOfKind}
 use Rattle.part_reports.proofs.Faults.{marked_head, plain_head}
 use Rattle.part_reports.specs.declared.kind.Kind.{Kind}
 use Rattle.part_reports.specs.declared.kind.Kind.TheVariants as kind
@@ -58,10 +58,10 @@ bare_at (v ∷ files) (suc n) x at = bare_at files n x at
 
 -- what was read of the lines is the text
 text_is : (k : Kind) (t : Description) (part count : ℕ) (m : MarkedPart) → m.places ≡ share t part count → CanReportMarked k t m
-    → first_line k part count t.info_hash_v2 ++ marked_rest t m ≡ text_of k t part count m
+    → first_line k part count t.info_hash_v2 ++ marked_rest t m ≡ report_text_of k t part count m
 text_is kind.Plain t part count m places can =
     ap (λ line. line ++ marked_rest t m) (sym (plain_head t part count))
-    ∙ ap (λ l. head_text t part count ++ (l ++ end_lines (verdicts_of m.marked) m.v1))
+    ∙ ap (λ l. report_head_text t part count ++ (l ++ end_lines (verdicts_of m.marked) m.v1))
     (plain_lines t m.places m.marked t.files (λ n f x there at. can.marks n f x there at)
     ∙ ap (λ r. lines_text t r (verdicts_of m.marked) t.files) places)
 text_is kind.Marked t part count m places can =
@@ -70,9 +70,9 @@ text_is kind.Marked t part count m places can =
 
 -- and a text that is a report has such lines
 lines_of : (k : Kind) (t : Description) (part count : ℕ) (r : Places) (lines : List ℕ) → r ≡ share t part count
-    → IsReportOf k t part count (first_line k part count t.info_hash_v2 ++ lines) → HasLines k t r lines
+    → IsReportOfKind k t part count (first_line k part count t.info_hash_v2 ++ lines) → HasLines k t r lines
 lines_of kind.Plain t part count r lines places report =
-    let behind = same_rest (head_text t part count) lines _ (ap (λ l. l ++ lines) (plain_head t part count) ∙ report.is) in
+    let behind = same_rest (report_head_text t part count) lines _ (ap (λ l. l ++ lines) (plain_head t part count) ∙ report.is) in
     let verdicts = bare_verdicts report.files in
     let m : MarkedPart = record { places = r; marked = bare report.files; v1 = report.v1 } in
     let none : CanMarkAll kind.Plain t r t.files (bare report.files) = λ n f x there at. bare_at report.files n x at in (
@@ -106,7 +106,7 @@ lines_of kind.Marked t part count r lines places report =
 pub text_read : (k : Kind) (t : Description) (part count : ℕ) (r : Places) (lines text : List ℕ) (old new : MarkedReport)
     (res : Option (Unit {0})) → r ≡ share t part count → text ≡ first_line k part count t.info_hash_v2 ++ lines
     → MatchOption res (HasLines k t r lines → ⊥) (λ u. JoinsLines k t r lines old new)
-    → MatchOption res (IsReportOf k t part count text → ⊥) (λ u. JoinsText k t part count text old new)
+    → MatchOption res (IsReportOfKind k t part count text → ⊥) (λ u. JoinsText k t part count text old new)
 text_read k t part count r lines text old new (Some u) places is done =
     let m = done.part in
     let own : m.places ≡ share t part count = done.places ∙ places in
@@ -119,7 +119,7 @@ text_read k t part count r lines text old new (Some u) places is done =
       marks = done.marks;
     }
 text_read k t part count r lines text old new None places is none = λ report.
-    none (lines_of k t part count r lines places (subst (IsReportOf k t part count) is report))
+    none (lines_of k t part count r lines places (subst (IsReportOfKind k t part count) is report))
 
 -- ---- plain reports
 

@@ -12,7 +12,7 @@ use Rattle.folders.specs.declared.report.FileVerdict.TheVariants as file
 use Rattle.folders.specs.declared.report.V1Verdict.{V1Verdict}
 use Rattle.folders.specs.declared.report.V1Verdict.TheVariants as version1
 use Rattle.parts.specs.Laws.{PartsMakeTheReport, YesOfParts}
-use Rattle.parts.specs.PartLines.{answer_line, end_lines, has_place, head_text, lines_text, part_text}
+use Rattle.parts.specs.PartLines.{answer_line, end_lines, has_place, lines_text, part_text, report_head_text}
 use Rattle.parts.specs.Parts.{IsPartV1, IsPartVerdict, IsTruePart, PartReport, piece_count, place_count}
 use Rattle.parts.specs.Shares.{share}
 use Rattle.parts.specs.declared.places.Places.{Places}
@@ -163,7 +163,7 @@ read_true t contents texts part count p sound are there small read =
     let one = one_head kind.Plain said r.part r.count part count own own (true_head t contents said r) head in
     let as_read : said ≡ part_text t part count r.files r.v1 =
     r.is ∙ ap (λ k. part_text t k r.count r.files r.v1) one.0 ∙ ap (λ k. part_text t part k r.files r.v1) one.1 in
-    let lines = same_rest (head_text t part count) _ _ as_read in
+    let lines = same_rest (report_head_text t part count) _ _ as_read in
     let places : share t r.part r.count ≡ share t part count = ap (λ k. share t k r.count) one.0 ∙ ap (share t part) one.1 in
     let is_true = subst (λ x. IsTruePart t contents (record { places = x; files = r.files; v1 = r.v1 })) places r.are_true in
     let told = told_true t (share t part count) contents r.files p.files r.v1 p.v1 sound

@@ -10,7 +10,7 @@ use Rattle.folders.specs.declared.report.FileVerdict.{FileVerdict}
 use Rattle.parts.specs.Runs.{Run}
 use Rattle.parts.specs.Telling.{has_runs}
 use Rattle.parts.specs.Words.{Words}
-use Rattle.part_reports.specs.WholeLines.{AreShown, SaysMarked, ShowsAll, ShowsFirst, file_as, whole_as, whole_lines_as}
+use Rattle.part_reports.specs.WholeLines.{AreShown, SaysMarkedReport, ShowsAll, ShowsFirst, file_as, whole_as, whole_lines_as}
 use Rattle.part_reports.specs.declared.marked_report.MarkedReport.{MarkedReport}
 use Rattle.part_reports.proofs.Listed.{same_items}
 use Rattle.part_reports.proofs.MarkedFiles.{said_at}
@@ -60,6 +60,7 @@ all_first t joined marked count first = record {
 }
 
 pub printed_whole : {E : Type 0} (words : Words) (t : Description) (joined : MarkedReport) (marked : List (FileVerdict × List Run)) (old new : SinkSeen)
-    (r : Result (Unit {0}) E) → ShowsAll t joined marked → WroteAndFlushed old new r (whole_as words t marked joined) → SaysMarked words t joined old new r
+    (r : Result (Unit {0}) E) → ShowsAll t joined marked → WroteAndFlushed old new r (whole_as words t marked joined)
+    → SaysMarkedReport words t joined old new r
 printed_whole words t joined marked old new (Ok u) shows wrote = (marked, shows, wrote)
 printed_whole words t joined marked old new (Err e) shows wrote = inr (marked, shows, wrote)

@@ -38,11 +38,11 @@ abbrev pub HasNoHead : Kind → List ℕ → Type 0
 HasNoHead k text = (part count : ℕ) (hash : List ℕ) → IsOfHash k text part count hash → ⊥
 
 -- the first of these texts begins with the first line of a marked report
-abbrev pub AreMarked : List (List ℕ) → Type 0
-AreMarked texts = (text : List ℕ) × (slice_get texts 0 ≡ Some text)
+abbrev pub AreMarkedTexts : List (List ℕ) → Type 0
+AreMarkedTexts texts = (text : List ℕ) × (slice_get texts 0 ≡ Some text)
     × (part count : ℕ) × (hash : List ℕ) × IsOfHash kind.Marked text part count hash
 
 -- these texts are to be joined as reports of this kind, as their first line says
 abbrev pub AreOfKind : List (List ℕ) → Kind → Type 0
-AreOfKind texts kind.Plain = AreMarked texts → ⊥
-AreOfKind texts kind.Marked = AreMarked texts
+AreOfKind texts kind.Plain = AreMarkedTexts texts → ⊥
+AreOfKind texts kind.Marked = AreMarkedTexts texts

@@ -18,8 +18,8 @@ pub record IsRead (t : Description) (texts : List (List ℕ)) (part count : ℕ)
   pub there : slice_get texts number ≡ Some (part_text t part count p.files p.v1)
 
 -- what these texts report of the first parts of this many, in order
-abbrev pub AreRead : Description → List (List ℕ) → ℕ → List PartReport → Type 0
-AreRead t texts count reports =
+abbrev pub AreReportsRead : Description → List (List ℕ) → ℕ → List PartReport → Type 0
+AreReportsRead t texts count reports =
     (i : ℕ) (p : PartReport) → slice_get reports i ≡ Some p → IsRead t texts i count p
 
 -- a text is what this one of these reports says
@@ -37,7 +37,7 @@ pub record AreJoined (t : Description) (texts : List (List ℕ)) (files : List F
   pub reports : List PartReport
   pub some : 0 < length reports
   pub small : length reports < 2 ^ 64
-  pub are : AreRead t texts (length reports) reports
+  pub are : AreReportsRead t texts (length reports) reports
   pub all : AreAllPlaces t reports
   pub join : IsJoin t reports files v1
   pub part_of : ℕ → ℕ

@@ -105,7 +105,7 @@ pub record ReadsRuns (t : Description) (r : Places) (f : FileEntry) (v : FileVer
 
 -- this is told of a file at the front of a text, as a report of this kind can tell it, and this
 -- follows
-pub record TellsFile (k : Kind) (t : Description) (r : Places) (f : FileEntry) (text : List ℕ)
+pub record TellsOfFile (k : Kind) (t : Description) (r : Places) (f : FileEntry) (text : List ℕ)
     (v : FileVerdict) (runs : List Run) (more : List ℕ) : Type 0 where
   pub can : CanSay t r f v
   pub can_mark : CanMark k t r f v runs
@@ -113,12 +113,12 @@ pub record TellsFile (k : Kind) (t : Description) (r : Places) (f : FileEntry) (
   pub ends : HasNoRun more
 
 -- a text begins so
-abbrev pub HasFile : Kind → Description → Places → FileEntry → List ℕ → Type 0
-HasFile k t r f text =
-    (v : FileVerdict) × (runs : List Run) × (more : List ℕ) × TellsFile k t r f text v runs more
+abbrev pub BeginsWithFile : Kind → Description → Places → FileEntry → List ℕ → Type 0
+BeginsWithFile k t r f text =
+    (v : FileVerdict) × (runs : List Run) × (more : List ℕ) × TellsOfFile k t r f text v runs more
 
 -- it was read, and the pieces of the runs marked; and nothing else can be read there
-pub record ReadsFile (k : Kind) (t : Description) (r : Places) (f : FileEntry) (text : List ℕ)
+pub record ReadsFileLine (k : Kind) (t : Description) (r : Places) (f : FileEntry) (text : List ℕ)
     (v : FileVerdict) (more : List ℕ) (old new : BadPieces) : Type 0 where
   pub runs : List Run
   pub can : CanSay t r f v
@@ -126,7 +126,7 @@ pub record ReadsFile (k : Kind) (t : Description) (r : Places) (f : FileEntry) (
   pub is : text ≡ marked_line t r f v runs ++ more
   pub marks : MarksMore (IsInRuns f runs) old new
   pub only : (w : FileVerdict) (others : List Run) (rest : List ℕ)
-      → TellsFile k t r f text w others rest → (v ≡ w) × (runs ≡ others) × (more ≡ rest)
+      → TellsOfFile k t r f text w others rest → (v ≡ w) × (runs ≡ others) × (more ≡ rest)
 
 -- ---- the lines of all files
 

@@ -7,16 +7,16 @@ use Rattle.parts.specs.PartLines.{part_text}
 use Rattle.parts.specs.Parts.{AreAllPlaces, place_count}
 use Rattle.parts.specs.Shares.{share}
 use Rattle.part_reports.specs.Lines.{CanReportMarked, JoinsMore, MarkedPart, part_of}
-use Rattle.part_reports.specs.Marks.{HasRoom, IsMarked, IsTold, MarksMore}
+use Rattle.part_reports.specs.Marks.{HasMarkRoom, IsPieceMarked, IsTold, MarksMore}
 use Rattle.part_reports.specs.declared.kind.Kind.{Kind}
 use Rattle.part_reports.specs.declared.kind.Kind.TheVariants as kind
 use Rattle.part_reports.specs.declared.marked_report.MarkedReport.{MarkedReport}
 
 -- the report of this one of this many parts, of this kind: without the runs of bad pieces, or with
 -- them
-abbrev pub text_of : Kind → Description → ℕ → ℕ → MarkedPart → List ℕ
-text_of kind.Plain t part count m = part_text t part count (verdicts_of m.marked) m.v1
-text_of kind.Marked t part count m = marked_text t part count m.marked m.v1
+abbrev pub report_text_of : Kind → Description → ℕ → ℕ → MarkedPart → List ℕ
+report_text_of kind.Plain t part count m = part_text t part count (verdicts_of m.marked) m.v1
+report_text_of kind.Marked t part count m = marked_text t part count m.marked m.v1
 
 -- one of these texts is the report of this one of this many parts, which can report this
 pub record IsReadAs (k : Kind) (t : Description) (texts : List (List ℕ)) (part count : ℕ)
@@ -24,7 +24,7 @@ pub record IsReadAs (k : Kind) (t : Description) (texts : List (List ℕ)) (part
   pub places : m.places ≡ share t part count
   pub can : CanReportMarked k t m
   pub number : ℕ
-  pub there : slice_get texts number ≡ Some (text_of k t part count m)
+  pub there : slice_get texts number ≡ Some (report_text_of k t part count m)
 
 -- what these texts report of the first parts of this many, in order
 abbrev pub AreReadAs : Kind → Description → List (List ℕ) → ℕ → List MarkedPart → Type 0
@@ -36,7 +36,7 @@ pub record IsTextAs (k : Kind) (t : Description) (parts : List MarkedPart) (numb
     (text : List ℕ) : Type 0 where
   pub part : MarkedPart
   pub there : slice_get parts number ≡ Some part
-  pub is : text ≡ text_of k t number (length parts) part
+  pub is : text ≡ report_text_of k t number (length parts) part
 
 -- one of these parts tells that this piece of the torrent is bad
 pub record IsToldByOne (t : Description) (parts : List MarkedPart) (piece : ℕ) : Type 0 where
@@ -47,7 +47,7 @@ pub record IsToldByOne (t : Description) (parts : List MarkedPart) (piece : ℕ)
 
 -- the marked pieces are those that one of the parts tells of
 abbrev pub AreMarksOf : Description → List MarkedPart → MarkedReport → Type 0
-AreMarksOf t parts joined = (piece : ℕ) → IsMarked joined.bad piece ↔ IsToldByOne t parts piece
+AreMarksOf t parts joined = (piece : ℕ) → IsPieceMarked joined.bad piece ↔ IsToldByOne t parts piece
 
 -- This joins what the texts report, which are all of this kind: there is the report of each part
 -- among them, and so they have all places of the torrent; each text is the report of a part, and
@@ -66,7 +66,7 @@ pub record AreJoinedAs (k : Kind) (t : Description) (texts : List (List ℕ)) (j
       → IsTextAs k t parts (number_of i) text
   pub once : (i j : ℕ) → i < length texts → j < length texts → number_of i ≡ number_of j → i ≡ j
   pub marks : AreMarksOf t parts joined
-  pub room : HasRoom k (place_count t - 1) joined.bad
+  pub room : HasMarkRoom k (place_count t - 1) joined.bad
 
 -- what a text says, as the report of this one of this many parts, was joined to a report
 pub record JoinsText (k : Kind) (t : Description) (part count : ℕ) (text : List ℕ)
@@ -74,7 +74,7 @@ pub record JoinsText (k : Kind) (t : Description) (part count : ℕ) (text : Lis
   pub said : MarkedPart
   pub places : said.places ≡ share t part count
   pub can : CanReportMarked k t said
-  pub is : text ≡ text_of k t part count said
+  pub is : text ≡ report_text_of k t part count said
   pub joined : JoinsMore (part_of said) old.report.files.items new.report.files.items old.report.v1
       new.report.v1
   pub marks : MarksMore (IsTold t said.marked) old.bad new.bad

@@ -63,29 +63,29 @@ pub record IsTold (t : Description) (marked : List (FileVerdict × List Run)) (p
     pub within : IsInRuns file told.1 piece
 
 -- the piece is marked as bad
-abbrev pub IsMarked : BadPieces → ℕ → Type 0
-IsMarked bad piece = slice_get bad.marks.items piece ≡ Some true
+abbrev pub IsPieceMarked : BadPieces → ℕ → Type 0
+IsPieceMarked bad piece = slice_get bad.marks.items piece ≡ Some true
 
 -- besides the pieces that were marked before exactly these are
 pub record MarksMore (Are : ℕ → Type 0) (old new : BadPieces) : Type 0 where
   pub count : length new.marks.items ≡ length old.marks.items
-  pub each : (piece : ℕ) → IsMarked new piece ↔ (IsMarked old piece ⊎ Are piece)
+  pub each : (piece : ℕ) → IsPieceMarked new piece ↔ (IsPieceMarked old piece ⊎ Are piece)
 
 -- there is a mark for each of this many pieces, if the reports tell of bad ones
-abbrev pub HasRoom : Kind → ℕ → BadPieces → Type 0
-HasRoom kind.Plain pieces bad = ⊤
-HasRoom kind.Marked pieces bad = pieces ≤ length bad.marks.items
+abbrev pub HasMarkRoom : Kind → ℕ → BadPieces → Type 0
+HasMarkRoom kind.Plain pieces bad = ⊤
+HasMarkRoom kind.Marked pieces bad = pieces ≤ length bad.marks.items
 
 -- no piece from one number up to another is marked
 abbrev pub AreUnmarked : BadPieces → ℕ → ℕ → Type 0
-AreUnmarked bad from to = (piece : ℕ) → from ≤ piece → piece < to → IsMarked bad piece → ⊥
+AreUnmarked bad from to = (piece : ℕ) → from ≤ piece → piece < to → IsPieceMarked bad piece → ⊥
 
 -- of the pieces from one number up to another, those from `first` up to `end` are the first run of
 -- marked ones
-pub record IsMarkedRun (bad : BadPieces) (from to first end : ℕ) : Type 0 where
+pub record IsRunOfMarks (bad : BadPieces) (from to first end : ℕ) : Type 0 where
   pub low : from ≤ first
   pub some : first < end
   pub within : end ≤ to
   pub before : AreUnmarked bad from first
-  pub marked : (piece : ℕ) → first ≤ piece → piece < end → IsMarked bad piece
-  pub ends : end < to → IsMarked bad end → ⊥
+  pub marked : (piece : ℕ) → first ≤ piece → piece < end → IsPieceMarked bad piece
+  pub ends : end < to → IsPieceMarked bad end → ⊥

@@ -1,5 +1,5 @@
 -- Why reports are not joined.
-use Rattle.std.specs.Prelude.{◌≡◌, ◌≢◌, ℕ, ◌+◌, ◌<◌, ◌≤◌, ◌^◌, List, length, slice_get, Option, Some, ⊤}
+use Rattle.std.specs.Prelude.{◌≡◌, ◌≢◌, ◌⊎◌, ℕ, ◌+◌, ◌<◌, ◌^◌, List, [], length, slice_get, Option, Some, ⊤}
 use Rattle.opening.specs.Description.{Description}
 use Rattle.folders.specs.declared.report.FileVerdict.{FileVerdict}
 use Rattle.folders.specs.declared.report.V1Verdict.{V1Verdict}
@@ -15,7 +15,7 @@ use Rattle.part_reports.specs.declared.kind.Kind.{Kind}
 use Rattle.part_reports.specs.declared.kind.Kind.TheVariants as kind
 
 -- the text is what this one of this many parts prints of verdicts that it can report
-pub record IsReport (t : Description) (part count : ℕ) (text : List ℕ) : Type 0 where
+pub record IsPlainReport (t : Description) (part count : ℕ) (text : List ℕ) : Type 0 where
   pub there : part < count
   pub small : count < 2 ^ 64
   pub files : List FileVerdict
@@ -34,13 +34,13 @@ pub record IsMarkedReport (t : Description) (part count : ℕ) (text : List ℕ)
   pub is : text ≡ marked_text t part count said.marked said.v1
 
 -- the text is such a report of this kind
-abbrev pub IsReportOf : Kind → Description → ℕ → ℕ → List ℕ → Type 0
-IsReportOf kind.Plain t part count text = IsReport t part count text
-IsReportOf kind.Marked t part count text = IsMarkedReport t part count text
+abbrev pub IsReportOfKind : Kind → Description → ℕ → ℕ → List ℕ → Type 0
+IsReportOfKind kind.Plain t part count text = IsPlainReport t part count text
+IsReportOfKind kind.Marked t part count text = IsMarkedReport t part count text
 
 -- it is no report of this torrent, and does not begin with the first line of one of another torrent
 pub record IsNoReport (k : Kind) (t : Description) (text : List ℕ) : Type 0 where
-  pub none : (part count : ℕ) → IsReportOf k t part count text → ⊥
+  pub none : (part count : ℕ) → IsReportOfKind k t part count text → ⊥
   pub own : (part count : ℕ) (hash : List ℕ) → IsOfHash k text part count hash
       → hash ≡ t.info_hash_v2
 
@@ -49,61 +49,102 @@ abbrev pub IsOfOther : Kind → List ℕ → List ℕ → Type 0
 IsOfOther k own text =
     (part count : ℕ) × (hash : List ℕ) × IsOfHash k text part count hash × (hash ≢ own)
 
--- a text begins with the first line of a report of this kind, of this many parts
-abbrev pub IsOfCount : Kind → ℕ → List ℕ → Type 0
-IsOfCount k count text = (part : ℕ) × (hash : List ℕ) × HasHead k text part count hash
+-- the text at this place is so
+abbrev pub IsNoReportAt : Kind → Description → List (List ℕ) → ℕ → Type 0
+IsNoReportAt k t texts place =
+    (text : List ℕ) × (slice_get texts place ≡ Some text) × IsNoReport k t text
 
--- two texts begin with first lines of reports, of two numbers of parts
-abbrev pub AreOfOtherCounts : Kind → List ℕ → List ℕ → Type 0
-AreOfOtherCounts k first text =
-    (n m : ℕ) × IsOfCount k n first × IsOfCount k m text × (n ≢ m)
+-- ---- by the first lines, in the order of the texts
 
--- a text begins with the first line of the report of the part with this number, which counts from 1
-abbrev pub IsOfPart : Kind → ℕ → List ℕ → Type 0
-IsOfPart k number text =
-    (part count : ℕ) × (hash : List ℕ) × HasHead k text part count hash × (part + 1 ≡ number)
+-- each of the first texts, as many as these numbers are, begins with the first line of this part,
+-- of this many parts of one check of the torrent, and each with that of another one
+pub record AreNamed (k : Kind) (t : Description) (texts : List (List ℕ)) (parts : List ℕ)
+    (count : ℕ) : Type 0 where
+  pub heads : (i p : ℕ) (text : List ℕ) → slice_get texts i ≡ Some text
+      → slice_get parts i ≡ Some p → HasHead k text p count t.info_hash_v2
+  pub once : (i j p : ℕ) → slice_get parts i ≡ Some p → slice_get parts j ≡ Some p → i ≡ j
 
--- two of the texts are of the part with this number
-pub record AreTwo (k : Kind) (texts : List (List ℕ)) (number : ℕ) : Type 0 where
-  pub i : ℕ
-  pub j : ℕ
-  pub first : List ℕ
-  pub second : List ℕ
-  pub order : i < j
-  pub first_is : slice_get texts i ≡ Some first
-  pub second_is : slice_get texts j ≡ Some second
-  pub one : IsOfPart k number first
-  pub other : IsOfPart k number second
+-- the texts before this one begin so, and this holds of their parts, of how many parts there are,
+-- and of the text at the place
+pub record StopsAtReport (k : Kind) (t : Description) (texts : List (List ℕ)) (place : ℕ)
+    (Why : List ℕ → ℕ → List ℕ → Type 0) : Type 0 where
+  pub parts : List ℕ
+  pub count : ℕ
+  pub before : AreNamed k t texts parts count
+  pub all : length parts ≡ place
+  pub text : List ℕ
+  pub there : slice_get texts place ≡ Some text
+  pub why : Why parts count text
 
--- a text begins with the first line of the report of another one of this many parts
-abbrev pub IsOfOtherPart : Kind → ℕ → ℕ → List ℕ → Type 0
-IsOfOtherPart k number count text =
-    (part : ℕ) × (hash : List ℕ) × HasHead k text part count hash × (part + 1 ≢ number)
+-- it begins with the first line of a report of this torrent, of another number of parts than the
+-- texts before it
+abbrev pub IsReportOfOtherCount : Kind → Description → List ℕ → ℕ → List ℕ → Type 0
+IsReportOfOtherCount k t parts count text = (0 < length parts)
+    × (part n : ℕ) × HasHead k text part n t.info_hash_v2 × (n ≢ count)
 
--- there is such a part of this many, and each text is of as many parts, and of another one
-pub record IsMissing (k : Kind) (texts : List (List ℕ)) (number count : ℕ) : Type 0 where
-  pub from_one : 0 < number
-  pub there : number ≤ count
-  pub others : (i : ℕ) (text : List ℕ) → slice_get texts i ≡ Some text
-      → IsOfOtherPart k number count text
+-- it begins with the first line of the part with this number, from 1, of as many parts as the texts
+-- before it, and one of these is of this part too
+abbrev pub IsReportThereTwice : ℕ → Kind → Description → List ℕ → ℕ → List ℕ → Type 0
+IsReportThereTwice number k t parts count text = (part n : ℕ) × HasHead k text part n t.info_hash_v2
+    × (0 < length parts → n ≡ count) × (part + 1 ≡ number)
+    × (i : ℕ) × (slice_get parts i ≡ Some part)
 
--- why a fault of a join of reports of this kind is answered
+-- ---- by the reports, in the order of the parts
+
+-- one of the texts is the whole report of this one of this many parts
+abbrev pub IsThere : Kind → Description → List (List ℕ) → ℕ → ℕ → Type 0
+IsThere k t texts part count =
+    (i : ℕ) × (text : List ℕ) × (slice_get texts i ≡ Some text) × IsReportOfKind k t part count text
+
+-- all texts begin with first lines of different parts of one check of this torrent, and of each
+-- part before this one, which counts from 0, the whole report is there
+pub record StopsBehind (k : Kind) (t : Description) (texts : List (List ℕ)) (part count : ℕ)
+    : Type 0 where
+  pub parts : List ℕ
+  pub named : AreNamed k t texts parts count
+  pub all : length parts ≡ length texts
+  pub there : part < count
+  pub before : (earlier : ℕ) → earlier < part → IsThere k t texts earlier count
+
+-- it stops so at the part of the text at this place, which is not the whole report of it
+pub record IsFirstNoReport (k : Kind) (t : Description) (texts : List (List ℕ)) (place : ℕ) : Type 0
+  where
+    pub part : ℕ
+    pub count : ℕ
+    pub stops : StopsBehind k t texts part count
+    pub text : List ℕ
+    pub at : slice_get texts place ≡ Some text
+    pub head : HasHead k text part count t.info_hash_v2
+    pub none : IsReportOfKind k t part count text → ⊥
+
+-- it stops so at the part with this number, from 1, of which none of the texts is; of no text there
+-- is one part
+pub record IsReportMissing (k : Kind) (t : Description) (texts : List (List ℕ)) (number count : ℕ)
+    : Type 0 where
+  pub part : ℕ
+  pub number_is : number ≡ part + 1
+  pub stops : StopsBehind k t texts part count
+  pub others : (i : ℕ) → slice_get stops.parts i ≢ Some part
+  pub no_text : texts ≡ [] → count ≡ 1
+
+-- ---- all reasons
+
+-- why a fault of a join of reports of this kind is answered: it is the first
 abbrev pub HasReasonOf : Kind → Description → List (List ℕ) → JoinFault → Type 0
-HasReasonOf k t texts (fault.NoReport i) =
-    (text : List ℕ) × (slice_get texts i ≡ Some text) × IsNoReport k t text
+HasReasonOf k t texts (fault.NoReport i) = IsNoReportAt k t texts i
+    × (StopsAtReport k t texts i (λ parts count text. HasNoHead k text)
+    ⊎ IsFirstNoReport k t texts i)
 HasReasonOf k t texts (fault.OtherTorrent i) =
-    (text : List ℕ) × (slice_get texts i ≡ Some text)
-    × IsOfOther k t.info_hash_v2 text
-HasReasonOf k t texts (fault.OtherCount i) =
-    (first text : List ℕ) × (slice_get texts 0 ≡ Some first) × (slice_get texts i ≡ Some text)
-    × AreOfOtherCounts k first text
-HasReasonOf k t texts (fault.Twice number) = AreTwo k texts number
-HasReasonOf k t texts (fault.Missing number count) = IsMissing k texts number count
+    StopsAtReport k t texts i (λ parts count text. IsOfOther k t.info_hash_v2 text)
+HasReasonOf k t texts (fault.OtherCount i) = StopsAtReport k t texts i (IsReportOfOtherCount k t)
+HasReasonOf k t texts (fault.Twice number) =
+    (place : ℕ) × StopsAtReport k t texts place (IsReportThereTwice number k t)
+HasReasonOf k t texts (fault.Missing number count) = IsReportMissing k t texts number count
 HasReasonOf k t texts fault.NoMemory = ⊤
 
 -- the same of reports without runs of bad pieces
-abbrev pub HasReason : Description → List (List ℕ) → JoinFault → Type 0
-HasReason t texts e = HasReasonOf kind.Plain t texts e
+abbrev pub HasJoinReason : Description → List (List ℕ) → JoinFault → Type 0
+HasJoinReason t texts e = HasReasonOf kind.Plain t texts e
 
 -- why the first line of the text at this place is refused
 abbrev pub HasHeadReason : Kind → List ℕ → ℕ → List ℕ → JoinFault → Type 0
@@ -114,13 +155,6 @@ HasHeadReason k own place text (fault.Twice number) = ⊥
 HasHeadReason k own place text (fault.Missing number count) = ⊥
 HasHeadReason k own place text fault.NoMemory = ⊥
 
--- each text begins with the first line of its part, of this torrent, and each of another one
-pub record AreNamed (k : Kind) (t : Description) (texts : List (List ℕ)) (parts : List ℕ)
-    (count : ℕ) : Type 0 where
-  pub heads : (i p : ℕ) (text : List ℕ) → slice_get texts i ≡ Some text
-      → slice_get parts i ≡ Some p → HasHead k text p count t.info_hash_v2
-  pub once : (i j p : ℕ) → slice_get parts i ≡ Some p → slice_get parts j ≡ Some p → i ≡ j
-
 -- These are the reports of all parts of one check of this torrent, of this kind, each once, in any
 -- order: the text at each place is of one part, and the report of each part has a place.
 pub record AreAllReportsOf (k : Kind) (t : Description) (texts : List (List ℕ)) : Type 0 where
@@ -128,7 +162,7 @@ pub record AreAllReportsOf (k : Kind) (t : Description) (texts : List (List ℕ)
   pub part_of : ℕ → ℕ
   pub place_of : ℕ → ℕ
   pub are : (i : ℕ) (text : List ℕ) → slice_get texts i ≡ Some text
-      → IsReportOf k t (part_of i) (length texts) text
+      → IsReportOfKind k t (part_of i) (length texts) text
   pub once : (i j : ℕ) → i < length texts → j < length texts → part_of i ≡ part_of j → i ≡ j
   pub all : (part : ℕ) → part < length texts
       → (place_of part < length texts) × (part_of (place_of part) ≡ part)

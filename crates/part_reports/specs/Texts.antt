@@ -9,12 +9,12 @@ use Rattle.folders.specs.declared.report.FileVerdict.TheVariants as file
 use Rattle.folders.specs.declared.report.V1Verdict.{V1Verdict}
 use Rattle.folders.specs.Folder.{GoodFolder}
 use Rattle.parts.specs.Collisions.{FileCollides}
-use Rattle.parts.specs.Laws.{IsReportOf}
+use Rattle.parts.specs.Laws.{IsReportOfContents}
 use Rattle.parts.specs.PartLines.{has_place, part_text}
 use Rattle.parts.specs.Parts.{IsTruePart, PartReport}
 use Rattle.parts.specs.Shares.{share}
 use Rattle.part_reports.specs.Joined.{AreJoined}
-use Rattle.part_reports.specs.Reasons.{IsReport}
+use Rattle.part_reports.specs.Reasons.{IsPlainReport}
 
 -- this one of this many parts reports these verdicts
 abbrev pub reported : Description → ℕ → ℕ → List FileVerdict → Option V1Verdict → PartReport
@@ -48,7 +48,7 @@ TextsMakeTheReport =
     (t : Description) (contents : Contents) (texts : List (List ℕ)) (files : List FileVerdict)
     (v1 : Option V1Verdict) → IsSound t → AreTrueReports t contents texts
     → AreJoined t texts files v1
-    → IsReportOf t contents files v1 ⊎ FileCollides t contents
+    → IsReportOfContents t contents files v1 ⊎ FileCollides t contents
 
 -- A yes of the texts is a yes: if each is the report of a part, and true of the same contents, and
 -- what is joined of them says yes, the folder is good. No collision excuses it.
@@ -65,4 +65,4 @@ TruePartsReport = (t : Description) (contents : Contents) (part count : ℕ)
     → IsTruePart t contents (reported t part count files v1)
     → ((n : ℕ) (f : FileEntry) (v : FileVerdict) → slice_get t.files n ≡ Some f
     → slice_get files n ≡ Some v → has_place t (share t part count) f ≡ false → v ≡ file.Good)
-    → IsReport t part count (part_text t part count files v1)
+    → IsPlainReport t part count (part_text t part count files v1)

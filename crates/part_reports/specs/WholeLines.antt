@@ -10,7 +10,7 @@ use Rattle.parts.specs.Parts.{piece_count}
 use Rattle.parts.specs.Runs.{AreBadRuns, Run, runs_as}
 use Rattle.parts.specs.Telling.{has_runs}
 use Rattle.parts.specs.Words.{Words, words_in_text}
-use Rattle.part_reports.specs.Marks.{IsMarked}
+use Rattle.part_reports.specs.Marks.{IsPieceMarked}
 use Rattle.part_reports.specs.declared.marked_report.BadPieces.{BadPieces}
 use Rattle.part_reports.specs.declared.marked_report.MarkedReport.{MarkedReport}
 
@@ -36,21 +36,21 @@ whole_lines t xs fs = whole_lines_as words_in_text t xs fs
 
 -- a piece of a file, by its number within the file, is not marked as bad
 abbrev pub IsNotBad : BadPieces → FileEntry → ℕ → Type 0
-IsNotBad bad f k = IsMarked bad (f.first_piece + k) → ⊥
+IsNotBad bad f k = IsPieceMarked bad (f.first_piece + k) → ⊥
 
 -- these are the maximal runs of marked pieces of a file that begin before one of its pieces
-abbrev pub AreMarkedRuns : Description → BadPieces → FileEntry → ℕ → List Run → Type 0
-AreMarkedRuns t bad f to runs = AreBadRuns (piece_count t f) to (IsNotBad bad f) runs
+abbrev pub AreRunsOfMarks : Description → BadPieces → FileEntry → ℕ → List Run → Type 0
+AreRunsOfMarks t bad f to runs = AreBadRuns (piece_count t f) to (IsNotBad bad f) runs
 
 -- these are all of them, if the bad pieces of the file are printed, else none
 abbrev pub AreShown : Description → BadPieces → FileEntry → Bool → List Run → Type 0
-AreShown t bad f true runs = AreMarkedRuns t bad f (piece_count t f) runs
+AreShown t bad f true runs = AreRunsOfMarks t bad f (piece_count t f) runs
 AreShown t bad f false runs = runs ≡ []
 
 -- these are the first of them
 abbrev pub AreFirstShown : Description → BadPieces → FileEntry → Bool → List Run → Type 0
 AreFirstShown t bad f true runs =
-    (to : ℕ) × (to ≤ piece_count t f) × AreMarkedRuns t bad f to runs
+    (to : ℕ) × (to ≤ piece_count t f) × AreRunsOfMarks t bad f to runs
 AreFirstShown t bad f false runs = runs ≡ []
 
 -- ---- what went out
@@ -74,7 +74,7 @@ pub record ShowsAll (t : Description) (joined : MarkedReport)
 abbrev pub SaysRuns : {E : Type 0} → Words → Description → BadPieces → FileEntry → SinkSeen
     → SinkSeen → Result (Unit {0}) E → Type 0
 SaysRuns words t bad f old new r = MatchResult r
-    (λ _. (runs : List Run) × AreMarkedRuns t bad f (piece_count t f) runs
+    (λ _. (runs : List Run) × AreRunsOfMarks t bad f (piece_count t f) runs
     × Sent old new (runs_as words.run t f runs))
     (λ _. (runs : List Run) × AreFirstShown t bad f true runs
     × Broke old new (runs_as words.run t f runs))
@@ -120,8 +120,8 @@ abbrev pub whole_text : Description → List (FileVerdict × List Run) → Marke
 whole_text t marked joined = whole_as words_in_text t marked joined
 
 -- all went out, and was flushed
-abbrev pub SaysWhole : Words → Description → MarkedReport → SinkSeen → SinkSeen → Type 0
-SaysWhole words t joined old new = (marked : List (FileVerdict × List Run))
+abbrev pub SaysWholeReport : Words → Description → MarkedReport → SinkSeen → SinkSeen → Type 0
+SaysWholeReport words t joined old new = (marked : List (FileVerdict × List Run))
     × ShowsAll t joined marked × SentAndFlushed old new (whole_as words t marked joined)
 
 -- it broke off in the lines of a file, or behind them
@@ -133,14 +133,16 @@ StopsSaying words t joined old new = StopsAtFile words t joined old new
 -- What a call that says a report with its bad pieces did, by its answer: of each file its line, and
 -- behind that of one that is bad or has another length the lines of the maximal runs of its bad
 -- pieces; and then the end. Or this broke off.
-abbrev pub SaysMarked : {E : Type 0} → Words → Description → MarkedReport → SinkSeen → SinkSeen
+abbrev pub SaysMarkedReport : {E : Type 0} → Words → Description → MarkedReport → SinkSeen
+    → SinkSeen
     → Result (Unit {0}) E → Type 0
-SaysMarked words t joined old new r =
-    MatchResult r (λ _. SaysWhole words t joined old new) (λ _. StopsSaying words t joined old new)
+SaysMarkedReport words t joined old new r =
+    MatchResult r (λ _. SaysWholeReport words t joined old new)
+    (λ _. StopsSaying words t joined old new)
 
 -- What a call that prints a report with its bad pieces did, by its answer: of each file its line as
 -- it is printed, and behind that of one that is bad or has another length the lines of the maximal
 -- runs of its bad pieces; and then the end. Or this broke off.
-abbrev pub PrintsMarked : {E : Type 0} → Description → MarkedReport → SinkSeen → SinkSeen
+abbrev pub PrintsMarkedReport : {E : Type 0} → Description → MarkedReport → SinkSeen → SinkSeen
     → Result (Unit {0}) E → Type 0
-PrintsMarked t joined old new r = SaysMarked words_in_text t joined old new r
+PrintsMarkedReport t joined old new r = SaysMarkedReport words_in_text t joined old new r

@@ -5,9 +5,9 @@ ghost use Rattle.parts.specs.Parts.{place_count};
 ghost use Rattle.parts.specs.Shares.{share};
 ghost use Rattle.part_reports.specs.Joined.{AreJoined};
 ghost use Rattle.part_reports.specs.MarkedJoins.{AreJoinedAs, JoinsText};
-ghost use Rattle.part_reports.specs.Marks.{HasRoom, IsMarked};
+ghost use Rattle.part_reports.specs.Marks.{HasMarkRoom, IsPieceMarked};
 ghost use Rattle.part_reports.specs.Numbers.{text_count};
-ghost use Rattle.part_reports.specs.Reasons.{AreNamed, HasReason, HasReasonOf, IsReportOf};
+ghost use Rattle.part_reports.specs.Reasons.{AreNamed, HasJoinReason, HasReasonOf, IsReportOfKind};
 ghost use Rattle.part_reports.specs.declared.marked_report.BadPieces.{BadPieces as OfBad};
 
 use crate::head::behind_head;
@@ -29,9 +29,11 @@ use std::alloc::{AllocError, Global};
 ///
 /// # Errors
 ///
-/// Each fault comes only for what it says, so that the reports of all parts, each once, are joined
-/// (`laws::all_reports_are_joined`). `NoMemory`: memory was refused for the numbers of the parts or
-/// for the report.
+/// The first of these. By the first lines, in the order of the reports: `NoReport`,
+/// `OtherTorrent`, `OtherCount` and `Twice`. Then part after part: `Missing`, or `NoReport` of what
+/// is not the whole report of its part; of no reports part 1 of 1 is missing. So the reports of all
+/// parts, each once, are joined (`laws::all_reports_are_joined`). `NoMemory`: memory was refused
+/// for the numbers of the parts or for the report.
 pub fn join_reports(
     alloc: Global,
     torrent: &Torrent<'_>,
@@ -39,7 +41,7 @@ pub fn join_reports(
 ) -> Result<Report, JoinFault>
     ensures joined { IfOk result (λ r.
         AreJoined torrent.now (map (λ x. x.now) texts.now) r.files.items r.v1) }
-    ensures reason { IfErr result (HasReason torrent.now (map (λ x. x.now) texts.now)) }
+    ensures reason { IfErr result (HasJoinReason torrent.now (map (λ x. x.now) texts.now)) }
 {
     Ok(join_all(alloc, torrent, Kind::Plain, texts)?.report)
 }
@@ -73,10 +75,10 @@ fn join_all(
     ensures joined { IfOk result (AreJoinedAs kind torrent.now (map (λ x. x.now) texts.now)) }
     ensures reason { IfErr result (HasReasonOf kind torrent.now (map (λ x. x.now) texts.now)) }
 {
-    let numbers = Numbers::of(alloc, torrent, kind, texts)?;
-    if numbers.count == 0 {
+    if texts.is_empty() {
         return Err(JoinFault::Missing(1, 1));
     }
+    let numbers = Numbers::of(alloc, torrent, kind, texts)?;
     join_parts(alloc, torrent, kind, &numbers, texts)
 }
 
@@ -88,7 +90,7 @@ fn join_parts(
     numbers: &Numbers,
     texts: &[&[u8]],
 ) -> Result<MarkedReport, JoinFault>
-    requires some { 0 < numbers.now.count }
+    requires some { 0 < length texts.now }
     requires texts { text_count numbers.now ≡ length texts.now }
     requires named { AreNamed kind torrent.now (map (λ x. x.now) texts.now)
         numbers.now.parts.items numbers.now.count }
@@ -133,8 +135,9 @@ fn join_text(
     requires places { places ≡ share torrent.now part division.now.parts }
     requires files { length joined.old.report.files.items ≡ length torrent.now.files }
     requires hybrid { is_some joined.old.report.v1 ≡ is_some torrent.now.v1 }
-    requires room { HasRoom kind division.now.pieces joined.old.bad }
-    ensures { MatchOption result (IsReportOf kind torrent.now part division.now.parts text.now → ⊥)
+    requires room { HasMarkRoom kind division.now.pieces joined.old.bad }
+    ensures { MatchOption result
+        (IsReportOfKind kind torrent.now part division.now.parts text.now → ⊥)
         (λ u. JoinsText kind torrent.now part division.now.parts text.now joined.old joined.new) }
 {
     let lines = behind_head(torrent, kind, part, division.parts, text)?;
@@ -153,8 +156,8 @@ fn all_good(
         r.report.files.items ≡ replicate (length torrent.now.files) FileVerdict.Good) }
     ensures hybrid { IfOk result (λ r. is_some r.report.v1 ≡ is_some torrent.now.v1) }
     ensures version1 { IfOk result (λ r. (v : OfV1) → r.report.v1 ≡ Some v → v ≡ V1Verdict.Good) }
-    ensures room { IfOk result (λ r. HasRoom kind pieces r.bad) }
-    ensures none { IfOk result (λ r. (piece : ℕ) → IsMarked r.bad piece → ⊥) }
+    ensures room { IfOk result (λ r. HasMarkRoom kind pieces r.bad) }
+    ensures none { IfOk result (λ r. (piece : ℕ) → IsPieceMarked r.bad piece → ⊥) }
 {
     let bad = BadPieces::none(alloc, mark_count(kind, pieces))?;
     let mut files = Vec::new(alloc);
@@ -169,7 +172,7 @@ fn all_good(
 
 // How many marks reports of this kind need, for this many pieces.
 fn mark_count(kind: Kind, pieces: u64) -> u64
-    ensures { (bad : OfBad) → length bad.marks.items ≡ result → HasRoom kind pieces bad }
+    ensures { (bad : OfBad) → length bad.marks.items ≡ result → HasMarkRoom kind pieces bad }
 {
     match kind {
         Kind::Plain => 0,

@@ -12,12 +12,12 @@ pub struct BadPieces {
 }
 
 impl BadPieces {
-    ghost use Rattle.part_reports.specs.Marks.{AreUnmarked, IsMarked, IsMarkedRun, MarksMore};
+    ghost use Rattle.part_reports.specs.Marks.{AreUnmarked, IsPieceMarked, IsRunOfMarks, MarksMore};
 
     /// None of this many pieces.
     pub(crate) fn none(alloc: Global, pieces: u64) -> Result<BadPieces, AllocError>
         ensures count { IfOk result (λ b. length b.marks.items ≡ pieces) }
-        ensures none { IfOk result (λ b. (piece : ℕ) → IsMarked b piece → ⊥) }
+        ensures none { IfOk result (λ b. (piece : ℕ) → IsPieceMarked b piece → ⊥) }
     {
         let mut marks = Vec::new(alloc);
         marks.resize(pieces as usize, false)?;
@@ -40,7 +40,7 @@ impl BadPieces {
     pub(crate) fn next_run(&self, from: u64, to: u64) -> Option<(u64, u64)>
         requires { to ≤ length self.now.marks.items }
         ensures { MatchOption result (AreUnmarked self.now from to)
-            (λ run. IsMarkedRun self.now from to run.0 run.1) }
+            (λ run. IsRunOfMarks self.now from to run.0 run.1) }
     {
         let mut first = from;
         'good: while first < to && !self.marks[first as usize] {

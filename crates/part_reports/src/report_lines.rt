@@ -5,8 +5,8 @@ ghost use Rattle.folders.specs.Printed.{stream_words};
 ghost use Rattle.folders.specs.Verdicts.{IsFileOf, is_good, is_whole, stream_is_good};
 ghost use Rattle.folders.specs.declared.report.V1Verdict.{V1Verdict as OfV1};
 ghost use Rattle.opening.specs.Seen.{file_entry};
-ghost use Rattle.part_reports.specs.Lines.{HasLines, JoinsLines, HasFile, HasLine, ReadsFile, ReadsLine, HasEnd, IsSmallV1, ReadsEnd, SaysEnd};
-ghost use Rattle.part_reports.specs.Marks.{HasRoom};
+ghost use Rattle.part_reports.specs.Lines.{HasLines, JoinsLines, BeginsWithFile, HasLine, ReadsFileLine, ReadsLine, HasEnd, IsSmallV1, ReadsEnd, SaysEnd};
+ghost use Rattle.part_reports.specs.Marks.{HasMarkRoom};
 ghost use Rattle.part_reports.specs.Reported.{CanSay, IsPieceIn};
 ghost use Rattle.parts.specs.PartLines.{has_place, answer_line};
 ghost use Rattle.parts.specs.Parts.{place_count, piece_count as pieces_in};
@@ -37,7 +37,7 @@ pub(crate) fn join_lines(
     requires pieces { pieces + 1 ≡ place_count torrent.now }
     requires files { length joined.old.report.files.items ≡ length torrent.now.files }
     requires hybrid { is_some joined.old.report.v1 ≡ is_some torrent.now.v1 }
-    requires room { HasRoom kind pieces joined.old.bad }
+    requires room { HasMarkRoom kind pieces joined.old.bad }
     ensures { MatchOption result (HasLines kind torrent.now places lines.now → ⊥)
         (λ u. JoinsLines kind torrent.now places lines.now joined.old joined.new) }
 {
@@ -98,10 +98,10 @@ fn read_file<'a>(
 ) -> Option<(FileVerdict, &'a [u8])>
     requires file { IsFileOf torrent.now (file_entry file.now) }
     requires room { let f = file_entry file.now in
-        HasRoom kind (f.first_piece + pieces_in torrent.now f) bad.old }
+        HasMarkRoom kind (f.first_piece + pieces_in torrent.now f) bad.old }
     ensures { let f = file_entry file.now in
-        MatchOption result (HasFile kind torrent.now places f text.now → ⊥)
-        (λ x. ReadsFile kind torrent.now places f text.now x.0 x.1.now bad.old bad.new) }
+        MatchOption result (BeginsWithFile kind torrent.now places f text.now → ⊥)
+        (λ x. ReadsFileLine kind torrent.now places f text.now x.0 x.1.now bad.old bad.new) }
 {
     torrent.recall_sound();
     let (verdict, rest) = read_verdict(torrent, file, places, text)?;

@@ -1,7 +1,7 @@
 //! Where the parts of a check begin, counted from one to the next.
 ghost use Rattle.std.specs.Prelude.{◌≡◌, ◌+◌, ◌*◌, ◌<◌, ◌≤◌};
 ghost use Rattle.parts.specs.Parts.{place_count};
-ghost use Rattle.parts.specs.Shares.{place_in, start};
+ghost use Rattle.parts.specs.Shares.{piece_at_byte, start};
 
 use opening::Torrent;
 use parts::piece_count;
@@ -87,7 +87,7 @@ impl Division {
     fn start_at(&self, torrent: &Torrent<'_>, byte: u64, before: Start) -> Start
         requires pieces { self.now.pieces + 1 ≡ place_count torrent.now }
         requires passed { IsPassed torrent.now before byte }
-        ensures place { result.place ≡ place_in torrent.now.piece_length
+        ensures place { result.place ≡ piece_at_byte torrent.now.piece_length
             (place_count torrent.now) torrent.now.files byte }
         ensures passed { IsPassed torrent.now result byte }
     {

@@ -4,7 +4,7 @@ ghost use Rattle.folders.specs.Verdicts.{IsFileOf};
 ghost use Rattle.opening.specs.Seen.{file_entry};
 ghost use Rattle.parts.specs.Parts.{piece_count as pieces_in, place_count};
 ghost use Rattle.parts.specs.Words.{words_as};
-ghost use Rattle.part_reports.specs.WholeLines.{PrintsMarked, SaysFile, SaysFiles, SaysMarked, SaysRuns};
+ghost use Rattle.part_reports.specs.WholeLines.{PrintsMarkedReport, SaysFile, SaysFiles, SaysMarkedReport, SaysRuns};
 
 use crate::marked_report::{BadPieces, MarkedReport};
 use benc::{DeviceFault, Sink, WriteFault};
@@ -26,7 +26,7 @@ pub fn print_marked_report<W: Sink>(
 ) -> Result<(), WriteFault>
     requires files { length joined.now.report.files.items ≡ length torrent.now.files }
     requires room { place_count torrent.now ≤ length joined.now.bad.marks.items + 1 }
-    ensures { PrintsMarked torrent.now joined.now (W.seen out.old) (W.seen out.new) result }
+    ensures { PrintsMarkedReport torrent.now joined.now (W.seen out.old) (W.seen out.new) result }
 {
     say_marked_report(joined, torrent, out)
 }
@@ -40,7 +40,7 @@ pub fn say_marked_report<L: LineSink>(
 ) -> Result<(), WriteFault>
     requires files { length joined.now.report.files.items ≡ length torrent.now.files }
     requires room { place_count torrent.now ≤ length joined.now.bad.marks.items + 1 }
-    ensures { SaysMarked (words_as L.spelled) torrent.now joined.now (L.seen out.old)
+    ensures { SaysMarkedReport (words_as L.spelled) torrent.now joined.now (L.seen out.old)
         (L.seen out.new) result }
 {
     say_files(joined, torrent, out)?;

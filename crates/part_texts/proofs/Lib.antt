@@ -2,3 +2,4 @@
 pub mod Fronts
 pub mod Heads
 pub mod Numbers
+pub mod Listed

@@ -1,5 +1,6 @@
 -- What a folder was found to hold, and what is made of it.
-use Rattle.std.specs.Prelude.{ℕ, Bool, List, map, string_bytes}
+use Rattle.std.specs.Global.{Global, Vec}
+use Rattle.std.specs.Prelude.{ℕ, Bool, List, [], ◌∷◌, String, map, string_bytes}
 use Rattle.part_texts.specs.declared.listing.ListedFile.{ListedFile}
 use Rattle.part_texts.specs.declared.listing.Listing.{Listing}
 
@@ -25,3 +26,14 @@ inventory l = record {
   hybrid = l.hybrid;
   files = map listed l.files.items;
 }
+
+-- the components of a path
+abbrev pub texts_of : Vec (String Global) → List (List ℕ)
+texts_of path = map string_bytes path.items
+
+-- the files with these paths and of these lengths, in turn
+abbrev pub files_at_paths : List (List (List ℕ)) → List ℕ → List Listed
+files_at_paths [] lengths = []
+files_at_paths (path ∷ paths) [] = []
+files_at_paths (path ∷ paths) (n ∷ lengths) =
+    record { path = path; bytes = n } ∷ files_at_paths paths lengths

@@ -18,12 +18,12 @@ abbrev pub sized : List ℕ → List ℕ
 sized bytes = number_text (length bytes) ++ bytes
 
 -- a path: the number of its components, and each of them
-abbrev pub path_text : List (List ℕ) → List ℕ
-path_text path = number_text (length path) ++ flat_map sized path
+abbrev pub counted_path_text : List (List ℕ) → List ℕ
+counted_path_text path = number_text (length path) ++ flat_map sized path
 
 -- a listed file: its length, and its path
 abbrev pub file_text : Listed → List ℕ
-file_text f = number_text f.bytes ++ path_text f.path
+file_text f = number_text f.bytes ++ counted_path_text f.path
 
 -- what was listed, and what is made of it
 abbrev pub listing_text : Inventory → List ℕ
@@ -32,10 +32,10 @@ listing_text l =
     ++ (number_text (length l.files) ++ flat_map file_text l.files)))
 
 -- the first line, with the version
-abbrev pub first_line : List ℕ
-first_line = codes "btcheck part of a torrent 1" ++ 10 ∷ []
+abbrev pub version_line : List ℕ
+version_line = codes "btcheck part of a torrent 1" ++ 10 ∷ []
 
 -- what stands before what was hashed: which part it is, from 1, of how many, and of what
 abbrev pub head_text : ℕ → ℕ → List ℕ → List ℕ
 head_text part parts listing =
-    first_line ++ (number_text (part + 1) ++ (number_text parts ++ sized listing))
+    version_line ++ (number_text (part + 1) ++ (number_text parts ++ sized listing))

@@ -11,6 +11,6 @@ mod writing;
 
 pub use division::{Division, Span, hashed};
 pub use head::{Head, read_head};
-pub use listing::{ListedFile, Listing};
+pub use listing::{ListedFile, Listing, listed_files};
 pub use reading::{ListingFault, read_listing};
 pub use writing::write_head;

@@ -8,6 +8,7 @@ pub(crate) fn number(text: &[u8]) -> Option<(u64, &[u8])>
     ensures written { (n : ℕ) (more : List ℕ) → n < 2 ^ 64 → text.now ≡ number_text n ++ more
         → IsSomeAnd result (λ p. (p.0 ≡ n) × (p.1.now ≡ more)) }
     ensures front { IfSome result (λ p. text.now ≡ number_text p.0 ++ p.1.now) }
+    ensures small { IfSome result (λ p. p.0 < 2 ^ 64) }
     ensures shorter { IfSome result (λ p. length p.1.now + 8 ≡ length text.now) }
 {
     let (bytes, rest) = text.split_first_chunk::<8>()?;
@@ -16,8 +17,9 @@ pub(crate) fn number(text: &[u8]) -> Option<(u64, &[u8])>
 
 /// Whether the number in front is 1, and what stands behind it; `None` if it is above 1.
 pub(crate) fn flag(text: &[u8]) -> Option<(bool, &[u8])>
-    ensures { (b : Bool) (more : List ℕ) → text.now ≡ flag_text b ++ more
+    ensures written { (b : Bool) (more : List ℕ) → text.now ≡ flag_text b ++ more
         → IsSomeAnd result (λ p. (p.0 ≡ b) × (p.1.now ≡ more)) }
+    ensures front { IfSome result (λ p. text.now ≡ flag_text p.0 ++ p.1.now) }
 {
     let (number, rest) = number(text)?;
     match number {

@@ -17,7 +17,7 @@ use Rattle.partial_tree.specs.declared.refusal.HashRefusal.TheVariants.{Mismatch
 use Rattle.partial_tree.specs.Claims.{AreHashes, IsMismatch, IsAgreed, joined}
 use Rattle.partial_tree.specs.Fill.{fill_claims, FillRefuses}
 use Rattle.partial_tree.specs.Joins.{TakesLayer}
-use Rattle.partial_tree.specs.Grown.{AgreeInTree, GrownTree, FollowsFromLeaves, grown, leaves_in}
+use Rattle.partial_tree.specs.Grown.{AgreeInTree, GrownTree, FollowsFromLeaves, grown, first_leaves}
 use Rattle.partial_tree.specs.Kept.{KeptTree, IsGoodTree, TreeTakesLayer, TreeRefusesLayer, kept}
 use Rattle.node_maps.specs.Digest.{Hash}
 use Rattle.partial_tree.proofs.Keeping.{good_filled}
@@ -77,19 +77,20 @@ carried-all old M n few is = same_set nat_cmp_total nat_cmp-IsAntisymmetric M ol
 
 module _ (n : ℕ) (K K' : Known) (is : FollowsFromLeaves n (block_count n) K') (in_tree : (l i : ℕ) (v : List ℕ) → look K l i ≡ Some v
     → IsTreePlace (tree_height n) l i) where
-  right : length (leaves_in K' (block_count n)) ≡ block_count n
+  right : length (first_leaves K' (block_count n)) ≡ block_count n
   right = length-leaves K' (block_count n)
 
   -- the whole tree is claimed
   pub place-known : (l i : ℕ) → IsTreePlace (tree_height n) l i → IsKnown (look K') l i
   place-known l i at =
-      let claim = all-claimed n (leaves_in K' (block_count n)) right l i at in
+      let claim = all-claimed n (first_leaves K' (block_count n)) right l i at in
       (claim.0, is.claimed l i ∙ claim.1)
 
-  agrees : AgreeInTree (look K) (look K') (tree_height n) → IsAgreed (look K) (fill_claims n 0 (leaves_in K' (block_count n)))
+  agrees : AgreeInTree (look K) (look K') (tree_height n) → IsAgreed (look K) (fill_claims n 0 (first_leaves K' (block_count n)))
   agrees same l i u v known claim = same l i (in_tree l i u known) u v known (is.claimed l i ∙ claim)
 
-  same-joined : AgreeInTree (look K) (look K') (tree_height n) → (l i : ℕ) → look K' l i ≡ joined (look K) (fill_claims n 0 (leaves_in K' (block_count n))) l i
+  same-joined : AgreeInTree (look K) (look K') (tree_height n) → (l i : ℕ)
+      → look K' l i ≡ joined (look K) (fill_claims n 0 (first_leaves K' (block_count n))) l i
   same-joined same l i = elim (some_or_none (look K l i)) [
     | inl (u, known) ↦
         let here = place-known l i (in_tree l i u known) in
@@ -97,16 +98,16 @@ module _ (n : ℕ) (K K' : Known) (is : FollowsFromLeaves n (block_count n) K') 
     | inr none ↦ is.claimed l i ∙ sym (second_of_two (look K l i) _ none)
   ]
 
-  pub takes-grown : (c : ℕ) → AgreeInTree (look K) (look K') (tree_height n) → len K' ≡ len K + c → TakesLayer n 0 (leaves_in K' (block_count n)) K c K'
+  pub takes-grown : (c : ℕ) → AgreeInTree (look K) (look K') (tree_height n) → len K' ≡ len K + c → TakesLayer n 0 (first_leaves K' (block_count n)) K c K'
   takes-grown c same gained = (
-    record { layer_inside = omega arith; right_count = all_given n (leaves_in K' (block_count n)) right; agrees = agrees same },
+    record { layer_inside = omega arith; right_count = all_given n (first_leaves K' (block_count n)) right; agrees = agrees same },
     record { agreed = agrees same; joined_is = same-joined same; gained = gained },
   )
 
-  pub refuses-grown : IsMismatch (look K) (look K') → FillRefuses n (look K) 0 (leaves_in K' (block_count n)) Mismatch
+  pub refuses-grown : IsMismatch (look K) (look K') → FillRefuses n (look K) 0 (first_leaves K' (block_count n)) Mismatch
   refuses-grown m = (
     omega arith,
-    all_given n (leaves_in K' (block_count n)) right,
+    all_given n (first_leaves K' (block_count n)) right,
     record {
       layer = m.layer;
       index = m.index;
@@ -120,11 +121,26 @@ module _ (n : ℕ) (K K' : Known) (is : FollowsFromLeaves n (block_count n) K') 
 
 -- ---- as trees keep them
 
-module _ (n : ℕ) (root : Hash) (K K' : Known) (M : Marked) (old : KeptTree) (new : GrownTree) (old_is : kept root n K M ≡ old)
-    (new_is : grown n (leaves_in K' (block_count n)) ≡ new)
-    (good : IsGoodTree old) (is : FollowsFromLeaves n (block_count n) K') where
+-- a good tree, and one that grew, of files of one length
+pub record AreOfOneLength (n m : ℕ) (root : Hash) (K K' : Known) (M : Marked) (old : KeptTree) (new : GrownTree) : Type 0 where
+  pub old_is : kept root n K M ≡ old
+  pub grown_is : grown m (first_leaves K' (block_count m)) ≡ new
+  pub lengths : new.length ≡ old.length
+  pub grows : FollowsFromLeaves m (block_count m) K'
+  pub good : IsGoodTree old
+
+module _ {n m : ℕ} {root : Hash} {K K' : Known} {M : Marked} {old : KeptTree} {new : GrownTree} (x : AreOfOneLength n m root K K' M old new) where
+  pub same-length : m ≡ n
+  same-length = ap (λ (t : GrownTree). t.length) x.grown_is ∙ x.lengths ∙ sym (ap (λ (t : KeptTree). t.length) x.old_is)
+
+  new_is : grown n (first_leaves K' (block_count n)) ≡ new
+  new_is = subst (λ n. grown n (first_leaves K' (block_count n)) ≡ new) same-length x.grown_is
+
+  is : FollowsFromLeaves n (block_count n) K'
+  is = subst (λ n. FollowsFromLeaves n (block_count n) K') same-length x.grows
+
   inside : (l i : ℕ) (v : Hash) → look K l i ≡ Some v → IsTreePlace (tree_height n) l i
-  inside l i v e = (subst IsGoodTree (sym old_is) good).closed.in_tree l i v e
+  inside l i v e = (subst IsGoodTree (sym x.old_is) x.good).closed.in_tree l i v e
 
   pub first-known : (j : ℕ) → j < 2 ^ tree_height n → IsKnown (look K') 0 (0 + j)
   first-known j low =
@@ -140,19 +156,19 @@ module _ (n : ℕ) (root : Hash) (K K' : Known) (M : Marked) (old : KeptTree) (n
   adopted c after marks same stays carried gained =
       subst (λ J. TreeTakesLayer old 0 new.leaves c (kept root n J marks)) (sym stays)
       (subst (λ m. TreeTakesLayer old 0 new.leaves c (kept root n K' m)) (sym carried)
-      (subst (λ t. TreeTakesLayer t 0 new.leaves c (kept root n K' M)) old_is
+      (subst (λ t. TreeTakesLayer t 0 new.leaves c (kept root n K' M)) x.old_is
       (subst (λ (t : GrownTree). TreeTakesLayer (kept root n K M) 0 t.leaves c (kept root n K' M)) new_is (takes-grown n K K' is inside c same gained, refl))))
 
   pub not-adopted : IsMismatch (look K) (look K') → TreeRefusesLayer old 0 new.leaves Mismatch
   not-adopted m =
-      subst (λ t. TreeRefusesLayer t 0 new.leaves Mismatch) old_is
+      subst (λ t. TreeRefusesLayer t 0 new.leaves Mismatch) x.old_is
       (subst (λ (t : GrownTree). TreeRefusesLayer (kept root n K M) 0 t.leaves Mismatch) new_is (refuses-grown n K K' is inside m))
 
   -- the tree that took over is good
   pub good-adopted : (c : ℕ) (after : KeptTree) → TreeTakesLayer old 0 new.leaves c after → IsGoodTree after
   good-adopted c after taken =
       let sizes : AreHashes new.leaves = subst (λ (t : GrownTree). AreHashes t.leaves) new_is is.hashes in
-      good_filled old after 0 new.leaves c good sizes taken
+      good_filled old after 0 new.leaves c x.good sizes taken
 
 -- the number of a tree's places, as it is computed
 pub places_of : (h : ℕ) → h ≤ 32 → 2 * 2 ^ h % 18446744073709551616 ≡ 2 ^ suc h

@@ -25,7 +25,7 @@ use Rattle.node_maps.proofs.Runs.{hashes-one, hashes-alike}
 use Rattle.partial_tree.specs.TreeRoot.{TreeRoot}
 use Rattle.partial_tree.specs.Claims.{AreHashes, claims, given, base_hash, uncle_hash, cover, join_both}
 use Rattle.partial_tree.specs.Fill.{fill_ask, fill_hashes, fill_claims, pad_from}
-use Rattle.partial_tree.specs.Grown.{AddsRow, IsGrowing, leaves_in, parents_of}
+use Rattle.partial_tree.specs.Grown.{AddsRow, IsGrowing, first_leaves, parents_of}
 use Rattle.partial_tree.proofs.ClaimValues.{either, first_of_two, second_of_two, base-read, uncle-read, claims-given}
 use Rattle.partial_tree.proofs.Layers.{layer-leads}
 use Rattle.partial_tree.proofs.WholeLayers.{full}
@@ -35,10 +35,10 @@ zero-more j = omega arith
 
 -- ---- the leaves
 
-pub length-leaves : (K : Known) (count : ℕ) → length (leaves_in K count) ≡ count
+pub length-leaves : (K : Known) (count : ℕ) → length (first_leaves K count) ≡ count
 length-leaves K count = length-map (range_with_len 0 count) (λ j. unwrap_or (look K 0 (0 + j)) pad_leaf) ∙ length-range_with_len 0 count
 
-pub leaf-at : (K : Known) (count i : ℕ) → i < count → get_or (leaves_in K count) i [] ≡ unwrap_or (look K 0 i) pad_leaf
+pub leaf-at : (K : Known) (count i : ℕ) → i < count → get_or (first_leaves K count) i [] ≡ unwrap_or (look K 0 i) pad_leaf
 leaf-at K count i low = get_or-map-range_with_len (λ j. unwrap_or (look K 0 (0 + j)) pad_leaf) 0 count i i [] low (omega arith)
     ∙ ap (λ k. unwrap_or (look K 0 k) pad_leaf) (zero-more i)
 
@@ -51,7 +51,7 @@ growing-none K none = record {
   counted = ap len none ∙ len-empty place_cmp Hash;
 }
 
-pub leaves-more : (K K' : Known) (n : ℕ) (h : Hash) → K' ≡ insert K (0, n) h → leaves_in K' (n + 1) ≡ leaves_in K n ++ h ∷ []
+pub leaves-more : (K K' : Known) (n : ℕ) (h : Hash) → K' ≡ insert K (0, n) h → first_leaves K' (n + 1) ≡ first_leaves K n ++ h ∷ []
 leaves-more K K' n h put =
     hashes-one (look K' 0) 0 n
     ∙ ap (λ xs. xs ++ unwrap_or (look K' 0 (0 + n)) pad_leaf ∷ [])
@@ -59,12 +59,12 @@ leaves-more K K' n h put =
       at = λ j low. ap (λ m. look m 0 (0 + j)) put
           ∙ look-insert_other K 0 n h 0 (0 + j) (inr (λ e. omega arith));
     }))
-    ∙ ap (λ o. leaves_in K n ++ unwrap_or o pad_leaf ∷ []) (ap (look K' 0) (zero-more n) ∙ ap (λ m. look m 0 n) put ∙ look-insert_same K 0 n h)
+    ∙ ap (λ o. first_leaves K n ++ unwrap_or o pad_leaf ∷ []) (ap (look K' 0) (zero-more n) ∙ ap (λ m. look m 0 n) put ∙ look-insert_same K 0 n h)
 
 -- one leaf more
 pub growing-more : (K K' : Known) (n : ℕ) (h : Hash) → IsGrowing n K → IsHash h → K' ≡ insert K (0, n) h → len K' ≡ len K + 1 → IsGrowing (n + 1) K'
 growing-more K K' n h is hash put more = record {
-  hashes = subst AreHashes (sym (leaves-more K K' n h put)) (All-push IsHash (leaves_in K n) h is.hashes hash);
+  hashes = subst AreHashes (sym (leaves-more K K' n h put)) (All-push IsHash (first_leaves K n) h is.hashes hash);
   leaves_known = λ j low. known j low (cases_eq j n);
   none_else = λ l i other. ap (λ m. look m l i) put ∙ look-insert_other K 0 n h l i (apart l i other) ∙ is.none_else l i (wider l i other);
   counted = omega (arith, more, is.counted);

@@ -11,30 +11,30 @@ use Rattle.node_maps.specs.Places.{tree_height}
 use Rattle.node_maps.proofs.Runs.{hashes-alike}
 use Rattle.partial_tree.specs.Claims.{AreHashes}
 use Rattle.partial_tree.specs.Fill.{fill_claims}
-use Rattle.partial_tree.specs.Grown.{AddsRow, GrownTree, IsGrowing, FollowsFromLeaves, grown, leaves_in, parents_of}
+use Rattle.partial_tree.specs.Grown.{AddsRow, GrownTree, IsGrowing, FollowsFromLeaves, grown, first_leaves, parents_of}
 use Rattle.partial_tree.proofs.Ranges.{pow_more}
 use Rattle.partial_tree.proofs.FromLeaves.{zero-more, length-leaves, leaf-at, IsUpTo, claims-outside, leaf-claimed, pad-claimed, layer-more, all-same}
 
 -- ---- the leaves of a node map
 
 module _ (n : ℕ) (K : Known) (is : IsGrowing (block_count n) K) where
-  right : length (leaves_in K (block_count n)) ≡ block_count n
+  right : length (first_leaves K (block_count n)) ≡ block_count n
   right = length-leaves K (block_count n)
 
-  known-leaf : (i : ℕ) → i < block_count n → look K 0 i ≡ fill_claims n 0 (leaves_in K (block_count n)) 0 i
+  known-leaf : (i : ℕ) → i < block_count n → look K 0 i ≡ fill_claims n 0 (first_leaves K (block_count n)) 0 i
   known-leaf i low =
       let there = is.leaves_known i low in
       let here : look K 0 i ≡ Some there.0 = ap (look K 0) (sym (zero-more i)) ∙ there.1 in
       here
       ∙ ap (λ o. Some (unwrap_or o pad_leaf)) (sym here)
       ∙ ap Some (sym (leaf-at K (block_count n) i low))
-      ∙ sym (leaf-claimed n (leaves_in K (block_count n)) right i (omega (arith, right)))
+      ∙ sym (leaf-claimed n (first_leaves K (block_count n)) right i (omega (arith, right)))
 
   -- with the pads
-  pub pads-same : (K' : Known) → AddsRow K 0 (block_count n) (2 ^ tree_height n) (λ _. Some pad_leaf) K' → IsUpTo n (leaves_in K (block_count n)) 0 K'
+  pub pads-same : (K' : Known) → AddsRow K 0 (block_count n) (2 ^ tree_height n) (λ _. Some pad_leaf) K' → IsUpTo n (first_leaves K (block_count n)) 0 K'
   pads-same K' adds = record {
     same = λ l i le. (let first : l ≡ 0 = omega arith in ap (λ k. look K' k i) first ∙ by_place i (cases_lt i (block_count n)) (cases_lt i (2 ^ tree_height n))
-        ∙ ap (λ k. fill_claims n 0 (leaves_in K (block_count n)) k i) (sym first));
+        ∙ ap (λ k. fill_claims n 0 (first_leaves K (block_count n)) k i) (sym first));
     none_above = λ l i high. adds.rest l i (inl (λ e. omega arith)) ∙ is.none_else l i (inl (λ e. omega arith));
     counted =
         let all : 2 ^ (tree_height n - 0) ≡ 2 ^ tree_height n = (let none_less : tree_height n - 0 ≡ tree_height n = omega arith in ap (λ k. 2 ^ k) none_less)
@@ -43,24 +43,25 @@ module _ (n : ℕ) (K : Known) (is : IsGrowing (block_count n) K) where
   }
     where
       by_place : (i : ℕ) → (i < block_count n) ⊎ (block_count n ≤ i) → (i < 2 ^ tree_height n) ⊎ (2 ^ tree_height n ≤ i)
-          → look K' 0 i ≡ fill_claims n 0 (leaves_in K (block_count n)) 0 i
+          → look K' 0 i ≡ fill_claims n 0 (first_leaves K (block_count n)) 0 i
       by_place i (inl leaf) q = adds.rest 0 i (inr (inl leaf)) ∙ known-leaf i leaf
-      by_place i (inr past) (inl in') = adds.row i past in' ∙ sym (pad-claimed n (leaves_in K (block_count n)) right i (omega (arith, right)) in')
+      by_place i (inr past) (inl in') = adds.row i past in' ∙ sym (pad-claimed n (first_leaves K (block_count n)) right i (omega (arith, right)) in')
       by_place i (inr past) (inr out) =
           let all : 2 ^ (tree_height n - 0) ≡ 2 ^ tree_height n = (let none_less : tree_height n - 0 ≡ tree_height n = omega arith in ap (λ k. 2 ^ k) none_less)
           in
-          adds.rest 0 i (inr (inr out)) ∙ is.none_else 0 i (inr past) ∙ sym (claims-outside n (leaves_in K (block_count n)) right 0 i (inr (omega arith)))
+          adds.rest 0 i (inr (inr out)) ∙ is.none_else 0 i (inr past) ∙ sym (claims-outside n (first_leaves K (block_count n)) right 0 i (inr (omega arith)))
 
   -- the leaves stay
-  pub leaves-same : (K' : Known) → IsUpTo n (leaves_in K (block_count n)) (tree_height n) K' → leaves_in K' (block_count n) ≡ leaves_in K (block_count n)
+  pub leaves-same : (K' : Known) → IsUpTo n (first_leaves K (block_count n)) (tree_height n) K'
+      → first_leaves K' (block_count n) ≡ first_leaves K (block_count n)
   leaves-same K' done = hashes-alike (look K' 0) (look K 0) 0 0 (block_count n) (record {
     at = λ j low. done.same 0 (0 + j) (omega arith)
         ∙ sym (known-leaf (0 + j) (omega (arith, low)));
   })
 
-  pub grown-whole : (K' : Known) → IsUpTo n (leaves_in K (block_count n)) (tree_height n) K' → FollowsFromLeaves n (block_count n) K'
+  pub grown-whole : (K' : Known) → IsUpTo n (first_leaves K (block_count n)) (tree_height n) K' → FollowsFromLeaves n (block_count n) K'
   grown-whole K' done = record {
-    claimed = λ l i. all-same n (leaves_in K (block_count n)) right K' done l i ∙ ap (λ xs. fill_claims n 0 xs l i) (sym (leaves-same K' done));
+    claimed = λ l i. all-same n (first_leaves K (block_count n)) right K' done l i ∙ ap (λ xs. fill_claims n 0 xs l i) (sym (leaves-same K' done));
     hashes = subst AreHashes (sym (leaves-same K' done)) is.hashes;
     leaves_known = λ j low. (let there = is.leaves_known j low in (
       there.0,
@@ -71,7 +72,7 @@ module _ (n : ℕ) (K : Known) (is : IsGrowing (block_count n) K) where
 
 -- ---- as a tree that grows keeps them
 
-module _ (n count : ℕ) (K : Known) (t : GrownTree) (view_is : grown n (leaves_in K count) ≡ t) (all_there : length t.leaves ≡ block_count t.length)
+module _ (n count : ℕ) (K : Known) (t : GrownTree) (view_is : grown n (first_leaves K count) ≡ t) (all_there : length t.leaves ≡ block_count t.length)
     (is : IsGrowing count K) where
   all : count ≡ block_count n
   all = sym (length-leaves K count) ∙ subst (λ (x : GrownTree). length x.leaves ≡ block_count x.length) (sym view_is) all_there
@@ -79,11 +80,11 @@ module _ (n count : ℕ) (K : Known) (t : GrownTree) (view_is : grown n (leaves_
   every : IsGrowing (block_count n) K
   every = subst (λ k. IsGrowing k K) all is
 
-  seen : (layer : ℕ) (K' : Known) → IsUpTo n (leaves_in K (block_count n)) layer K' → IsUpTo t.length t.leaves layer K'
-  seen layer K' up = subst (λ (x : GrownTree). IsUpTo x.length x.leaves layer K') view_is (subst (λ k. IsUpTo n (leaves_in K k) layer K') (sym all) up)
+  seen : (layer : ℕ) (K' : Known) → IsUpTo n (first_leaves K (block_count n)) layer K' → IsUpTo t.length t.leaves layer K'
+  seen layer K' up = subst (λ (x : GrownTree). IsUpTo x.length x.leaves layer K') view_is (subst (λ k. IsUpTo n (first_leaves K k) layer K') (sym all) up)
 
-  unseen : (layer : ℕ) (K' : Known) → IsUpTo t.length t.leaves layer K' → IsUpTo n (leaves_in K (block_count n)) layer K'
-  unseen layer K' up = subst (λ k. IsUpTo n (leaves_in K k) layer K') all (subst (λ (x : GrownTree). IsUpTo x.length x.leaves layer K') (sym view_is) up)
+  unseen : (layer : ℕ) (K' : Known) → IsUpTo t.length t.leaves layer K' → IsUpTo n (first_leaves K (block_count n)) layer K'
+  unseen layer K' up = subst (λ k. IsUpTo n (first_leaves K k) layer K') all (subst (λ (x : GrownTree). IsUpTo x.length x.leaves layer K') (sym view_is) up)
 
   pub padded : (from to : ℕ) (K' : Known) → from ≡ block_count n → to ≡ 2 ^ tree_height n
       → AddsRow K 0 from to (λ _. Some pad_leaf) K' → IsUpTo t.length t.leaves 0 K'
@@ -92,19 +93,19 @@ module _ (n count : ℕ) (K : Known) (t : GrownTree) (view_is : grown n (leaves_
       past whole adds))
 
   pub ended : (layer : ℕ) (K' K'' : Known) → layer ≡ tree_height n → IsUpTo t.length t.leaves layer K' → K'' ≡ K'
-      → (len K'' + 1 ≡ 2 ^ suc (tree_height n)) × FollowsFromLeaves n (block_count n) K'' × (leaves_in K'' (block_count n) ≡ t.leaves)
+      → (len K'' + 1 ≡ 2 ^ suc (tree_height n)) × FollowsFromLeaves n (block_count n) K'' × (first_leaves K'' (block_count n) ≡ t.leaves)
   ended layer K' K'' top up same =
-      subst (λ m. (len m + 1 ≡ 2 ^ suc (tree_height n)) × FollowsFromLeaves n (block_count n) m × (leaves_in m (block_count n) ≡ t.leaves)) (sym same)
-      (one (subst (λ k. IsUpTo n (leaves_in K (block_count n)) k K') top (unseen layer K' up)))
+      subst (λ m. (len m + 1 ≡ 2 ^ suc (tree_height n)) × FollowsFromLeaves n (block_count n) m × (first_leaves m (block_count n) ≡ t.leaves)) (sym same)
+      (one (subst (λ k. IsUpTo n (first_leaves K (block_count n)) k K') top (unseen layer K' up)))
     where
-      one : IsUpTo n (leaves_in K (block_count n)) (tree_height n) K' → (len K' + 1 ≡ 2 ^ suc (tree_height n)) × FollowsFromLeaves n (block_count n) K'
-          × (leaves_in K' (block_count n) ≡ t.leaves)
+      one : IsUpTo n (first_leaves K (block_count n)) (tree_height n) K' → (len K' + 1 ≡ 2 ^ suc (tree_height n)) × FollowsFromLeaves n (block_count n) K'
+          × (first_leaves K' (block_count n) ≡ t.leaves)
       one done =
           let none_left : tree_height n - tree_height n ≡ 0 = omega arith in
           let single : 2 ^ (tree_height n - tree_height n) ≡ 2 ^ 0 = ap (λ k. 2 ^ k) none_left in (
             omega (arith, done.counted, single),
             grown-whole n K every K' done,
-            leaves-same n K every K' done ∙ ap (leaves_in K) (sym all) ∙ ap (λ (x : GrownTree). x.leaves) view_is,
+            leaves-same n K every K' done ∙ ap (first_leaves K) (sym all) ∙ ap (λ (x : GrownTree). x.leaves) view_is,
           )
 
 pub next_layer : (t : GrownTree) (layer next count : ℕ) (K K' : Known) → length t.leaves ≡ block_count t.length → layer < tree_height t.length

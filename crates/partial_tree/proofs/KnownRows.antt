@@ -13,12 +13,15 @@ use Rattle.node_maps.specs.Known.{Known, look}
 use Rattle.hashtree.specs.Tree.{block_count, zero_hash}
 use Rattle.partial_tree.specs.Closed.{IsClosed, IsFamily}
 use Rattle.partial_tree.specs.Claims.{cover, given, base_hash, uncle_hash, joined}
-use Rattle.partial_tree.specs.LeafRows.{row_ask, row_hashes, row_claims, IsLeafRow, TakesRow}
+use Rattle.partial_tree.specs.LeafRows.{row_ask, padded_leaves, row_claims, row_pads, row_joins, AreRowPadsKnown, IsLeafRow, TakesRow}
+use Rattle.partial_tree.specs.Joins.{Joins}
 use Rattle.partial_tree.specs.Claims.{IsAgreed, HasNew}
 use Rattle.node_maps.specs.Runs.{AreKnown}
 use Rattle.std.proofs.Common.{◌⊎◌, Option, None}
 use Rattle.partial_tree.proofs.ClaimValues.{either, first_of_two, second_of_two, base-read, uncle-read, claims-read, claims-zero}
 use Rattle.partial_tree.proofs.LeafRows.{row-leads, row-claimed, full}
+use Rattle.partial_tree.proofs.PadRows.{missing, joins-twice, known-joined, new-first}
+use Rattle.partial_tree.proofs.RowPads.{row_pads-agree}
 
 -- ---- a row whose leaves are all known, with their values, says nothing new
 
@@ -28,7 +31,7 @@ module _ (t : TreeRoot) (K : PartialTree) (closed : IsClosed t K) (first k : ℕ
   -- each claim is known
   pub claim-known : (l i : ℕ) (v : Hash) → row_claims first k hashes.now l i ≡ Some v → K l i ≡ Some v
   claim-known zero i v e = same i v e
-  claim-known (suc l) i v e = elim (claims-read (row_ask first k) (row_hashes k hashes.now) l i v e) [
+  claim-known (suc l) i v e = elim (claims-read (row_ask first k) (padded_leaves k hashes.now) l i v e) [
     | inl g ↦ absurd (given-low l i v g)
     | inr (absent, (a, b, p, q, w)) ↦
         let left : K l (2 * i) ≡ Some a = claim-known l (2 * i) a p in
@@ -40,14 +43,14 @@ module _ (t : TreeRoot) (K : PartialTree) (closed : IsClosed t K) (first k : ℕ
         ∙ ap Some (ap₂ join (same_Some fam.left a (sym fam.left_known ∙ left)) (same_Some fam.right b (sym fam.right_known ∙ right)) ∙ sym w)
   ]
     where
-      given-low : (l i : ℕ) (v : Hash) → given (row_ask first k) (row_hashes k hashes.now) (suc l) i ≡ Some v → ⊥
-      given-low l i v g = elim (either (base_hash (row_ask first k) (row_hashes k hashes.now) (suc l) i)
-          (uncle_hash (row_ask first k) (row_hashes k hashes.now) (suc l) i) v g) [
-            | inl b ↦ (let (at, low, high, got) = base-read (row_ask first k) (row_hashes k hashes.now) (suc l) i v b in omega (arith, at))
+      given-low : (l i : ℕ) (v : Hash) → given (row_ask first k) (padded_leaves k hashes.now) (suc l) i ≡ Some v → ⊥
+      given-low l i v g = elim (either (base_hash (row_ask first k) (padded_leaves k hashes.now) (suc l) i)
+          (uncle_hash (row_ask first k) (padded_leaves k hashes.now) (suc l) i) v g) [
+            | inl b ↦ (let (at, low, high, got) = base-read (row_ask first k) (padded_leaves k hashes.now) (suc l) i v b in omega (arith, at))
             | inr (absent, u) ↦
-                let (from, at, got) = uncle-read (row_ask first k) (row_hashes k hashes.now) (suc l) i v u in
-                let within' : (row_ask first k).length + (suc l - cover (row_ask first k)) < length (row_hashes k hashes.now) =
-                slice_get_within (row_hashes k hashes.now) ((row_ask first k).length + (suc l - cover (row_ask first k))) v got in
+                let (from, at, got) = uncle-read (row_ask first k) (padded_leaves k hashes.now) (suc l) i v u in
+                let within' : (row_ask first k).length + (suc l - cover (row_ask first k)) < length (padded_leaves k hashes.now) =
+                slice_get_within (padded_leaves k hashes.now) ((row_ask first k).length + (suc l - cover (row_ask first k))) v got in
                 omega (arith, within', full t first k hashes row)
           ]
 
@@ -66,16 +69,16 @@ module _ (t : TreeRoot) (K : PartialTree) (closed : IsClosed t K) (first k : ℕ
 -- so it is taken with nothing more
 pub known-row : (t : TreeRoot) (m : Known) → IsClosed t (look m) → (first k : ℕ) (hashes : Bor (List Hash))
     (row : IsLeafRow t.length first k (length hashes.now))
-    → IsKnown (look m) k (first / 2 ^ k) → ((i : ℕ) (v : Hash) → row_claims first k hashes.now 0 i ≡ Some v → look m 0 i ≡ Some v)
-    → TakesRow first k hashes.now m 0 m
-known-row t m closed first k hashes row top same =
-    let agrees : IsAgreed (look m) (row_claims first k hashes.now) = known-agrees t (look m) closed first k hashes row same in (
+    → IsKnown (look m) k (first / 2 ^ k) → AreRowPadsKnown t.length (look m) first k
+    → ((i : ℕ) (v : Hash) → row_claims first k hashes.now 0 i ≡ Some v → look m 0 i ≡ Some v)
+    → TakesRow t.length first k hashes.now m 0 m
+known-row t m closed first k hashes row top pads same =
+    let agrees : IsAgreed (look m) (row_claims first k hashes.now) = known-agrees t (look m) closed first k hashes row same in
+    let claims : Joins (row_claims first k hashes.now) m m 0 =
+    record { agreed = agrees; joined_is = known-stays t (look m) closed first k hashes row same; gained = omega arith } in (
       record { top_known = top; agrees = agrees },
-      record {
-        agreed = agrees;
-        joined_is = known-stays t (look m) closed first k hashes row same;
-        gained = omega arith;
-      },
+      joins-twice (row_claims first k hashes.now) (row_pads t.length first k) m m m 0 0 claims (row_pads-agree t (look m) closed first k)
+          (known-joined (look m) (row_pads t.length first k) pads) (omega arith),
     )
 
 -- what a leaf claim of a row is: a given leaf, or a pad
@@ -83,11 +86,11 @@ pub leaf-claim : (t : TreeRoot) (first k : ℕ) (hashes : Bor (List Hash)) → I
     → row_claims first k hashes.now 0 i ≡ Some v → (j : ℕ) × (first + j ≡ i) × (j < 2 ^ k)
     × (((j < length hashes.now) × (get_or hashes.now j [] ≡ v)) ⊎ ((block_count t.length ≤ i) × (v ≡ zero_hash 0)))
 leaf-claim t first k hashes row i v e =
-    elim (either (base_hash (row_ask first k) (row_hashes k hashes.now) 0 i) (uncle_hash (row_ask first k) (row_hashes k hashes.now) 0 i) v
-    (sym (claims-zero (row_ask first k) (row_hashes k hashes.now) i) ∙ e)) [
+    elim (either (base_hash (row_ask first k) (padded_leaves k hashes.now) 0 i) (uncle_hash (row_ask first k) (padded_leaves k hashes.now) 0 i) v
+    (sym (claims-zero (row_ask first k) (padded_leaves k hashes.now) i) ∙ e)) [
       | inl b ↦
-          let (at, from, low, got) = base-read (row_ask first k) (row_hashes k hashes.now) 0 i v b in
-          let is : get_or (row_hashes k hashes.now) (i - first) [] ≡ v = get_or_from_slice_get (row_hashes k hashes.now) (i - first) v [] got in (
+          let (at, from, low, got) = base-read (row_ask first k) (padded_leaves k hashes.now) 0 i v b in
+          let is : get_or (padded_leaves k hashes.now) (i - first) [] ≡ v = get_or_from_slice_get (padded_leaves k hashes.now) (i - first) v [] got in (
             i - first,
             omega (arith, from),
             omega (arith, from, low),
@@ -103,29 +106,18 @@ leaf-claim t first k hashes row i v e =
             ],
           )
       | inr (absent, u) ↦
-          let (from, at, got) = uncle-read (row_ask first k) (row_hashes k hashes.now) 0 i v u in
-          let within' : (row_ask first k).length + (0 - cover (row_ask first k)) < length (row_hashes k hashes.now) =
-          slice_get_within (row_hashes k hashes.now) ((row_ask first k).length + (0 - cover (row_ask first k))) v got in
+          let (from, at, got) = uncle-read (row_ask first k) (padded_leaves k hashes.now) 0 i v u in
+          let within' : (row_ask first k).length + (0 - cover (row_ask first k)) < length (padded_leaves k hashes.now) =
+          slice_get_within (padded_leaves k hashes.now) ((row_ask first k).length + (0 - cover (row_ask first k))) v got in
           absurd (omega (arith, within', full t first k hashes row))
     ]
 
--- a leaf of the row that is not known is new, or all are known
-missing : (f : ℕ → Option Hash) (first n : ℕ) → AreKnown f first n ⊎ ((j : ℕ) × (j < n) × (f (first + j) ≡ None))
-missing f first zero = inl (λ j low. absurd (omega (arith, low)))
-missing f first (suc n) = elim (missing f first n) [
-  | inr (j, low, none) ↦ inr (j, omega (arith, low), none)
-  | inl known ↦ elim (some_or_none (f (first + n))) [
-    | inr none ↦ inr (n, omega arith, none)
-    | inl (v, there) ↦ inl (λ j low. elim (cases_lt j n) [
-      | inl less ↦ known j less
-      | inr last ↦ let at : first + n ≡ first + j = omega (arith, last, low) in (v, ap f (sym at) ∙ there)
-    ])
-  ]
-]
-
 pub row-new : (t : TreeRoot) (K : PartialTree) (first k : ℕ) (hashes : Bor (List Hash)) → IsLeafRow t.length first k (length hashes.now)
-    → ¬ AreKnown (K 0) first (2 ^ k) → HasNew K (row_claims first k hashes.now)
+    → ¬ AreKnown (K 0) first (2 ^ k) → HasNew K (row_joins t.length first k hashes.now)
 row-new t K first k hashes row unknown = elim (missing (K 0) first (2 ^ k)) [
   | inl known ↦ absurd (unknown known)
-  | inr (j, low, none) ↦ (let v = row-claimed t first k hashes row j low in record { layer = 0; index = first + j; value = v.0; claimed = v.1; absent = none })
+  | inr (j, low, none) ↦
+      let v = row-claimed t first k hashes row j low in
+      new-first K (row_claims first k hashes.now) (row_pads t.length first k)
+      (record { layer = 0; index = first + j; value = v.0; claimed = v.1; absent = none })
 ]

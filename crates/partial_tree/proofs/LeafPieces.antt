@@ -4,7 +4,7 @@ use Rattle.std.specs.Prelude.{min}
 use Rattle.std.proofs.lemmas.List.FromFn.{get_or-map-range_with_len, length-map-range_with_len}
 use Rattle.sha2.specs.Sha256.{sha256}
 use Rattle.hashtree.specs.Tree.{block, block_count}
-use Rattle.partial_tree.specs.LeafRows.{IsLeafRow, row_claims, TakesRow}
+use Rattle.partial_tree.specs.LeafRows.{IsLeafRow, row_claims, row_joins, AreRowPadsKnown, TakesRow}
 use Rattle.std.proofs.Common.{◌≢◌, ◌≤◌, ap, Some, inl, inr}
 use Rattle.node_maps.specs.Digest.{Hash}
 use Rattle.std.specs.Borrow.{Bor}
@@ -39,13 +39,13 @@ piece-row len first k bytes row = record {
 -- ---- a piece whose leaves are all known
 
 module _ (t : TreeRoot) (m : Known) (closed : IsClosed t (look m)) (first k : ℕ) (bytes : List ℕ) (row : IsPieceRow t.length first k (length bytes))
-    (top : IsKnown (look m) k (first / 2 ^ k)) (known : AreKnown (look m 0) first (2 ^ k)) where
+    (top : IsKnown (look m) k (first / 2 ^ k)) (known : AreKnown (look m 0) first (2 ^ k)) (pads : AreRowPadsKnown t.length (look m) first k) where
   abbrev leaves : Bor (List Hash)
   leaves = record { ref_ptr = (0, 0); now = leaves_in bytes }
 
   pub known-piece : ((j : ℕ) → j < block_count (length bytes) → look m 0 (first + j) ≡ Some (sha256 (block bytes j)))
-      → TakesRow first k (leaves_in bytes) m 0 m
-  known-piece fits = known-row t m closed first k leaves (piece-row t.length first k bytes row) top same
+      → TakesRow t.length first k (leaves_in bytes) m 0 m
+  known-piece fits = known-row t m closed first k leaves (piece-row t.length first k bytes row) top pads same
     where
       same : (i : ℕ) (v : Hash) → row_claims first k (leaves_in bytes) 0 i ≡ Some v → look m 0 i ≡ Some v
       same i v e =
@@ -78,7 +78,7 @@ module _ (t : TreeRoot) (m : Known) (closed : IsClosed t (look m)) (first k : �
       }
 
 pub piece-new : (t : TreeRoot) (K : PartialTree) (first k : ℕ) (bytes : List ℕ) → IsPieceRow t.length first k (length bytes)
-    → ¬ AreKnown (K 0) first (2 ^ k) → HasNew K (row_claims first k (leaves_in bytes))
+    → ¬ AreKnown (K 0) first (2 ^ k) → HasNew K (row_joins t.length first k (leaves_in bytes))
 piece-new t K first k bytes row unknown =
     row-new t K first k (record { ref_ptr = (0, 0); now = leaves_in bytes }) (piece-row t.length first k bytes row) unknown
 

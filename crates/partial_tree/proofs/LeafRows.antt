@@ -16,7 +16,7 @@ use Rattle.hashtree.specs.Tree.{pad_leaf, block_count, zero_hash}
 use Rattle.hashtree.proofs.Heights.{height_enough, height_pow}
 use Rattle.partial_tree.specs.Closed.{IsClosed}
 use Rattle.partial_tree.specs.Claims.{span, cover, given, base_hash, uncle_hash, joined, top_layer, top_index}
-use Rattle.partial_tree.specs.LeafRows.{row_ask, row_hashes, row_claims, IsLeafRow, IsRowAccepted}
+use Rattle.partial_tree.specs.LeafRows.{row_ask, padded_leaves, row_claims, IsLeafRow, IsRowAccepted}
 use Rattle.partial_tree.specs.Evidence.{LeadsTo, IsInside}
 use Rattle.partial_tree.proofs.Ranges.{pow_more}
 use Rattle.partial_tree.proofs.ClaimValues.{either, first_of_two, second_of_two, base-read, uncle-read, claims-read, claims-zero, claims-given}
@@ -36,7 +36,7 @@ module _ (t : TreeRoot) (first k : ℕ) (given_hashes : Bor (List Hash)) (row : 
   past-end : (i : ℕ) → block_count t.length ≤ i → length given_hashes.now ≤ i - first
   past-end i past = omega (arith, row.count_is)
 
-  pub full : length (row_hashes k given_hashes.now) ≡ 2 ^ k
+  pub full : length (padded_leaves k given_hashes.now) ≡ 2 ^ k
   full =
       length-append given_hashes.now (replicate (2 ^ k - length given_hashes.now) (zero_hash 0))
       ∙ ap (λ n. length given_hashes.now + n) (length-replicate (2 ^ k - length given_hashes.now) (zero_hash 0)) ∙ omega (arith, short)
@@ -51,54 +51,55 @@ module _ (t : TreeRoot) (first k : ℕ) (given_hashes : Bor (List Hash)) (row : 
       let wide : 2 ^ tree_height t.length ≤ 2 ^ 32 = pow_more (tree_height t.length) 32 low in
       record { base = omega arith; index = omega (arith, enough, wide, row.some); span = omega (arith, low, row.span_inside) }
 
-  right_pads : (l i : ℕ) (v : Hash) → given (row_ask first k) (row_hashes k given_hashes.now) l i ≡ Some v → block_count t.length ≤ i * 2 ^ l
+  right_pads : (l i : ℕ) (v : Hash) → given (row_ask first k) (padded_leaves k given_hashes.now) l i ≡ Some v → block_count t.length ≤ i * 2 ^ l
       → v ≡ zero_hash l
-  right_pads l i v e past = elim (either (base_hash (row_ask first k) (row_hashes k given_hashes.now) l i)
-      (uncle_hash (row_ask first k) (row_hashes k given_hashes.now) l i) v e) [
+  right_pads l i v e past = elim (either (base_hash (row_ask first k) (padded_leaves k given_hashes.now) l i)
+      (uncle_hash (row_ask first k) (padded_leaves k given_hashes.now) l i) v e) [
         | inl b ↦
-            let (at, low, high, got) = base-read (row_ask first k) (row_hashes k given_hashes.now) l i v b in
+            let (at, low, high, got) = base-read (row_ask first k) (padded_leaves k given_hashes.now) l i v b in
             let one : i * 2 ^ l ≡ i = (let w : 2 ^ l ≡ 1 = ap (λ j. 2 ^ j) at in ap (λ w. i * w) w ∙ omega arith) in
             let past' : length given_hashes.now ≤ i - first = past-end i (subst (λ n. block_count t.length ≤ n) one past) in
             let inside : i - first - length given_hashes.now < 2 ^ k - length given_hashes.now = omega (arith, past', low, high) in
-            sym (get_or_from_slice_get (row_hashes k given_hashes.now) (i - first) v pad_leaf got)
+            sym (get_or_from_slice_get (padded_leaves k given_hashes.now) (i - first) v pad_leaf got)
             ∙ get_or-append_right given_hashes.now (replicate (2 ^ k - length given_hashes.now) (zero_hash 0)) (length given_hashes.now) (i - first) pad_leaf
             refl past'
             ∙ get_or-replicate (2 ^ k - length given_hashes.now) (i - first - length given_hashes.now) (zero_hash 0) pad_leaf inside
             ∙ ap zero_hash (sym at)
         | inr (none, u) ↦
-            let (from, at, got) = uncle-read (row_ask first k) (row_hashes k given_hashes.now) l i v u in
-            let within' : (row_ask first k).length + (l - cover (row_ask first k)) < length (row_hashes k given_hashes.now) =
-            slice_get_within (row_hashes k given_hashes.now) ((row_ask first k).length + (l - cover (row_ask first k))) v got in
+            let (from, at, got) = uncle-read (row_ask first k) (padded_leaves k given_hashes.now) l i v u in
+            let within' : (row_ask first k).length + (l - cover (row_ask first k)) < length (padded_leaves k given_hashes.now) =
+            slice_get_within (padded_leaves k given_hashes.now) ((row_ask first k).length + (l - cover (row_ask first k))) v got in
             absurd (omega (arith, within', full))
       ]
 
   -- the top is the node over the leaves
-  pub at_node : top_layer (row_ask first k) (row_hashes k given_hashes.now) ≡ k
+  pub at_node : top_layer (row_ask first k) (padded_leaves k given_hashes.now) ≡ k
   at_node = omega (arith, full, spanned)
 
-  node-is : top_index (row_ask first k) (row_hashes k given_hashes.now) ≡ first / 2 ^ k
+  node-is : top_index (row_ask first k) (padded_leaves k given_hashes.now) ≡ first / 2 ^ k
   node-is =
-      let z : top_layer (row_ask first k) (row_hashes k given_hashes.now) - 0 ≡ k = omega (arith, at_node) in
+      let z : top_layer (row_ask first k) (padded_leaves k given_hashes.now) - 0 ≡ k = omega (arith, at_node) in
       ap (λ n. first / 2 ^ n) z
 
   -- one leaf alone claims nothing else
-  given-one : k ≡ 0 → (l i : ℕ) (v : Hash) → given (row_ask first k) (row_hashes k given_hashes.now) l i ≡ Some v → (l ≡ 0) × (i ≡ first)
+  given-one : k ≡ 0 → (l i : ℕ) (v : Hash) → given (row_ask first k) (padded_leaves k given_hashes.now) l i ≡ Some v → (l ≡ 0) × (i ≡ first)
   given-one none l i v e =
       let one : 2 ^ k ≡ 1 = ap (λ j. 2 ^ j) none in
-      elim (either (base_hash (row_ask first k) (row_hashes k given_hashes.now) l i) (uncle_hash (row_ask first k) (row_hashes k given_hashes.now) l i) v e) [
+      elim (either (base_hash (row_ask first k) (padded_leaves k given_hashes.now) l i) (uncle_hash (row_ask first k) (padded_leaves k given_hashes.now) l i) v
+      e) [
         | inl b ↦
-            let (at, low, high, got) = base-read (row_ask first k) (row_hashes k given_hashes.now) l i v b in
+            let (at, low, high, got) = base-read (row_ask first k) (padded_leaves k given_hashes.now) l i v b in
             (at, omega (arith, low, high, one))
         | inr (absent, u) ↦
-            let (from, at, got) = uncle-read (row_ask first k) (row_hashes k given_hashes.now) l i v u in
-            let within' : (row_ask first k).length + (l - cover (row_ask first k)) < length (row_hashes k given_hashes.now) =
-            slice_get_within (row_hashes k given_hashes.now) ((row_ask first k).length + (l - cover (row_ask first k))) v got in
+            let (from, at, got) = uncle-read (row_ask first k) (padded_leaves k given_hashes.now) l i v u in
+            let within' : (row_ask first k).length + (l - cover (row_ask first k)) < length (padded_leaves k given_hashes.now) =
+            slice_get_within (padded_leaves k given_hashes.now) ((row_ask first k).length + (l - cover (row_ask first k))) v got in
             absurd (omega (arith, within', full))
       ]
 
   claims-one : k ≡ 0 → (l i : ℕ) (v : Hash) → row_claims first k given_hashes.now l i ≡ Some v → (l ≡ 0) × (i ≡ first)
-  claims-one none zero i v e = given-one none zero i v (sym (claims-zero (row_ask first k) (row_hashes k given_hashes.now) i) ∙ e)
-  claims-one none (suc l) i v e = elim (claims-read (row_ask first k) (row_hashes k given_hashes.now) l i v e) [
+  claims-one none zero i v e = given-one none zero i v (sym (claims-zero (row_ask first k) (padded_leaves k given_hashes.now) i) ∙ e)
+  claims-one none (suc l) i v e = elim (claims-read (row_ask first k) (padded_leaves k given_hashes.now) l i v e) [
     | inl g ↦ given-one none (suc l) i v g
     | inr (absent, (a, b, p, q, w)) ↦
         let left = claims-one none l (2 * i) a p in
@@ -110,19 +111,19 @@ module _ (t : TreeRoot) (first k : ℕ) (given_hashes : Bor (List Hash)) (row : 
   pub row-claimed : (j : ℕ) → j < 2 ^ k → (v : Hash) × (row_claims first k given_hashes.now 0 (first + j) ≡ Some v)
   row-claimed j low =
       let back : first + j - first ≡ j = omega arith in (
-        get_or (row_hashes k given_hashes.now) (first + j - first) [],
-        claims-given (row_ask first k) (row_hashes k given_hashes.now) 0 (first + j) _
+        get_or (padded_leaves k given_hashes.now) (first + j - first) [],
+        claims-given (row_ask first k) (padded_leaves k given_hashes.now) 0 (first + j) _
             (first_of_two _ _ _ (cond-true _ _ _ (and_from _ _ (eq-eqb 0 0 refl)
             (and_from _ _ (le-leb first (first + j) (omega arith)) (lt-ltb (first + j) (first + 2 ^ k) (omega (arith, low)))))
-            ∙ slice_get-get_or (row_hashes k given_hashes.now) (first + j - first) [] (omega (arith, low, full, back)))),
+            ∙ slice_get-get_or (padded_leaves k given_hashes.now) (first + j - first) [] (omega (arith, low, full, back)))),
       )
 
   leads-many : 1 ≤ k → LeadsTo row_evidence k (first / 2 ^ k)
   leads-many some =
-      let at : LeadsTo row_evidence (top_layer (row_ask first k) (row_hashes k given_hashes.now))
-      (top_index (row_ask first k) (row_hashes k given_hashes.now)) = message-leads row_evidence some row.aligned in
+      let at : LeadsTo row_evidence (top_layer (row_ask first k) (padded_leaves k given_hashes.now))
+      (top_index (row_ask first k) (padded_leaves k given_hashes.now)) = message-leads row_evidence some row.aligned in
       subst (λ l. LeadsTo row_evidence l (first / 2 ^ k)) at_node
-      (subst (λ i. LeadsTo row_evidence (top_layer (row_ask first k) (row_hashes k given_hashes.now)) i) node-is at)
+      (subst (λ i. LeadsTo row_evidence (top_layer (row_ask first k) (padded_leaves k given_hashes.now)) i) node-is at)
 
   leads-one : k ≡ 0 → LeadsTo row_evidence k (first / 2 ^ k)
   leads-one none =
@@ -156,7 +157,7 @@ module _ (t : TreeRoot) (K : PartialTree) (first k : ℕ) (given_hashes : Bor (L
       let at = at_node t first k given_hashes row in
       let length' = full t first k given_hashes row in
       let width = spanned t first k given_hashes row in
-      joined-closed_by_parts t K (row_ask first k) (row_hashes k given_hashes.now) closed
+      joined-closed_by_parts t K (row_ask first k) (padded_leaves k given_hashes.now) closed
       (All-append IsHash given_hashes.now _ all (All-replicate IsHash (2 ^ k - length given_hashes.now) (zero_hash 0) (zero_hash-is_hash 0)))
       (subst (λ n. 1 ≤ n) (sym width) some) (ap (λ n. 2 ^ n) width) row.aligned
       (subst (λ n. 2 ^ k ≤ n) (sym length') (omega arith))

@@ -2,6 +2,7 @@
 use Rattle.std.proofs.Common.{◌≡◌, ◌≢◌, ◌⊎◌, ℕ, suc, ◌+◌, ◌<◌, true, false, cond, List, [], ◌∷◌, ◌++◌, Option, Some, None, inl, inr, refl, sym, ap, ap₂, ◌∙◌}
 use Rattle.std.proofs.Common.{subst, arith, is_some, length, get_or, drop, drop-cons}
 use Rattle.std.specs.List.{All}
+use Rattle.std.specs.Option.{option_or}
 use Rattle.std.specs.FinMap.{insert, len, len-insert}
 use Rattle.std.proofs.lemmas.Option.{same_Some, none-some}
 use Rattle.std.proofs.lemmas.Bool.{cases_eq}
@@ -71,6 +72,16 @@ new-keeps m c l i v known = elim (here_or_not c l i) [
       ap (λ o. look (insert_absent m (c.layer, c.index) c.hash o) l i) e ∙ known
   | inr other ↦ absent-other m c.layer c.index c.hash (look m c.layer c.index) l i other ∙ known
 ]
+
+-- at its place and beside it
+pub new-at : (m : Known) (c : Claim) → look (with_new m c) c.layer c.index ≡ option_or (look m c.layer c.index) (Some c.hash)
+new-at m c = elim (some_or_none (look m c.layer c.index)) [
+  | inl (v, known) ↦ new-keeps m c c.layer c.index v known ∙ sym (first_of_two (look m c.layer c.index) (Some c.hash) v known)
+  | inr none ↦ new-here m c none ∙ sym (second_of_two (look m c.layer c.index) (Some c.hash) none)
+]
+
+pub new-other : (m : Known) (c : Claim) (l i : ℕ) → (l ≢ c.layer) ⊎ (i ≢ c.index) → look (with_new m c) l i ≡ look m l i
+new-other m c l i other = absent-other m c.layer c.index c.hash (look m c.layer c.index) l i other
 
 all_new-keeps : (cs : List Claim) (m : Known) (l i : ℕ) (v : Hash) → look m l i ≡ Some v → look (insert_new m cs) l i ≡ Some v
 all_new-keeps [] m l i v known = known

@@ -7,18 +7,14 @@ use Rattle.partial_tree.specs.declared.message.evidence.Evidence.{Evidence}
 use Rattle.node_maps.specs.Digest.{Hash}
 use Rattle.node_maps.specs.Places.{IsTreePlace, IsKnown}
 use Rattle.partial_tree.specs.Claims.{base_hash, uncle_hash}
-use Rattle.partial_tree.specs.Evidence.{range_of, hashes_of, given_by, claimed_by, row_height, row_first, IsOver}
+use Rattle.partial_tree.specs.Evidence.{range_of, hashes_of, given_by, claimed_by, row_height, row_first, node_over_base, IsOver}
 use Rattle.partial_tree.proofs.Given.{cover_is}
 use Rattle.partial_tree.proofs.ClaimValues.{either, base-read, uncle-read, claims-read, claims-zero, sibling-half}
-
--- the node over the base range on a layer
-abbrev pub node_at : Evidence → ℕ → ℕ
-node_at e l = e.index / 2 ^ (l - e.base)
 
 -- the place and the node over the base range lie under one node
 record IsInRow (e : Evidence) (l i : ℕ) : Type 0 where
   from_base : e.base ≤ l
-  under_one : i / 2 ^ row_height e l ≡ node_at e l / 2 ^ row_height e l
+  under_one : i / 2 ^ row_height e l ≡ node_over_base e l / 2 ^ row_height e l
 
 module _ (e : Evidence) (aligned : e.index % 2 ^ e.span ≡ 0) where
   -- what lies in the base range lies under the node that covers it
@@ -33,15 +29,16 @@ module _ (e : Evidence) (aligned : e.index % 2 ^ e.span ≡ 0) where
       let (at, low, high, got) = base-read (range_of e) (hashes_of e) l i v is in
       record {
         from_base = omega (arith, at);
-        under_one = subst (λ k. i / 2 ^ row_height e k ≡ node_at e k / 2 ^ row_height e k) (sym at)
+        under_one = subst (λ k. i / 2 ^ row_height e k ≡ node_over_base e k / 2 ^ row_height e k) (sym at)
             (on_base low high (cases_lt 0 e.span));
       }
     where
-      on_base : e.index ≤ i → i < e.index + 2 ^ e.span → (0 < e.span) ⊎ (e.span ≤ 0) → i / 2 ^ row_height e e.base ≡ node_at e e.base / 2 ^ row_height e e.base
+      on_base : e.index ≤ i → i < e.index + 2 ^ e.span → (0 < e.span) ⊎ (e.span ≤ 0)
+          → i / 2 ^ row_height e e.base ≡ node_over_base e e.base / 2 ^ row_height e e.base
       on_base low high (inl some) =
           let height : row_height e e.base ≡ e.span = omega arith in
           let none : e.base - e.base ≡ 0 = omega arith in
-          let node : node_at e e.base ≡ e.index = ap (λ k. e.index / 2 ^ k) none ∙ div-one e.index in
+          let node : node_over_base e e.base ≡ e.index = ap (λ k. e.index / 2 ^ k) none ∙ div-one e.index in
           ap (λ k. i / 2 ^ k) height ∙ in_range-under i low high ∙ ap₂ (λ n k. n / 2 ^ k) (sym node) (sym height)
       on_base low high (inr one) =
           let width : 2 ^ e.span ≡ 1 = (let zero_span : e.span ≡ 0 = omega arith in ap (λ k. 2 ^ k) zero_span) in
@@ -56,7 +53,7 @@ module _ (e : Evidence) (aligned : e.index % 2 ^ e.span ≡ 0) where
       let one : row_height e l ≡ 1 = omega arith in
       record {
         from_base = omega arith;
-        under_one = ap (λ k. i / 2 ^ k) one ∙ ap (λ n. n / 2) at ∙ sibling-half (node_at e l) ∙ ap (λ k. node_at e l / 2 ^ k) (sym one);
+        under_one = ap (λ k. i / 2 ^ k) one ∙ ap (λ n. n / 2) at ∙ sibling-half (node_over_base e l) ∙ ap (λ k. node_over_base e l / 2 ^ k) (sym one);
       }
 
   given-in_row : (l i : ℕ) (v : Hash) → given_by e l i ≡ Some v → IsInRow e l i
@@ -66,7 +63,7 @@ module _ (e : Evidence) (aligned : e.index % 2 ^ e.span ≡ 0) where
   ]
 
   -- one layer up
-  node-up : (l : ℕ) → e.base ≤ l → node_at e l / 2 ≡ node_at e (suc l)
+  pub node-up : (l : ℕ) → e.base ≤ l → node_over_base e l / 2 ≡ node_over_base e (suc l)
   node-up l from = let k : suc l - e.base ≡ (l - e.base) + 1 = omega arith in shr-shr e.index (l - e.base) 1 ∙ sym (ap (λ j. e.index / 2 ^ j) k)
 
   parent-in_row : (l i : ℕ) → IsInRow e l (2 * i) → IsInRow e (suc l) i
@@ -75,17 +72,17 @@ module _ (e : Evidence) (aligned : e.index % 2 ^ e.span ≡ 0) where
       half : 2 * i / 2 ≡ i
       half = omega arith
 
-      by_cover : (suc l < e.base + e.span) ⊎ (e.base + e.span ≤ suc l) → i / 2 ^ row_height e (suc l) ≡ node_at e (suc l) / 2 ^ row_height e (suc l)
+      by_cover : (suc l < e.base + e.span) ⊎ (e.base + e.span ≤ suc l) → i / 2 ^ row_height e (suc l) ≡ node_over_base e (suc l) / 2 ^ row_height e (suc l)
       by_cover (inl below) =
           let k : row_height e l ≡ 1 + row_height e (suc l) = omega arith in
           ap (λ n. n / 2 ^ row_height e (suc l)) (sym half) ∙ shr-shr (2 * i) 1 (row_height e (suc l)) ∙ sym (ap (λ j. 2 * i / 2 ^ j) k)
           ∙ row.under_one
-          ∙ ap (λ j. node_at e l / 2 ^ j) k ∙ sym (shr-shr (node_at e l) 1 (row_height e (suc l)))
+          ∙ ap (λ j. node_over_base e l / 2 ^ j) k ∙ sym (shr-shr (node_over_base e l) 1 (row_height e (suc l)))
           ∙ ap (λ n. n / 2 ^ row_height e (suc l)) (node-up l row.from_base)
       by_cover (inr high) =
           let one : row_height e l ≡ 1 = omega arith in
           ap (λ n. n / 2 ^ row_height e (suc l))
-          (sym half ∙ sym (ap (λ j. 2 * i / 2 ^ j) one) ∙ row.under_one ∙ ap (λ j. node_at e l / 2 ^ j) one ∙ node-up l row.from_base)
+          (sym half ∙ sym (ap (λ j. 2 * i / 2 ^ j) one) ∙ row.under_one ∙ ap (λ j. node_over_base e l / 2 ^ j) one ∙ node-up l row.from_base)
 
   claimed-in_row : (l i : ℕ) (v : Hash) → claimed_by e l i ≡ Some v → IsInRow e l i
   claimed-in_row zero i v is = given-in_row zero i v (sym (claims-zero (range_of e) (hashes_of e) i) ∙ is)
@@ -110,9 +107,9 @@ row-inside h e layer index l at place from below =
     let w : ℕ = row_height e l in
     let fits : l + w ≤ layer = omega (arith, at.covers) in
     let up : layer - e.base ≡ (l - e.base) + (w + (layer - (l + w))) = omega arith in
-    let node : ℕ = node_at e l / 2 ^ w in
+    let node : ℕ = node_over_base e l / 2 ^ w in
     let under : node / 2 ^ (layer - (l + w)) ≡ index =
-    shr-shr (node_at e l) w (layer - (l + w)) ∙ shr-shr e.index (l - e.base) (w + (layer - (l + w))) ∙ sym (ap (λ k. e.index / 2 ^ k) up) ∙ at.over in
+    shr-shr (node_over_base e l) w (layer - (l + w)) ∙ shr-shr e.index (l - e.base) (w + (layer - (l + w))) ∙ sym (ap (λ k. e.index / 2 ^ k) up) ∙ at.over in
     let low : node < 2 ^ (h - (l + w)) = below_power node index (layer - (l + w)) (h - layer) (h - (l + w)) (omega (arith, place.0)) under place.1 in
     let parts : 2 ^ (h - l) ≡ 2 ^ (h - (l + w)) * 2 ^ w = (let k : h - l ≡ (h - (l + w)) + w = omega (arith, place.0) in ap (λ n. 2 ^ n) k
     ∙ pow-add 2 (h - (l + w)) w) in

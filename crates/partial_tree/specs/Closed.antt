@@ -49,7 +49,7 @@ pub record Collision (J K : PartialTree) : Type 0 where
   pub differ : J_left ++ J_right ≢ K_left ++ K_right
   pub one_digest : join J_left J_right ≡ join K_left K_right
 
--- two different inputs with one SHA-256 digest: b, and block i of f
-pub record BlockCollision (f : List ℕ) (i : ℕ) (b : List ℕ) : Type 0 where
-  pub differ : b ≢ block f i
-  pub one_digest : sha256 b ≡ sha256 (block f i)
+-- two different inputs with one SHA-256 digest: these bytes, and block b of f
+pub record BlockCollision (f : List ℕ) (b : ℕ) (bytes : List ℕ) : Type 0 where
+  pub differ : bytes ≢ block f b
+  pub one_digest : sha256 bytes ≡ sha256 (block f b)

@@ -44,11 +44,10 @@ pub record IsPruned (e : Evidence) : Type 0 where
   pub below : (layer index l i : ℕ) (v w : Hash) → given_by e layer index ≡ Some v
       → LiesUnder layer index l i → l < layer → claimed_by e l i ≡ Some w → ⊥
 
--- the place lies in a tree of height h, and what is claimed there follows from what is given
-pub record IsClaimedPlace (h : ℕ) (e : Evidence) (layer index : ℕ) : Type 0 where
-  pub low : h ≤ 32
+-- the place lies in a tree, and what is claimed there follows from what is given
+pub record IsClaimedPlace (e : Evidence) (layer index : ℕ) : Type 0 where
   pub inside : IsInside e
-  pub place : IsTreePlace h layer index
+  pub place : IsTreePlace 32 layer index
   pub pruned : IsPruned e
   pub claimed : IsKnown (claimed_by e) layer index
 
@@ -70,12 +69,22 @@ pub record IsOver (e : Evidence) (layer index : ℕ) : Type 0 where
   pub covers : e.base + e.span ≤ layer
   pub over : e.index / 2 ^ (layer - e.base) ≡ index
 
+-- the node over the base range on a layer
+abbrev pub node_over_base : Evidence → ℕ → ℕ
+node_over_base e l = e.index / 2 ^ (l - e.base)
+
 -- all that is claimed leads to one place
 pub record LeadsTo (e : Evidence) (layer index : ℕ) : Type 0 where
   pub is_over : IsOver e layer index
   pub pruned : IsPruned e
   pub at_top : IsKnown (claimed_by e) layer index
   pub under_top : (l i : ℕ) (v : Hash) → claimed_by e l i ≡ Some v → LiesUnder layer index l i
+
+-- all that is claimed leads to a place of a tree on this layer
+pub record LeadsUp (e : Evidence) (layer : ℕ) : Type 0 where
+  pub inside : IsInside e
+  pub place : IsTreePlace 32 layer (node_over_base e layer)
+  pub leads : LeadsTo e layer (node_over_base e layer)
 
 -- the list has the claim of v at (l, i)
 abbrev pub HasClaim : List Claim → ℕ → ℕ → Hash → Type 0
@@ -108,13 +117,12 @@ abbrev pub IsHandled : PartialTree → PartialTree → NewClaims → ℕ → ℕ
 IsHandled C K found l i = (v : Hash) → C l i ≡ Some v → (K l i ≡ Some v)
     ⊎ ((K l i ≡ None) × IsNoted found l i v)
 
--- so it is at each place from (layer, index) down
-pub record AllHandled (C K : PartialTree) (found : NewClaims) (layer index : ℕ) : Type 0 where
-  pub at : (l i : ℕ) → LiesUnder layer index l i → IsHandled C K found l i
-
--- and at each place below it
-pub record BelowHandled (C K : PartialTree) (found : NewClaims) (layer index : ℕ) : Type 0 where
-  pub at : (l i : ℕ) → LiesUnder layer index l i → l < layer → IsHandled C K found l i
+-- all that C claims is known in K, or is noted; each noted claim is one of C, and if any is noted
+-- C has a value at a place where K has none
+pub record FindsClaims (K C : PartialTree) (found : NewClaims) : Type 0 where
+  pub handled : (l i : ℕ) → IsHandled C K found l i
+  pub sound : AreClaims C found.claims.items
+  pub notes_new : NotesNew K C found
 
 -- the claim is known, or is noted and not known
 abbrev pub IsHandledClaim : Known → NewClaims → Claim → Type 0
@@ -125,23 +133,23 @@ IsHandledClaim m found c = (look m c.layer c.index ≡ Some c.hash)
 abbrev pub DiffersFrom : Known → Claim → Type 0
 DiffersFrom m c = (v : Hash) × (look m c.layer c.index ≡ Some v) × (v ≢ c.hash)
 
--- what C claims from a place down is joined to what was known, and elsewhere nothing has changed
-pub record IsWritten (C : PartialTree) (layer index : ℕ) (before after : PartialTree) : Type 0 where
-  pub under : (l i : ℕ) → LiesUnder layer index l i → after l i ≡ joined before C l i
-  pub elsewhere : (l i : ℕ) → ¬ LiesUnder layer index l i → after l i ≡ before l i
-
--- (l, i) lies below the place (layer, index)
-abbrev pub LiesBelow : ℕ → ℕ → ℕ → ℕ → Type 0
-LiesBelow layer index l i = (l < layer) × LiesUnder layer index l i
-
--- what C claims below a place is joined to what was known, and elsewhere nothing has changed
-pub record IsWrittenBelow (C : PartialTree) (layer index : ℕ) (before after : PartialTree)
-    : Type 0 where
-  pub below : (l i : ℕ) → LiesBelow layer index l i → after l i ≡ joined before C l i
-  pub elsewhere : (l i : ℕ) → ¬ LiesBelow layer index l i → after l i ≡ before l i
+-- what a claim, compared with what is known and not other than that, makes of the list
+pub record Notes (m : Known) (before : NewClaims) (c : Claim) (after : NewClaims) : Type 0 where
+  pub handled : IsHandledClaim m after c
+  pub grows : Grows before after
+  pub sound : (C : PartialTree) → C c.layer c.index ≡ Some c.hash
+      → AreClaims C before.claims.items → AreClaims C after.claims.items
+  pub notes_new : (C : PartialTree) → C c.layer c.index ≡ Some c.hash
+      → NotesNew (look m) C before → NotesNew (look m) C after
 
 -- why claims are not stored
 abbrev pub StoreFault : PartialTree → PartialTree → HashRefusal → Type 0
 StoreFault K C Mismatch = IsMismatch K C
 StoreFault K C NoMemory = IsAgreed K C × HasNew K C
 StoreFault K C r = ⊥
+
+-- why claims are not stored beside pads
+abbrev pub EndFault : PartialTree → PartialTree → PartialTree → HashRefusal → Type 0
+EndFault K C P Mismatch = IsMismatch K C
+EndFault K C P NoMemory = IsAgreed K C × HasNew K (joined C P)
+EndFault K C P r = ⊥

@@ -18,21 +18,21 @@ abbrev pub grown : ℕ → List Hash → GrownTree
 grown length leaves = record { length = length; leaves = leaves }
 
 -- the first leaves, this many
-abbrev pub leaves_in : Known → ℕ → List Hash
-leaves_in K count = hashes_from (look K 0) 0 count
+abbrev pub first_leaves : Known → ℕ → List Hash
+first_leaves K count = hashes_from (look K 0) 0 count
 
 -- the first leaves are known, this many, and nothing else
 pub record IsGrowing (count : ℕ) (K : Known) : Type 0 where
   pub leaves_known : AreKnown (look K 0) 0 count
-  pub hashes : AreHashes (leaves_in K count)
+  pub hashes : AreHashes (first_leaves K count)
   pub none_else : (l i : ℕ) → (l ≢ 0) ⊎ (count ≤ i) → look K l i ≡ None
   pub counted : len K ≡ count
 
 -- what is known is what follows from the leaves, this many, and the pads after them
 pub record FollowsFromLeaves (files count : ℕ) (K : Known) : Type 0 where
-  pub claimed : (l i : ℕ) → look K l i ≡ fill_claims files 0 (leaves_in K count) l i
+  pub claimed : (l i : ℕ) → look K l i ≡ fill_claims files 0 (first_leaves K count) l i
   pub leaves_known : AreKnown (look K 0) 0 count
-  pub hashes : AreHashes (leaves_in K count)
+  pub hashes : AreHashes (first_leaves K count)
 
 -- the places from one to another of a layer got what f says, and were not known; the rest stays
 pub record AddsRow (old : Known) (layer from to : ℕ) (f : ℕ → Option Hash) (new : Known)

@@ -1,5 +1,5 @@
 -- The laws of partial trees.
-use Rattle.std.specs.Prelude.{◌≡◌, ℕ, ◌+◌, ◌-◌, ◌/◌, ◌<◌, ◌≤◌, ◌⊎◌, Bool, List, None, Some}
+use Rattle.std.specs.Prelude.{◌≡◌, ℕ, ◌+◌, ◌-◌, ◌/◌, ◌^◌, ◌<◌, ◌≤◌, ◌⊎◌, Bool, List, None, Some}
 use Rattle.sha2.specs.Sha256.{sha256}
 use Rattle.wire.specs.declared.message.Ask.{Ask as Asked}
 use Rattle.partial_tree.specs.TreeRoot.{TreeRoot as Tree, Fits}
@@ -11,12 +11,15 @@ use Rattle.partial_tree.specs.Claims.{AreHashes, claims, joined, top_layer, top_
 use Rattle.partial_tree.specs.Claims.{Refuses}
 use Rattle.partial_tree.specs.declared.refusal.HashRefusal.{HashRefusal as Refusal}
 use Rattle.partial_tree.specs.Fill.{fill_claims, IsFillAccepted}
-use Rattle.partial_tree.specs.Gaps.{gaps, window, want_ask}
-use Rattle.partial_tree.specs.Trust.{Passes, HasNoCollision, AreJoinsOf, AreInputsOf}
+use Rattle.partial_tree.specs.EndPads.{AreEndPadsKnown, IsShortAsk}
+use Rattle.partial_tree.specs.LeafRows.{TakesRow}
+use Rattle.node_maps.specs.Known.{Known, look}
+use Rattle.partial_tree.specs.Gaps.{gaps, window, want_ask, want_of}
+use Rattle.partial_tree.specs.Trust.{PassesTest, HasNoCollision, AreJoinsOf, AreInputsOf}
 
 -- the whole tree of a file that fits a tree is closed
 abbrev pub WholeIsClosed : Type 0
-WholeIsClosed = (t : Tree) (f : List ℕ) → Fits f t → IsClosed t (whole f)
+WholeIsClosed = (t : Tree) (f : List ℕ) → Fits f t.length t.root → IsClosed t (whole f)
 
 -- two closed partial trees of one tree agree wherever both have a value, or a collision of them is
 -- named
@@ -27,7 +30,8 @@ ClosedTreesAgree = (t : Tree) (J K : PartialTree) → IsClosed t J → IsClosed 
 -- a block whose digest is a known leaf is that block of every file that fits, or a collision is
 -- named
 abbrev pub KnownLeafNamesBlock : Type 0
-KnownLeafNamesBlock = (t : Tree) (K : PartialTree) (f : List ℕ) → IsClosed t K → Fits f t
+KnownLeafNamesBlock = (t : Tree) (K : PartialTree) (f : List ℕ) → IsClosed t K
+    → Fits f t.length t.root
     → (i : ℕ) → i < block_count t.length → (leaf b : List ℕ) → K 0 i ≡ Some leaf → sha256 b ≡ leaf
     → (b ≡ block f i) ⊎ (Collision (whole f) K ⊎ BlockCollision f i b)
 
@@ -104,18 +108,42 @@ MessageIsAcceptedOrRefused = (t : Tree) (K : PartialTree) (ask : Asked) (hashes 
     → ((l i : ℕ) (v : Hash) → K l i ≡ Some v → IsTreePlace (tree_height t.length) l i)
     → IsAccepted t.length K ask hashes ⊎ ((r : Refusal) × Refuses t.length K ask hashes r)
 
+-- ---- at a file's end
+
+-- leaves that reach the file's end make the pads beside it known
+abbrev pub RowBringsEndPads : Type 0
+RowBringsEndPads = (len first k : ℕ) (hashes : List Hash) (before after : Known) (c : ℕ)
+    → TakesRow len first k hashes before c after → block_count len ≤ first + 2 ^ k
+    → AreEndPadsKnown len (look after)
+
+-- they stay known
+abbrev pub EndPadsStay : Type 0
+EndPadsStay = (len : ℕ) (K L : PartialTree) → Keeps K L → AreEndPadsKnown len K
+    → AreEndPadsKnown len L
+
+-- a tree that knows them and the leaves of all blocks can answer each short ask for a block
+abbrev pub EndPadsLetAnswer : Type 0
+EndPadsLetAnswer = (t : Tree) (K : PartialTree) (ask : Asked) → IsClosed t K
+    → ((b : ℕ) → b < block_count t.length → IsKnown K 0 b) → AreEndPadsKnown t.length K
+    → IsShortAsk t.length ask → CanAnswer (tree_height t.length) K ask
+
+-- whatever is wanted for a block is such an ask
+abbrev pub WantedIsShortAsk : Type 0
+WantedIsShortAsk = (t : Tree) (K : PartialTree) (b : ℕ) (ask : Asked) → IsClosed t K
+    → b < block_count t.length → want_of t K b ≡ Some ask → IsShortAsk t.length ask
+
 -- ---- to one who trusts SHA-256
 
 -- no collision of two trees is named, if no two different inputs that pass a test have one digest,
 -- and each two siblings of either tree, joined, pass
 abbrev pub TrustedTreesNameNone : Type 0
-TrustedTreesNameNone = (test : List ℕ → Bool) (J K : PartialTree) → HasNoCollision (Passes test)
-    → AreJoinsOf (Passes test) J → AreJoinsOf (Passes test) K → ¬ Collision J K
+TrustedTreesNameNone = (test : List ℕ → Bool) (J K : PartialTree) → HasNoCollision (PassesTest test)
+    → AreJoinsOf (PassesTest test) J → AreJoinsOf (PassesTest test) K → ¬ Collision J K
 
 -- none of a block of a file and other bytes is named, if both pass such a test
 abbrev pub TrustedBlockNamesNone : Type 0
 TrustedBlockNamesNone = (test : List ℕ → Bool) (f : List ℕ) (i : ℕ) (b : List ℕ)
-    → HasNoCollision (Passes test) → Passes test (block f i) → Passes test b
+    → HasNoCollision (PassesTest test) → PassesTest test (block f i) → PassesTest test b
     → ¬ BlockCollision f i b
 
 -- each two known siblings of a closed tree, joined, are bytes, and so an input of SHA-256

@@ -6,7 +6,7 @@ use Rattle.node_maps.specs.Places.{tree_height, IsKnown}
 use Rattle.hashtree.specs.Tree.{block_count, block_hashes}
 use Rattle.partial_tree.specs.Claims.{HasNew, IsMismatch}
 use Rattle.partial_tree.specs.Kept.{KeptTree}
-use Rattle.partial_tree.specs.LeafRows.{row_claims, TreeTakesRow, TreeMarksRun}
+use Rattle.partial_tree.specs.LeafRows.{row_claims, row_joins, TreeTakesRow, TreeMarksRun}
 use Rattle.partial_tree.specs.declared.refusal.PieceRefusal.{PieceRefusal}
 use Rattle.partial_tree.specs.declared.refusal.PieceRefusal.TheVariants.{Unproved, BadPiece, NoMemory}
 
@@ -22,7 +22,7 @@ pub record IsPieceRow (len first k size : ℕ) : Type 0 where
   pub size_is : size ≡ min (16384 * 2 ^ k) (len - 16384 * first)
 
 -- a tree takes the leaves of the bytes' blocks, under a known node, and then these leaves are
--- marked
+-- marked; the last piece brings the pads beside the file's end
 pub record TreeTakesPiece (before : KeptTree) (first k : ℕ) (bytes : List ℕ) (after : KeptTree)
     : Type 0 where
   pub count : ℕ
@@ -36,5 +36,5 @@ TreeRefusesPiece t first k bytes Unproved = look t.state.known k (first / 2 ^ k)
 TreeRefusesPiece t first k bytes BadPiece = IsKnown (look t.state.known) k (first / 2 ^ k)
     × IsMismatch (look t.state.known) (row_claims first k (leaves_in bytes))
 TreeRefusesPiece t first k bytes NoMemory = IsKnown (look t.state.known) k (first / 2 ^ k)
-    × HasNew (look t.state.known) (row_claims first k (leaves_in bytes))
+    × HasNew (look t.state.known) (row_joins t.length first k (leaves_in bytes))
 TreeRefusesPiece t first k bytes r = ⊥

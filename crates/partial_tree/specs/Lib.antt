@@ -10,9 +10,12 @@ pub mod Joins
 pub mod MessagePages
 pub mod Evidence
 pub mod FoldedRows
-pub mod WrittenRows
+pub mod Visits
+pub mod Stores
 pub mod Kept
 pub mod BlockDigests
+pub mod EndPads
+pub mod PadRows
 pub mod LeafRows
 pub mod LeafPieces
 pub mod Codes

@@ -10,8 +10,8 @@ use Rattle.node_maps.specs.Places.{PartialTree}
 use Rattle.partial_tree.specs.Closed.{whole}
 
 -- the inputs that pass a test
-abbrev pub Passes : (List ℕ → Bool) → List ℕ → Type 0
-Passes test input = test input ≡ true
+abbrev pub PassesTest : (List ℕ → Bool) → List ℕ → Type 0
+PassesTest test input = test input ≡ true
 
 -- no two different ones of these inputs have one SHA-256 digest
 abbrev pub HasNoCollision : (List ℕ → Type 0) → Type 0

@@ -8,11 +8,6 @@ ghost use Rattle.partial_tree.specs.Claims.{AreHashes};
 
 use hashtree::Hash;
 
-/// Each number is a byte.
-pub fn recall_bytes(bytes: &[u8])
-    ensures { AreBytes bytes.now }
-{}
-
 /// A hash is 32 bytes.
 pub fn recall_hash(hash: &Hash)
     ensures { IsHash hash.now }
@@ -31,4 +26,9 @@ pub fn recall_hashes(hashes: &[Hash])
 // Each hash has as many numbers as a digest has bytes.
 fn have_sizes(hashes: &[Hash])
     ensures { All (λ h. length h ≡ 32) hashes.now }
+{}
+
+// Each number is a byte.
+fn recall_bytes(bytes: &[u8])
+    ensures { AreBytes bytes.now }
 {}

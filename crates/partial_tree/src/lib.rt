@@ -16,7 +16,7 @@ mod tree;
 
 pub use answer::Answer;
 pub use block_digests::{BlockDigests, block_of};
-pub use bytes::{recall_bytes, recall_hash, recall_hashes};
+pub use bytes::{recall_hash, recall_hashes};
 pub use growing::{GrowingTree, GrownTree};
 pub use hashtree::NoMemory;
 pub use refusal::{BlockRefusal, HashRefusal, PieceRefusal};

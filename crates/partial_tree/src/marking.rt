@@ -8,7 +8,7 @@ ghost use Rattle.node_maps.specs.Known.{look};
 ghost use Rattle.node_maps.specs.Runs.{AreKnown};
 ghost use Rattle.node_maps.specs.Places.{IsKnown};
 ghost use Rattle.partial_tree.specs.Kept.{IsGoodTree, TreeMarks, TreeRefusesBlock};
-ghost use Rattle.partial_tree.specs.LeafRows.{TreeMarksRun, with_leaf_marked};
+ghost use Rattle.partial_tree.specs.LeafRows.{TreeMarksRun, tree_with_leaf_marked};
 
 use crate::refusal::BlockRefusal;
 use crate::tree::Tree;
@@ -64,7 +64,7 @@ impl<N: NodeMap> Tree<N> {
     pub fn mark_leaf(&mut self, block: u64, digest: &Hash) -> bool
         requires good { IsGoodTree self.old }
         ensures marked { OnTrue result
-            (self.new ≡ with_leaf_marked self.old block) }
+            (self.new ≡ tree_with_leaf_marked self.old block) }
         ensures known { IsTrue result ↔ (look self.old.state.known 0 block ≡ Some digest.now) }
         ensures stays { OnFalse result (self.new ≡ self.old) }
         ensures good { IsGoodTree self.new }
@@ -96,7 +96,7 @@ impl<N: NodeMap> Tree<N> {
     fn mark_known(&mut self, block: u64)
         requires good { IsGoodTree self.old }
         requires known { IsKnown (look self.old.state.known) 0 block }
-        ensures marked { self.new ≡ with_leaf_marked self.old block }
+        ensures marked { self.new ≡ tree_with_leaf_marked self.old block }
         ensures good { IsGoodTree self.new }
     {
         self.marked += self.nodes.mark(block);

@@ -3,6 +3,7 @@
 
 pub(crate) mod checks;
 mod comparing;
+pub(crate) mod end_pads;
 pub(crate) mod evidence;
 mod filling;
 mod folding;
@@ -10,6 +11,8 @@ mod found;
 mod leaves;
 mod pads;
 pub(crate) mod row;
+mod row_storing;
 mod storing;
 mod taking;
+mod visitor;
 mod writing;

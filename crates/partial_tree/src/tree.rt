@@ -40,8 +40,8 @@ use std::alloc::Global;
 use std::marker::Model;
 use wire::Ask;
 
-// How many leaves are asked for at once, if the tree has as many.
-const MOST_WANTED: u64 = 512;
+/// How many leaves are asked for at once, if the tree has as many.
+pub(crate) const MOST_WANTED: u64 = 512;
 
 /// A tree, by its root and the length of its files, with its known nodes and marked leaves. It is
 /// *good* if what is known is closed and each marked leaf is known.
@@ -161,9 +161,12 @@ impl<N: NodeMap> Tree<N> {
 
     /// Takes the leaves of the blocks under the node `first >> span` of layer `span`, whose hash is
     /// known: those of a piece, say. Returns how many places are newly known, the pads past the
-    /// file's end among them. A refusal leaves the tree unchanged; it is out of memory only if a
-    /// place is new. Conditions: the tree is good, and the hashes are as many as blocks stand under
-    /// the node, which is one of the tree and has a block under it.
+    /// file's end among them. With the last block's leaf all pads beside the file's end become
+    /// known: on each layer below the root those in one aligned range of 512 places with the node
+    /// over the last block. A tree that has the other blocks' leaves too can then answer for each
+    /// block. A refusal leaves the tree unchanged; it is out of memory only if a place is new.
+    /// Conditions: the tree is good, and the hashes are as many as blocks stand under the node,
+    /// which is one of the tree and has a block under it.
     pub fn take_leaves(
         &mut self,
         first: u64,
@@ -174,7 +177,7 @@ impl<N: NodeMap> Tree<N> {
         requires row { IsLeafRow self.old.length first span (length hashes.now) }
         ensures taken { IfOk result (λ c. TreeTakesRow self.old first span hashes.now c self.new) }
         ensures refused { IfErr result (λ r.
-            RowRefuses (look self.old.state.known) first span hashes.now r
+            RowRefuses self.old.length (look self.old.state.known) first span hashes.now r
             × (self.new ≡ self.old)) }
         ensures good { IsGoodTree self.new }
     {

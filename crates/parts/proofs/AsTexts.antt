@@ -5,7 +5,7 @@ use Rattle.lines.specs.Texts.{items_text, text_of}
 use Rattle.opening.specs.Description.{Description, FileEntry}
 use Rattle.folders.proofs.AsTexts.{worded_is}
 use Rattle.parts.specs.MarkedLines.{marked_head_text}
-use Rattle.parts.specs.PartLines.{answer_line, head_text}
+use Rattle.parts.specs.PartLines.{answer_line, report_head_text}
 use Rattle.parts.specs.PartWords.{bad_head_row, head_row, part_answer_row, part_in_text, part_words}
 use Rattle.parts.specs.Runs.{Run, run_text}
 use Rattle.parts.specs.Words.{run_row, words_as, words_in_text}
@@ -47,7 +47,7 @@ joined_head a b h e =
     ∙ sym (append_assoc y (codes " ") (h ++ e))
     ∙ sym (append_assoc (y ++ codes " ") h e)
 
-head_is : (t : Description) (part parts : ℕ) → text_of (head_row t part parts) ≡ head_text t part parts
+head_is : (t : Description) (part parts : ℕ) → text_of (head_row t part parts) ≡ report_head_text t part parts
 unfolding items_text
 head_is t part parts = joined_head (decimal (part + 1)) (decimal parts) (encode_lower t.info_hash_v2) (codes "\n")
 

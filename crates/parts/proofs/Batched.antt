@@ -1,5 +1,5 @@
 -- Files that are held, and judged together.
-use Rattle.std.proofs.Common.{◌≡◌, ◌∙◌, ℕ, suc, ◌+◌, ◌-◌, ◌<◌, ◌≤◌, min, inl, inr, List, [], ◌∷◌, ◌++◌, length, take, drop, get_or, slice_get, Some, refl}
+use Rattle.std.proofs.Common.{◌≡◌, ◌∙◌, ℕ, suc, ◌+◌, ◌-◌, ◌<◌, ◌≤◌, min, inl, inr, List, [], ◌∷◌, ◌++◌, length, take, drop, slice_get, Some, refl}
 use Rattle.std.proofs.Common.{sym, ap, ap₂, subst, arith, take-take}
 use Rattle.std.proofs.lemmas.List.{drop-take, get_or-drop, get_or-take, length-drop, length-take, length_push}
 use Rattle.std.proofs.lemmas.Option.{get_or_from_slice_get, same_Some, slice_get-get_or, slice_get_within}
@@ -7,11 +7,11 @@ use Rattle.benc.specs.Device.{SourceSeen}
 use Rattle.block_windows.specs.Files.{bytes_at}
 use Rattle.chains.specs.Chain.{Chain}
 use Rattle.chains.proofs.Cases.{item_at, pushed_at}
-use Rattle.chains.proofs.Chains.{Chain-next}
+use Rattle.chains.proofs.Chains.{Chain-from}
 use Rattle.folders.specs.declared.shelf.Shelf.{Ghosts}
 use Rattle.opening.specs.Description.{Description, FileEntry}
-use Rattle.parts.specs.Batches.{AreJudged, AreKept, HasKept, HoldsFrom, VisitsFrom}
-use Rattle.parts.specs.Held.{IsJudged, Promises, VisitsFound}
+use Rattle.parts.specs.Batches.{AreFilesKept, AreJudged, HasKept, HoldsFrom, VisitsFrom}
+use Rattle.parts.specs.Held.{IsFileJudged, Promises, VisitsFound}
 use Rattle.parts.specs.Windows.{KeepsFiles}
 use Rattle.parts.specs.declared.batch.HeldFiles.{HeldFiles}
 use Rattle.parts.specs.declared.batch.Kept.{Kept}
@@ -67,16 +67,12 @@ module _ {S F : Type 0} (shelf : Ghosts S F) (seen : F → SourceSeen) (t : Desc
       let x : Held × List ℕ = (a, bytes_at room' used f.length) in
       let at : slice_get t.files (from + h.count) ≡ Some f = ap (slice_get t.files) (sym number) ∙ there in
       let inside : from + h.count < length t.files = slice_get_within t.files (from + h.count) f at in
-      let step : Promises shelf seen t mid (get_or (drop from t.files) h.count f) x s' =
-      subst (λ g. Promises shelf seen t mid g x s') (sym (get_or-drop from t.files h.count f ∙ get_or_from_slice_get t.files (from + h.count) f f at))
-      promised in
       record {
         all = held.all ++ x ∷ [];
         count = length_push held.all x ∙ ap (λ k. k + 1) held.count ∙ sym count;
         few = omega (arith, inside, count);
         run = subst (λ k. Chain (Promises shelf seen t) s (take k (drop from t.files)) (held.all ++ x ∷ []) s') (sym count)
-            (Chain-next (Promises shelf seen t) s mid s' (drop from t.files) h.count held.all f x (omega (arith, inside, length-drop from t.files)) held.run
-            step);
+            (Chain-from (Promises shelf seen t) s mid s' t.files from h.count held.all f x at held.run promised);
         each = λ k g e y here kept said. elim (pushed_at held.all x y k said) [
           | inl old ↦
               let lt : k < h.count = omega (arith, slice_get_within held.all k y old, held.count) in
@@ -102,7 +98,7 @@ module _ {S F : Type 0} (shelf : Ghosts S F) (seen : F → SourceSeen) (t : Desc
   judged_all : (s : S) (fs : List FileEntry) (all : List (Held × List ℕ)) (vs : List Verdicts) (s' : S) → Chain (Promises shelf seen t) s fs all s'
       → length vs ≡ length all
       → ((k : ℕ) (f : FileEntry) (x : Held × List ℕ) (v : Verdicts) → slice_get fs k ≡ Some f → slice_get all k ≡ Some x → slice_get vs k ≡ Some v
-      → IsJudged t f x.0 x.1 v) → Chain (VisitsFound shelf seen t) s fs vs s'
+      → IsFileJudged t f x.0 x.1 v) → Chain (VisitsFound shelf seen t) s fs vs s'
   judged_all s [] [] [] s' run long judged = run
   judged_all s [] [] (v ∷ vs) s' run long judged = absurd (omega (arith, long))
   judged_all s [] (x ∷ all) vs s' run long judged = absurd run
@@ -124,7 +120,7 @@ module _ {S F : Type 0} (shelf : Ghosts S F) (seen : F → SourceSeen) (t : Desc
         let file = item_of_part from h.count t.files k f there in
         let e = item_at h.kept k (omega (arith, file.0, few)) in
         let is = held.each k f e.0 x file.1 e.1 at in
-        subst (λ (y : Held × List ℕ). IsJudged t f y.0 y.1 v) (sym (pair x (e.0.held) (bytes_at room e.0.start f.length) is.held_is is.bytes_are))
+        subst (λ (y : Held × List ℕ). IsFileJudged t f y.0 y.1 v) (sym (pair x (e.0.held) (bytes_at room e.0.start f.length) is.held_is is.bytes_are))
         (judged k f e.0 v file.0 file.1 e.1 said)));
   }
     where
@@ -134,7 +130,7 @@ module _ {S F : Type 0} (shelf : Ghosts S F) (seen : F → SourceSeen) (t : Desc
   -- what is held has its places
   pub has_places : (s s' : S) (h : HeldFiles) (windows : Windows) (room : List ℕ) (used bytes : ℕ) → HoldsFrom shelf seen t from s h room used s' → used ≤ bytes
       → KeepsFiles h.windows windows
-      → AreKept t from (record { kept = h.kept; count = h.count; windows = windows }) bytes
+      → AreFilesKept t from (record { kept = h.kept; count = h.count; windows = windows }) bytes
   has_places s s' h window room used bytes held le same k f e lt there kept =
       let x = item_at held.all k (omega (arith, lt, held.count)) in
       let is = held.each k f e x.0 there kept x.1 in

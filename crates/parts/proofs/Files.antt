@@ -7,14 +7,14 @@ use Rattle.std.proofs.lemmas.List.{length-append, length-replicate, get_or_appen
 use Rattle.std.proofs.lemmas.List.FromFn.{fill_by_all}
 use Rattle.sha2.proofs.Facts256.{length-sha256}
 use Rattle.std.proofs.lemmas.Option.{slice_get-get_or, get_or_from_slice_get}
-use Rattle.hashtree.specs.Tree.{block_count, filled, first_pad, height, layer_count, layer_of, node, root_of, root_over, tree, zero_hash}
+use Rattle.hashtree.specs.Tree.{Fits, block_count, filled, first_pad, height, layer_count, layer_of, node, root_of, root_over, tree, zero_hash}
 use Rattle.hashtree.proofs.Comparing.{length-layer_of}
 use Rattle.hashtree.proofs.Heights.{first_pad-fits, height_enough}
 use Rattle.hashtree.proofs.Leading.{layers_lead_to_root, length-layer_count}
 use Rattle.opening.specs.Description.{Description, FileEntry, TreeEntry}
 use Rattle.pieces.specs.Pieces.{IsPieceLength, pieces_of}
 use Rattle.opening.specs.Sound.{IsSound, IsSoundTree, piece_layer}
-use Rattle.folders.specs.Folder.{FitsTree, tree_entry_of}
+use Rattle.folders.specs.Folder.{tree_entry_of}
 use Rattle.folders.specs.Verdicts.{IsListedNode}
 use Rattle.folders.specs.declared.report.FileVerdict.{FileVerdict}
 use Rattle.folders.specs.declared.report.FileVerdict.TheVariants as file
@@ -102,24 +102,24 @@ filled_hashes h m xs all le j lt = elim (cases_lt j (length xs)) [
 ]
 
 -- a file that fits its tree, and a node of it that is not the listed one: the rows collide
-pub other_collides : (pl : ℕ) (e : TreeEntry) (bytes : List ℕ) (k : ℕ) → IsPieceLength pl → IsSoundTree pl e → FitsTree e bytes → pl < e.length
+pub other_collides : (pl : ℕ) (e : TreeEntry) (bytes : List ℕ) (k : ℕ) → IsPieceLength pl → IsSoundTree pl e → Fits bytes e.length e.root → pl < e.length
     → k < length e.layer → (IsListedNode pl e bytes k → ⊥)
     → RowsCollide (filled (height (block_count e.length)) (piece_layer pl) (layer_of bytes (piece_layer pl)))
     (filled (height (block_count e.length)) (piece_layer pl) e.layer)
 other_collides pl e bytes k legal sound fits long lt differs =
-    let l = layered pl e bytes legal sound fits.length_is long in
+    let l = layered pl e bytes legal sound fits.same_length long in
     let m : ℕ = piece_layer pl in
     let h : ℕ = height (block_count e.length) in
     let own : List (List ℕ) = layer_of bytes m in
     let room : first_pad (block_count e.length) m ≤ 2 ^ (h - m) = first_pad-fits (block_count e.length) h m l.low (height_enough (block_count e.length)) in
     let room_e : length e.layer ≤ 2 ^ (h - m) = omega (arith, room, l.pad_count) in
     let room_own : length own ≤ 2 ^ (h - m) = omega (arith, room_e, l.own_count) in
-    let same_h : height (block_count (length bytes)) ≡ h = ap (λ n. height (block_count n)) fits.length_is in
+    let same_h : height (block_count (length bytes)) ≡ h = ap (λ n. height (block_count n)) fits.same_length in
     let roots : tree (h - m) (filled h m own) ≡ tree (h - m) (filled h m e.layer) =
-    ap (λ g. root_over g m own) (sym same_h) ∙ layers_lead_to_root bytes m (subst (λ g. m ≤ g) (sym same_h) l.low) ∙ fits.root_is
+    ap (λ g. root_over g m own) (sym same_h) ∙ layers_lead_to_root bytes m (subst (λ g. m ≤ g) (sym same_h) l.low) ∙ fits.same_root
     ∙ sym (sound.layer_root long) in
     elim (same_rows (h - m) (filled h m own) (filled h m e.layer) (length-filled h m own room_own) (length-filled h m e.layer room_e)
-    (filled_hashes h m own (own_hashes e bytes m fits.length_is l.low l.own_count l.pad_count) room_own)
+    (filled_hashes h m own (own_hashes e bytes m fits.same_length l.low l.own_count l.pad_count) room_own)
     (filled_hashes h m e.layer (λ j inside. sound.hash_lengths j (get_or e.layer j []) (slice_get-get_or e.layer j [] inside)) room_e) roots) [
       | inr other ↦ other
       | inl each ↦

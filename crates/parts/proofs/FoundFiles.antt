@@ -1,6 +1,6 @@
 -- What a part found of one file, by how its opening and its reading were answered.
-use Rattle.std.proofs.Common.{◌≡◌, ℕ, ◌+◌, ◌*◌, ◌<◌, ◌≤◌, min, ◌++◌, IsTrue, List, length, drop, replicate, slice_get, Option, Some, None}
-use Rattle.std.proofs.Common.{Result, Ok, Err, IfOk, IfSome, refl, ap, sym, ◌∙◌, subst, drop_at, arith}
+use Rattle.std.proofs.Common.{◌≡◌, ◌≢◌, ℕ, ◌+◌, ◌*◌, ◌<◌, ◌≤◌, min, ◌++◌, IsTrue, true, List, length, drop, replicate, slice_get, Option, Some, None}
+use Rattle.std.proofs.Common.{Result, Ok, Err, IfOk, IfSome, refl, ap, ap₂, sym, ◌∙◌, subst, drop_at, arith}
 use Rattle.std.specs.Option.{unwrap_or}
 use Rattle.std.proofs.Math.Nat.{mul-le-mul_left}
 use Rattle.std.proofs.lemmas.List.{length-replicate}
@@ -15,10 +15,10 @@ use Rattle.folders.specs.declared.report.FileVerdict.{FileVerdict}
 use Rattle.folders.specs.declared.report.FileVerdict.TheVariants as file
 use Rattle.folders.specs.declared.report.V1Verdict.{V1Verdict}
 use Rattle.folders.specs.declared.report.V1Verdict.TheVariants as version1
-use Rattle.parts.specs.FilePieces.{AreBelow, FindsPieces, IsBelow, IsFirstBad}
-use Rattle.parts.specs.Finding.{FindsFile, IsFileV1}
+use Rattle.parts.specs.FilePieces.{FindsPieces, FoundOfPieces, FoundPieces, HasNumbersBelow, IsBelow, IsFirstBadNumber}
+use Rattle.parts.specs.Finding.{FindsAs, FindsFile, IsFileV1}
 use Rattle.parts.specs.Parts.{Holds, IsPartVerdict, IsPieceGood, IsVersion1Good, Touches, piece_count}
-use Rattle.parts.specs.Saying.{HasSmallPieces, IsSmallFrom, SaysFound, file_says, v1_says}
+use Rattle.parts.specs.Saying.{HasSmallPieces, IsSmallFrom, SaysAs, SaysFound, file_says, v1_says}
 use Rattle.parts.specs.RowBits.{AreBitsOf}
 use Rattle.parts.specs.Spans.{IsSpan, IsSpanOf, end_in, first_in}
 use Rattle.parts.specs.Telling.{MarksIn}
@@ -28,6 +28,7 @@ use Rattle.parts.specs.declared.places.Span.{Span}
 use Rattle.parts.specs.declared.verdicts.Verdicts.{Verdicts}
 use Rattle.parts.proofs.GoodPieces.{piece_fits}
 use Rattle.parts.proofs.HeldPieces.{between_held, held_between, piece_touches}
+use Rattle.parts.proofs.PartReads.{file_is_whole}
 
 -- ---- contents
 
@@ -71,7 +72,7 @@ whole_in t r f s bytes span whole k lt held =
 
 -- the file is as its verdict says
 good_or_bad : (t : Description) (r : Places) (f : FileEntry) (s : Span) (bytes : List ℕ) (bad : Option ℕ) → IsSpanOf t r f s
-    → (IsTrue s.ends → length bytes ≡ f.length) → min (t.piece_length * s.to) f.length ≤ length bytes → IsFirstBad s.from s.to (IsPieceGood t f bytes) bad
+    → (IsTrue s.ends → length bytes ≡ f.length) → min (t.piece_length * s.to) f.length ≤ length bytes → IsFirstBadNumber s.from s.to (IsPieceGood t f bytes) bad
     → IsPartVerdict t r f (Some bytes) (file_says f.first_piece bad)
 good_or_bad t r f s bytes None span ends whole all = λ touched. (
   bytes,
@@ -100,7 +101,7 @@ good_or_bad t r f s bytes (Some p) span ends whole first =
 
 -- and so are the version 1 pieces
 pub v1_good_or_bad : (t : Description) (v : Version1) (r : Places) (f : FileEntry) (s : Span) (bytes : List ℕ) (bad : Option ℕ) → IsSpanOf t r f s
-    → IsFirstBad s.from s.to (IsVersion1Good t v f bytes) bad → IsFileV1 t v r f (Some bytes) (v1_says f.first_piece bad)
+    → IsFirstBadNumber s.from s.to (IsVersion1Good t v f bytes) bad → IsFileV1 t v r f (Some bytes) (v1_says f.first_piece bad)
 v1_good_or_bad t v r f s bytes None span all = λ k own has.
     let b = held_between t r f s k span has.inside has.held in
     subst (λ bs. IsVersion1Good t v f bs k) (same_Some bytes own has.content_is) (all k b.0 b.1)
@@ -114,58 +115,66 @@ v1_good_or_bad t v r f s bytes (Some p) span first =
       λ j lt has. (let b = held_between t r f s j span has.inside has.held in first.3 j b.0 lt),
     )
 
-says_checked : (first : ℕ) (bad bad_cut : Option ℕ) → is_checked (v1_says first bad_cut) ≡ is_whole (file_says first bad)
-says_checked first None None = refl
-says_checked first None (Some q) = refl
-says_checked first (Some p) None = refl
-says_checked first (Some p) (Some q) = refl
+v1_checked : (first : ℕ) (bad : Option ℕ) → is_checked (v1_says first bad) ≡ true
+v1_checked first None = refl
+v1_checked first (Some q) = refl
 
 -- ---- what was found
 
 -- the verdicts are these two
-as_both : (t : Description) (r : Places) (f : FileEntry) (stated : Option (Option (List ℕ))) (bits : List ℕ) (v : Verdicts) (a : FileVerdict) (b : V1Verdict)
-    → v.file ≡ a → v.v1 ≡ b → FindsFile t r f stated bits (record { file = a; v1 = b }) → FindsFile t r f stated bits v
-as_both t r f stated bits v a b at bt found = record {
-  content = found.content;
-  agrees = found.agrees;
-  verdict = subst (IsPartVerdict t r f found.content) (sym at) found.verdict;
-  version1 = λ w hybrid. subst (IsFileV1 t w r f found.content) (sym bt) (found.version1 w hybrid);
-  checked = ap is_checked bt ∙ found.checked ∙ ap is_whole (sym at);
-  marks = subst (λ w. MarksIn t r f found.content w bits) (sym at) found.marks;
-}
+abbrev both : FileVerdict → V1Verdict → Verdicts
+both a b = record { file = a; v1 = b }
 
--- the file is unreadable, and may have any content
-pub finds_unreadable : (t : Description) (r : Places) (f : FileEntry) (stated : Option (Option (List ℕ))) (bits : List ℕ) (v : Verdicts)
-    → v.file ≡ file.Unreadable → v.v1 ≡ version1.NotChecked → FindsFile t r f stated bits v
-finds_unreadable t r f stated bits v at bt = as_both t r f stated bits v file.Unreadable version1.NotChecked at bt (record {
-  content = known stated;
-  agrees = known_agrees stated;
-  verdict = tt;
-  version1 = λ w hybrid. tt;
-  checked = refl;
-  marks = λ runs. (let no : ⊥ = cc in absurd no);
-})
+both_are : (v : Verdicts) (a : FileVerdict) (b : V1Verdict) → v.file ≡ a → v.v1 ≡ b → both a b ≡ v
+both_are v a b at bt = ap₂ both (sym at) (sym bt)
+
+module _ (t : Description) (r : Places) (f : FileEntry) (Says : FileEntry → Option (List ℕ) → FileVerdict → Type 0)
+    (stated : Option (Option (List ℕ))) (bits : List ℕ) (v : Verdicts) where
+  -- the file is unreadable, and may have any content
+  pub finds_unreadable : ((content : Option (List ℕ)) → Says f content file.Unreadable) → v.file ≡ file.Unreadable → v.v1 ≡ version1.NotChecked
+      → FindsAs r Says t f stated bits v
+  finds_unreadable says at bt = subst (FindsAs r Says t f stated bits) (both_are v file.Unreadable version1.NotChecked at bt) (record {
+    content = known stated;
+    agrees = known_agrees stated;
+    verdict = says (known stated);
+    version1 = λ w hybrid. tt;
+    checked = refl;
+    marks = λ runs. (let no : ⊥ = cc in absurd no);
+  })
+
+  -- nothing has its name
+  pub finds_missing : Says f None file.Missing → Agrees stated None → v.file ≡ file.Missing → v.v1 ≡ version1.NotChecked
+      → FindsAs r Says t f stated bits v
+  finds_missing says agrees at bt = subst (FindsAs r Says t f stated bits) (both_are v file.Missing version1.NotChecked at bt) (record {
+    content = None;
+    agrees = agrees;
+    verdict = says;
+    version1 = λ w hybrid. tt;
+    checked = refl;
+    marks = λ runs. (let no : ⊥ = cc in absurd no);
+  })
+
+  -- its content is not as long as stated
+  pub finds_other_length : (bytes : List ℕ) → Says f (Some bytes) file.WrongLength → Agrees stated (Some bytes)
+      → MarksIn t r f (Some bytes) file.WrongLength bits → v.file ≡ file.WrongLength → v.v1 ≡ version1.NotChecked → FindsAs r Says t f stated bits v
+  finds_other_length bytes says agrees marks at bt =
+      subst (FindsAs r Says t f stated bits) (both_are v file.WrongLength version1.NotChecked at bt) (record {
+        content = Some bytes;
+        agrees = agrees;
+        verdict = says;
+        version1 = λ w hybrid. tt;
+        checked = refl;
+        marks = marks;
+      })
 
 -- the file has no place in the part
 pub finds_other : (t : Description) (r : Places) (f : FileEntry) (stated : Option (Option (List ℕ))) (bits : List ℕ) (v : Verdicts) → (Touches t r f → ⊥)
     → v.file ≡ file.Good → v.v1 ≡ version1.Good → FindsFile t r f stated bits v
-finds_other t r f stated bits v other at bt = as_both t r f stated bits v file.Good version1.Good at bt (record {
+finds_other t r f stated bits v other at bt = subst (FindsFile t r f stated bits) (both_are v file.Good version1.Good at bt) (record {
   content = known stated;
   agrees = known_agrees stated;
   verdict = λ touched. absurd (other touched);
   version1 = λ w hybrid k bytes has. absurd (other (piece_touches t r f k has.inside has.held));
-  checked = refl;
-  marks = λ runs. (let no : ⊥ = cc in absurd no);
-})
-
--- nothing has its name
-pub finds_missing : (t : Description) (r : Places) (f : FileEntry) (stated : Option (Option (List ℕ))) (bits : List ℕ) (v : Verdicts) → Agrees stated None
-    → v.file ≡ file.Missing → v.v1 ≡ version1.NotChecked → FindsFile t r f stated bits v
-finds_missing t r f stated bits v agrees at bt = as_both t r f stated bits v file.Missing version1.NotChecked at bt (record {
-  content = None;
-  agrees = agrees;
-  verdict = refl;
-  version1 = λ w hybrid. tt;
   checked = refl;
   marks = λ runs. (let no : ⊥ = cc in absurd no);
 })
@@ -176,33 +185,47 @@ row_marks : (t : Description) (r : Places) (f : FileEntry) (s : Span) (bytes bit
 row_marks t r f s bytes bits span is =
     subst (λ from. AreBitsOf t f from (end_in t r f) bytes bits) span.from_is (subst (λ to. AreBitsOf t f s.from to bytes bits) span.to_is is)
 
--- the file was opened at the first of its pieces in the part, and read
+-- a shelf holds this content, of which this was found
+pub record HoldsFound (stated : Option (Option (List ℕ))) (t : Description) (f : FileEntry) (s : Span) (bits : List ℕ) (found : Option Found) : Type 0 where
+  pub bytes : List ℕ
+  pub agrees : Agrees stated (Some bytes)
+  pub so : FoundOfPieces t f s bits found bytes
+
+-- the file was opened and read, and is said so
+module _ (t : Description) (r : Places) (f : FileEntry) (s : Span) (span : IsSpanOf t r f s) (Says : FileEntry → Option (List ℕ) → FileVerdict → Type 0)
+    (says : Found → FileVerdict) (on : (x : Found) → is_whole (says x) ≡ true) (stated : Option (Option (List ℕ))) (bits : List ℕ) (v : Verdicts)
+    (good : (bytes : List ℕ) (x : Found) → FoundPieces t f s bits x bytes → Says f (Some bytes) (says x))
+    (other : (bytes : List ℕ) → length bytes ≢ f.length → Says f (Some bytes) file.WrongLength)
+    (unread : (content : Option (List ℕ)) → Says f content file.Unreadable) where
+  pub found_as : (answer : Result (Option Found) DeviceFault) → IfOk answer (HoldsFound stated t f s bits) → SaysAs says f.first_piece answer v
+      → FindsAs r Says t f stated bits v
+  found_as (Ok (Some x)) got at = subst (FindsAs r Says t f stated bits) (both_are v (says x) (v1_says f.first_piece x.bad_cut) at.0 at.1) (record {
+    content = Some got.bytes;
+    agrees = got.agrees;
+    verdict = good got.bytes x got.so;
+    version1 = λ w hybrid. v1_good_or_bad t w r f s got.bytes x.bad_cut span (got.so.judged.1 w hybrid);
+    checked = v1_checked f.first_piece x.bad_cut ∙ sym (on x);
+    marks = λ runs. (got.bytes, refl, row_marks t r f s got.bytes bits span got.so.bits_of);
+  })
+  found_as (Ok None) got at = finds_other_length t r f Says stated bits v got.bytes (other got.bytes got.so.other) got.agrees
+      (λ runs. (got.bytes, refl, row_marks t r f s got.bytes bits span got.so.bits_of)) at.0 at.1
+  found_as (Err e) got at = finds_unreadable t r f Says stated bits v unread at.0 at.1
+
+-- the file was opened at the first of its pieces in the part
 pub finds_read : (t : Description) (r : Places) (f : FileEntry) (s : Span) (stated : Option (Option (List ℕ))) (left : Option (List ℕ)) (bits : List ℕ)
     (answer : Result (Option Found) DeviceFault) (v : Verdicts)
     → IsSpanOf t r f s → IsFound (from_offset (t.piece_length * s.from) stated) (Some left) → IfOk answer (FindsPieces t f s left bits)
     → SaysFound f.first_piece answer v → FindsFile t r f stated bits v
-finds_read t r f s stated left bits (Ok (Some found)) v span opened read says =
-    let on = goes_on_so stated (t.piece_length * s.from) left read.rest opened read.agrees in
-    let so = read.each on.bytes on.from_there in
-    as_both t r f stated bits v (file_says f.first_piece found.bad) (v1_says f.first_piece found.bad_cut) says.0 says.1 (record {
-      content = Some on.bytes;
-      agrees = on.agrees;
-      verdict = good_or_bad t r f s on.bytes found.bad span so.ends so.whole so.judged.0;
-      version1 = λ w hybrid. v1_good_or_bad t w r f s on.bytes found.bad_cut span (so.judged.1 w hybrid);
-      checked = says_checked f.first_piece found.bad found.bad_cut;
-      marks = λ runs. (on.bytes, refl, row_marks t r f s on.bytes bits span so.bits_of);
-    })
-finds_read t r f s stated left bits (Ok None) v span opened read says =
-    let on = goes_on_so stated (t.piece_length * s.from) left read.rest opened read.agrees in
-    as_both t r f stated bits v file.WrongLength version1.NotChecked says.0 says.1 (record {
-      content = Some on.bytes;
-      agrees = on.agrees;
-      verdict = (on.bytes, refl, (read.each on.bytes on.from_there).other);
-      version1 = λ w hybrid. tt;
-      checked = refl;
-      marks = λ runs. (on.bytes, refl, row_marks t r f s on.bytes bits span (read.each on.bytes on.from_there).bits_of);
-    })
-finds_read t r f s stated left bits (Err e) v span opened read says = finds_unreadable t r f stated bits v says.0 says.1
+finds_read t r f s stated left bits answer v span opened read says =
+    found_as t r f s span (IsPartVerdict t r) (λ x. file_says f.first_piece x.bad) (file_is_whole f.first_piece) stated bits v
+    (λ bytes x so. good_or_bad t r f s bytes x.bad span so.ends so.whole so.judged.0) (λ bytes other. (bytes, refl, other)) (λ content. tt) answer
+    (held answer read) says
+  where
+    held : (answer : Result (Option Found) DeviceFault) → IfOk answer (FindsPieces t f s left bits) → IfOk answer (HoldsFound stated t f s bits)
+    held (Ok found) read =
+        let on = goes_on_so stated (t.piece_length * s.from) left read.rest opened read.agrees in
+        record { bytes = on.bytes; agrees = on.agrees; so = read.each on.bytes on.from_there }
+    held (Err e) read = tt
 
 -- ---- numbers
 
@@ -215,7 +238,7 @@ small_from t n f s (Some k) sound there span below =
 
 -- the numbers of pieces that were found fit
 pub small_pieces : (t : Description) (n : ℕ) (f : FileEntry) (s : Span) (answer : Result (Option Found) DeviceFault) → IsSound t → slice_get t.files n ≡ Some f
-    → IsSpan t f s → IfOk answer (λ found. IfSome found (AreBelow s.to)) → HasSmallPieces f.first_piece answer
+    → IsSpan t f s → IfOk answer (λ found. IfSome found (HasNumbersBelow s.to)) → HasSmallPieces f.first_piece answer
 small_pieces t n f s (Ok (Some found)) sound there span below =
     (small_from t n f s found.bad sound there span below.0, small_from t n f s found.bad_cut sound there span below.1)
 small_pieces t n f s (Ok None) sound there span below = tt

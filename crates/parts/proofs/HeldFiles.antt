@@ -16,23 +16,16 @@ use Rattle.folders.specs.declared.report.FileVerdict.TheVariants as file
 use Rattle.folders.specs.declared.report.V1Verdict.TheVariants as version1
 use Rattle.folders.specs.declared.shelf.Shelf.{Ghosts}
 use Rattle.folders.proofs.Pieces.{all_given, longer_content}
-use Rattle.folders.proofs.Visiting.{agrees_opened}
-use Rattle.parts.specs.Finding.{FindsWhole}
+use Rattle.folders.proofs.Visiting.{agrees_missing, agrees_opened}
+use Rattle.parts.specs.Finding.{FindsWhole, all_places}
 use Rattle.folders.specs.Rooms.{FitsIn, FillsRoom}
 use Rattle.parts.specs.Held.{IsHeldFor, Promises, VisitsFound}
 use Rattle.parts.specs.declared.held.Held.{Held}
 use Rattle.parts.specs.declared.held.Held.TheVariants as held
 use Rattle.folders.specs.declared.room.RoomReader.{RoomReader}
 use Rattle.parts.specs.declared.verdicts.Verdicts.{Verdicts}
-use Rattle.parts.proofs.WholeFiles.{as_both, whole_missing, whole_unreadable}
-
--- a file that was read whole could be read
-readable : (v : FileVerdict) → is_whole v ≡ true → is_unreadable v ≡ false
-readable file.Good on = refl
-readable file.Missing on = refl
-readable file.Unreadable on = let no : ⊥ = cc in absurd no
-readable file.WrongLength on = refl
-readable (file.Bad p) on = refl
+use Rattle.parts.proofs.FoundFiles.{finds_missing, finds_other_length, finds_unreadable}
+use Rattle.parts.proofs.PartReads.{readable}
 
 no : (b : Bool) → b ≡ true → b ≡ false → ⊥
 no b on off = cc
@@ -119,14 +112,9 @@ module _ {S F : Type 0} (shelf : Ghosts S F) (seen : F → SourceSeen) (t : Desc
       let row : List ℕ = take (r.size + 1) (drop r.at s.room.items) in
       let fills : Fills old new row count = read.filled in
       let given : length (take count row) ≡ count = length-take count row ∙ omega (arith, fills.bound) in
-      visited (Ok count) v visit (as_both t f ((shelf.contents s0).under f.path) [] v file.WrongLength version1.NotChecked at bt (record {
-        content = Some bytes;
-        agrees = agrees_opened ((shelf.contents s0).under f.path) old.left bytes visit.found agrees;
-        verdict = (bytes, refl, other);
-        version1 = λ w hybrid. tt;
-        checked = refl;
-        marks = λ runs. (bytes, refl, λ j lt. absurd (omega (arith, lt)));
-      })) (subst (λ w. IsReadFor t f w old new) (sym at) (record {
+      visited (Ok count) v visit (finds_other_length t (all_places t) f (IsVerdict t) ((shelf.contents s0).under f.path) [] v bytes (bytes, refl, other)
+      (agrees_opened ((shelf.contents s0).under f.path) old.left bytes visit.found agrees) (λ runs. (bytes, refl, λ j lt. absurd (omega (arith, lt)))) at bt)
+      (subst (λ w. IsReadFor t f w old new) (sym at) (record {
         within = subst (λ n. IsReadWithin (n + 1) old new) size read.no_further;
         own_fault = read.counts;
         gives = λ _. record {
@@ -165,7 +153,7 @@ module _ {S F : Type 0} (shelf : Ghosts S F) (seen : F → SourceSeen) (t : Desc
       let old = seen visit.file in
       let new = seen visit.handed.read in
       let read = visit.handed.reading in
-      visited (Err fault) v visit (whole_unreadable t f ((shelf.contents s0).under f.path) [] v at bt)
+      visited (Err fault) v visit (finds_unreadable t (all_places t) f (IsVerdict t) ((shelf.contents s0).under f.path) [] v (λ content. tt) at bt)
       (subst (λ w. IsReadFor t f w old new) (sym at) (record {
         within = subst (λ n. IsReadWithin (n + 1) old new) size read.no_further;
         own_fault = read.counts;
@@ -188,7 +176,8 @@ module _ {S F : Type 0} (shelf : Ghosts S F) (seen : F → SourceSeen) (t : Desc
   pub promises_missing : shelf.opens s0 f.path (Ok None) s1 → IsFound ((shelf.contents s0).under f.path) None → shelf.faults s1 ≡ shelf.faults s0
       → Promises shelf seen t s0 f (held.Missing, bytes) s1
   promises_missing opened found quiet v (at, bt) = record {
-    finds = whole_missing t f ((shelf.contents s0).under f.path) [] v found at bt;
+    finds = finds_missing t (all_places t) f (IsVerdict t) ((shelf.contents s0).under f.path) [] v refl
+        (agrees_missing ((shelf.contents s0).under f.path) found) at bt;
     visits = record { answer = Ok None; opened = opened; follows = at };
     counts = quiet ∙ sym (ap (λ w. more (shelf.faults s0) (fault_count w)) at);
     stays = stays;
@@ -197,7 +186,7 @@ module _ {S F : Type 0} (shelf : Ghosts S F) (seen : F → SourceSeen) (t : Desc
   pub promises_unopened : (fault : DeviceFault) → shelf.opens s0 f.path (Err fault) s1 → shelf.faults s1 ≡ one_more (shelf.faults s0)
       → Promises shelf seen t s0 f (held.Unreadable, bytes) s1
   promises_unopened fault opened counted v (at, bt) = record {
-    finds = whole_unreadable t f ((shelf.contents s0).under f.path) [] v at bt;
+    finds = finds_unreadable t (all_places t) f (IsVerdict t) ((shelf.contents s0).under f.path) [] v (λ content. tt) at bt;
     visits = record { answer = Err fault; opened = opened; follows = at };
     counts = counted ∙ sym (ap (λ w. more (shelf.faults s0) (fault_count w)) at);
     stays = stays;

@@ -5,12 +5,12 @@ use Rattle.std.proofs.lemmas.Option.{same_Some}
 use Rattle.std.proofs.lemmas.List.{nil_from_length}
 use Rattle.std.proofs.lemmas.Bool.{cases_lt}
 use Rattle.chains.proofs.Cases.{same_or_not}
-use Rattle.hashtree.specs.Tree.{block_count, filled, height, layer_of, root_of}
+use Rattle.hashtree.specs.Tree.{Fits, block_count, filled, height, layer_of, root_of}
 use Rattle.opening.specs.Description.{Description, FileEntry, TreeEntry}
 use Rattle.pieces.specs.Pieces.{pieces_of}
 use Rattle.pieces.proofs.Cutting.{some_pieces, cut_count_none}
 use Rattle.opening.specs.Sound.{IsSound, piece_layer}
-use Rattle.folders.specs.Folder.{FitsTree, IsGoodFile, tree_entry_of}
+use Rattle.folders.specs.Folder.{IsGoodFile, tree_entry_of}
 use Rattle.folders.specs.Verdicts.{IsBad, IsFirstBadPiece, IsListedNode, IsVerdict}
 use Rattle.folders.specs.declared.report.FileVerdict.{FileVerdict}
 use Rattle.folders.specs.declared.report.FileVerdict.TheVariants as file
@@ -28,7 +28,7 @@ pub record ContentCollides (t : Description) (f : FileEntry) (content : Option (
   pub tree : TreeEntry
   pub content_is : content ≡ Some bytes
   pub tree_is : tree_entry_of t f ≡ Some tree
-  pub fits : FitsTree tree bytes
+  pub fits : Fits bytes tree.length tree.root
   pub rows : RowsCollide
       (filled (height (block_count tree.length)) (piece_layer t.piece_length) (layer_of bytes (piece_layer t.piece_length)))
       (filled (height (block_count tree.length)) (piece_layer t.piece_length) tree.layer)
@@ -76,7 +76,7 @@ bad_collides t n f e bytes k sound there is len root inside differs =
     let sound_e = sound_tree t f e sound is in
     elim (cases_lt t.piece_length e.length) [
       | inr short ↦ absurd (differs (record { tree = e; tree_is = is; only = λ _. root; listed = λ long. absurd (omega (arith, short, long)) }))
-      | inl long ↦ other_collides t.piece_length e bytes k sound.legal sound_e (record { length_is = len ∙ sym tree.0; root_is = root }) long
+      | inl long ↦ other_collides t.piece_length e bytes k sound.legal sound_e (record { same_length = len ∙ sym tree.0; same_root = root }) long
           (subst (λ c. k < c) (sym (sound_e.layer_length long ∙ ap (pieces_of t.piece_length) tree.0)) inside)
           (λ listed. differs (record { tree = e; tree_is = is; only = λ short. absurd (omega (arith, short, long)); listed = λ _. listed }))
     ]
@@ -165,8 +165,8 @@ module _ {A : Type 0} (places : A → Places) (says : A → FileVerdict) (parts 
                 e.0,
                 e.1,
                 record {
-                  length_is = found.2 ∙ sym (has_tree t n f e.0 sound there e.1).0;
-                  root_is = root_from_pieces t n f e.0 found.0 sound there e.1 found.2 (pieces_found file.Good said found.0 found.1 refl);
+                  same_length = found.2 ∙ sym (has_tree t n f e.0 sound there e.1).0;
+                  same_root = root_from_pieces t n f e.0 found.0 sound there e.1 found.2 (pieces_found file.Good said found.0 found.1 refl);
                 },
               );
         },
@@ -184,7 +184,7 @@ module _ {A : Type 0} (places : A → Places) (says : A → FileVerdict) (parts 
           tree = e.0;
           content_is = is;
           tree_is = e.1;
-          fits = record { length_is = len ∙ sym (has_tree t n f e.0 sound there e.1).0; root_is = same };
+          fits = record { same_length = len ∙ sym (has_tree t n f e.0 sound there e.1).0; same_root = same };
           rows = bad_collides t n f e.0 bytes bad.place sound there e.1 len same bad.inside bad.differs;
         })
         | inr other ↦ inl (

@@ -8,7 +8,7 @@ use Rattle.folders.specs.Folder.{tree_entry_of}
 use Rattle.folders.specs.Verdicts.{is_whole}
 use Rattle.parts.specs.FilePieces.{FindsPieces}
 use Rattle.parts.specs.Finding.{FindsWhole}
-use Rattle.parts.specs.Held.{AreCutsGood, IsJudged, IsJudgedGood}
+use Rattle.parts.specs.Held.{AreCutsGood, IsFileJudged, IsJudgedGood}
 use Rattle.parts.specs.Parts.{IsVersion1Good}
 use Rattle.parts.specs.Saying.{SaysWhole}
 use Rattle.parts.specs.declared.held.Held.TheVariants as held
@@ -35,7 +35,7 @@ judged_good t n f bytes sound there long cuts root = (
 -- bytes that were judged as a row of pieces
 pub judged_row : (t : Description) (n : ℕ) (f : FileEntry) (bytes bits : List ℕ) (s : Span) (found : Option Found) (v : Verdicts) → IsSound t
     → slice_get t.files n ≡ Some f → IsWholeSpan t f s → length bytes ≡ f.length → bits ≡ [] → FindsPieces t f s (Some bytes) bits found
-    → SaysWhole f.first_piece (Ok found) v → IsJudged t f held.Whole bytes v
+    → SaysWhole f.first_piece (Ok found) v → IsFileJudged t f held.Whole bytes v
 judged_row t n f bytes bits s None v sound there whole long none finds says =
     let so = finds.each finds.rest (from_start t s f finds.rest whole) in
     absurd (so.other (ap length (sym (finds.agrees bytes refl)) ∙ long))

@@ -18,7 +18,7 @@ use Rattle.folders.specs.declared.report.V1Verdict.{V1Verdict}
 use Rattle.folders.specs.declared.report.V1Verdict.TheVariants as version1
 use Rattle.folders.proofs.Reports.{good_length, not_bad, none_unreadable}
 use Rattle.folders.proofs.Streaming.{one_stream}
-use Rattle.parts.specs.Laws.{IsReportOf}
+use Rattle.parts.specs.Laws.{IsReportOfContents}
 
 -- ---- a file
 
@@ -103,7 +103,8 @@ one_v1 t v contents version1.NotChecked version1.NotChecked checked a_is b_is = 
 -- ---- reports
 
 same_files : (t : Description) (contents : Contents) (files others : List FileVerdict) (v1 other_v1 : Option V1Verdict) → IsSound t
-    → IsReportOf t contents files v1 → IsReportOf t contents others other_v1 → unreadable_count files ≡ 0 → unreadable_count others ≡ 0 → files ≡ others
+    → IsReportOfContents t contents files v1 → IsReportOfContents t contents others other_v1 → unreadable_count files ≡ 0 → unreadable_count others ≡ 0
+    → files ≡ others
 same_files t contents files others v1 other_v1 sound one other none none_of = same_lists files others (one.has.count ∙ sym other.has.count) (λ n d lt.
     let f = item_at t.files n (omega (arith, lt, one.has.count)) in
     let v = item_at files n lt in
@@ -114,7 +115,7 @@ same_files t contents files others v1 other_v1 sound one other none none_of = sa
     ∙ sym (get_or_from_slice_get others n w.0 d w.1))
 
 same_v1 : (t : Description) (contents : Contents) (files others : List FileVerdict) (v1 other_v1 : Option V1Verdict)
-    → IsReportOf t contents files v1 → IsReportOf t contents others other_v1 → files ≡ others → v1 ≡ other_v1
+    → IsReportOfContents t contents files v1 → IsReportOfContents t contents others other_v1 → files ≡ others → v1 ≡ other_v1
 same_v1 t contents files others None None one other same = refl
 same_v1 t contents files others None (Some b) one other same = let no : false ≡ true = one.has.hybrid ∙ sym other.has.hybrid in absurd (differ no)
   where
@@ -130,7 +131,8 @@ same_v1 t contents files others (Some a) (Some b) one other same =
     (one.are_true.version1 v.0 a v.1 refl) (other.are_true.version1 v.0 b v.1 refl))
 
 pub report_is_one : (t : Description) (contents : Contents) (files others : List FileVerdict) (v1 other_v1 : Option V1Verdict) → IsSound t
-    → IsReportOf t contents files v1 → IsReportOf t contents others other_v1 → unreadable_count files ≡ 0 → unreadable_count others ≡ 0 → (files ≡ others)
+    → IsReportOfContents t contents files v1 → IsReportOfContents t contents others other_v1 → unreadable_count files ≡ 0 → unreadable_count others ≡ 0
+    → (files ≡ others)
     × (v1 ≡ other_v1)
 report_is_one t contents files others v1 other_v1 sound one other none none_of =
     let same = same_files t contents files others v1 other_v1 sound one other none none_of in

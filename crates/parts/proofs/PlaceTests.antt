@@ -39,13 +39,13 @@ below a b is = grind arith
 is_below : (a b : ℕ) → a < b → IsTrue (nat_lt a b)
 is_below a b lt = grind arith
 
-has_to_touch : (t : Description) (r : Places) (f : FileEntry) → IsTrue (has_place t r f) → Touches t r f
+pub has_to_touch : (t : Description) (r : Places) (f : FileEntry) → IsTrue (has_place t r f) → Touches t r f
 has_to_touch t r f is =
     let held : ℕ = max r.from f.first_piece in
     let two = both_true (nat_le held (last_place t f)) (nat_lt held r.to) is in
     (held, omega arith, at_most held (last_place t f) two.0, (omega arith, below held r.to two.1))
 
-touch_to_has : (t : Description) (r : Places) (f : FileEntry) → Touches t r f → IsTrue (has_place t r f)
+pub touch_to_has : (t : Description) (r : Places) (f : FileEntry) → Touches t r f → IsTrue (has_place t r f)
 touch_to_has t r f touched =
     let held : ℕ = max r.from f.first_piece in
     true_both (nat_le held (last_place t f)) (nat_lt held r.to)

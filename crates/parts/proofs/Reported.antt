@@ -1,17 +1,17 @@
 -- What callers see of a check whose lines go out as it goes.
-use Rattle.std.proofs.Common.{◌≡◌, ◌∙◌, inl, inr, ℕ, suc, ◌+◌, List, [], ◌∷◌, ◌++◌, length}
+use Rattle.std.proofs.Common.{◌≡◌, ◌∙◌, inl, inr, ℕ, suc, ◌+◌, append_assoc, List, [], ◌∷◌, ◌++◌, length}
 use Rattle.std.proofs.Common.{slice_get, take, Option, Some, Result, Ok, Err, IfOk, IfErr, refl, sym, ap, subst, arith}
-use Rattle.std.proofs.lemmas.List.{length_push, take_all}
-use Rattle.std.proofs.lemmas.Option.{get_or_from_slice_get, slice_get_within}
+use Rattle.std.proofs.lemmas.Bool.{cases_lt}
+use Rattle.std.proofs.lemmas.List.{length_push, take-append-le, take_all}
 use Rattle.std.specs.Io.KnownBytes.{Appends}
 use Rattle.std.proofs.Math.Seq.{take-append-add}
 use Rattle.benc.specs.Device.{Broke, BrokeOrUnflushed, Sent, SentAndFlushed, SinkSeen, SourceSeen, one_more}
 use Rattle.benc.proofs.Known.{Appends-append, Appends_nothing}
 use Rattle.benc.proofs.Out.{Broke-append, Sent-append}
 use Rattle.chains.specs.Chain.{Chain}
-use Rattle.chains.proofs.Chains.{Chain-next}
+use Rattle.chains.proofs.Chains.{Chain-item}
 use Rattle.opening.specs.Description.{Description, FileEntry}
-use Rattle.folders.specs.Printed.{end_as, report_as, verdicts_as, wanted_as}
+use Rattle.folders.specs.Printed.{Wording, end_as, report_as, verdicts_as, wanted_as}
 use Rattle.folders.specs.Stopping.{BreaksOffAs}
 use Rattle.folders.specs.Visits.{Visits}
 use Rattle.folders.specs.declared.report_lines.Lines.{Lines}
@@ -20,13 +20,44 @@ use Rattle.folders.specs.declared.report.Report.{Report}
 use Rattle.folders.specs.declared.report.V1Verdict.{V1Verdict}
 use Rattle.folders.specs.declared.shelf.Shelf.{Ghosts}
 use Rattle.folders.proofs.SentLines.{verdicts_push}
-use Rattle.parts.proofs.ToldFirst.{length-told}
-use Rattle.parts.specs.Checking.{ChecksAll, ChecksAndSays, ChecksFile, ChecksWhole, EndsFiles, StopsTelling, verdicts_in}
+use Rattle.parts.specs.Checking.{ChecksAll, ChecksAndSays, ChecksWhole, EndsFiles, StopsTelling}
+use Rattle.parts.specs.Visiting.{Visiting, VisitsOne, verdicts_in, whole_visiting}
 use Rattle.parts.specs.Words.{Words}
 use Rattle.lines.specs.declared.out_fault.OutFault.{OutFault as CheckFault}
 use Rattle.lines.specs.declared.out_fault.OutFault.TheVariants as stopped
 use Rattle.parts.specs.declared.telling.Telling.{Telling}
 use Rattle.parts.specs.declared.telling.Telling.TheVariants as telling
+use Rattle.parts.proofs.ToldFirst.{length-told, visits_of, visits_once}
+use Rattle.parts.proofs.WholeVisits.{stopped_true}
+
+pub at_next : {A : Type 0} (xs : List A) (x : A) (n : ℕ) → slice_get (x ∷ xs) (n + 1) ≡ slice_get xs n
+at_next xs x n = let e : n + 1 ≡ suc n = omega arith in ap (slice_get (x ∷ xs)) e
+
+-- the lines of the first files, and of more of them
+longer_lines : (words : Wording) (which : Lines) (vs others : List FileVerdict) (fs : List FileEntry)
+    → (rest : List ℕ) × (verdicts_as words which (vs ++ others) fs ≡ verdicts_as words which vs fs ++ rest)
+longer_lines words which [] others fs = (verdicts_as words which others fs, refl)
+longer_lines words which (v ∷ vs) others [] = ([], refl)
+longer_lines words which (v ∷ vs) others (f ∷ fs) =
+    let (rest, is) = longer_lines words which vs others fs in
+    (rest, ap (λ t. wanted_as words which v f ++ t) is ∙ sym (append_assoc (wanted_as words which v f) (verdicts_as words which vs fs) rest))
+
+-- what broke off within a text did so within a longer one
+broke_longer : (a b : SinkSeen) (x y : List ℕ) → Broke a b x → Broke a b (x ++ y)
+broke_longer a b x y p =
+    let n = p.bytes.0 in
+    record {
+      bytes = elim (cases_lt n (length x)) [
+        | inl short ↦ (n, subst (Appends a.written b.written) (sym (take-append-le n x y (omega (arith, short)))) p.bytes.1)
+        | inr all ↦ (
+          length x,
+          subst (Appends a.written b.written) (take_all n x all ∙ sym (take_all (length x) x (omega arith)) ∙ sym (take-append-le (length x) x y (omega arith)))
+              p.bytes.1,
+        )
+      ];
+      faults = p.faults;
+      flushes = p.flushes;
+    }
 
 -- each text is the line of its file
 abbrev AreLines : Words → Lines → List FileEntry → List (FileVerdict × List ℕ) → Type 0
@@ -56,17 +87,12 @@ unflushed_after a b c x y p q =
     }
 
 module _ {S F : Type 0} (shelf : Ghosts S F) (seen : F → SourceSeen) (t : Description) where
-  -- the visits of some files
-  visits_of : (old : S × SinkSeen) (fs : List FileEntry) (told : List (FileVerdict × List ℕ)) (new : S × SinkSeen)
-      → Chain (ChecksFile shelf seen t) old fs told new → Chain (Visits shelf seen t) old.0 fs (verdicts_in told) new.0
-  visits_of old [] [] new e = ap (λ (x : S × SinkSeen). x.0) e
-  visits_of old [] (x ∷ xs) new e = absurd e
-  visits_of old (f ∷ fs) [] new e = absurd e
-  visits_of old (f ∷ fs) (x ∷ xs) new (mid, step, rest) = (mid.0, step.visits, visits_of mid fs xs new rest)
+  abbrev V : Visiting S
+  V = whole_visiting shelf seen t
 
-  -- and their lines
+  -- the lines of some files
   sent_of : (words : Words) (lines : Lines) (old : S × SinkSeen) (fs : List FileEntry) (told : List (FileVerdict × List ℕ)) (new : S × SinkSeen)
-      → Chain (ChecksFile shelf seen t) old (take (length told) fs) told new → AreLines words lines fs told
+      → Chain (VisitsOne V) old (take (length told) fs) told new → AreLines words lines fs told
       → Sent old.1 new.1 (verdicts_as words.report lines (verdicts_in told) fs)
   sent_of words lines old fs [] new e each =
       subst (λ (x : S × SinkSeen). Sent old.1 x.1 []) (sym e) (record { bytes = Appends_nothing old.1.written; faults = refl; flushes = refl })
@@ -75,26 +101,18 @@ module _ {S F : Type 0} (shelf : Ghosts S F) (seen : F → SourceSeen) (t : Desc
       Sent-append old.1 mid.1 new.1 (wanted_as words.report lines x.0 f) (verdicts_as words.report lines (verdicts_in xs) fs)
       (subst (Sent old.1 mid.1) (each 0 f x refl refl) step.told)
       (sent_of words lines mid fs xs new rest (λ n g y there is. each (n + 1) g y (at_next fs f n ∙ there) (at_next xs x n ∙ is)))
-    where
-      at_next : {A : Type 0} (xs : List A) (x : A) (n : ℕ) → slice_get (x ∷ xs) (n + 1) ≡ slice_get xs n
-      at_next xs x n = let e : n + 1 ≡ suc n = omega arith in ap (slice_get (x ∷ xs)) e
-
-  -- each file was visited once
-  pub whole_once : {words : Words} (telling : Telling) (verdicts : List FileVerdict) (v1 : Option V1Verdict) (old new : S × SinkSeen)
-      → ChecksAll shelf seen words t telling verdicts v1 old new → Chain (Visits shelf seen t) old.0 t.files verdicts new.0
-  whole_once {words} telling verdicts v1 old new all =
-      subst (λ vs. Chain (Visits shelf seen t) old.0 t.files vs new.0) all.verdicts_are (visits_of old t.files all.told new all.files)
 
   -- the lines of all files
   lines_all : (words : Words) (lines : Lines) (verdicts : List FileVerdict) (v1 : Option V1Verdict) (old new : S × SinkSeen)
       → ChecksAll shelf seen words t (telling.Line lines) verdicts v1 old new → Sent old.1 new.1 (verdicts_as words.report lines verdicts t.files)
   lines_all words lines verdicts v1 old new all =
-      let count : length all.told ≡ length t.files =
-      sym (length-told all.told) ∙ ap length all.verdicts_are ∙ all.has.count in
-      subst (λ vs. Sent old.1 new.1 (verdicts_as words.report lines vs t.files)) all.verdicts_are
-      (sent_of words lines old t.files all.told new
-      (subst (λ fs. Chain (ChecksFile shelf seen t) old fs all.told new) (sym (take_all (length all.told) t.files (omega (arith, count)))) all.files)
-      all.tells)
+      let visits = all.visits in
+      let count : length visits.told ≡ length t.files =
+      sym (length-told visits.told) ∙ ap length visits.verdicts_are ∙ visits.has.count in
+      subst (λ vs. Sent old.1 new.1 (verdicts_as words.report lines vs t.files)) visits.verdicts_are
+      (sent_of words lines old t.files visits.told new
+      (subst (λ fs. Chain (VisitsOne V) old fs visits.told new) (sym (take_all (length visits.told) t.files (omega (arith, count)))) visits.visited)
+      (λ n f x there said. (visits.each n f x there said).1))
 
   -- the whole report went out
   pub onto_report : (words : Words) (lines : Lines) (verdicts : List FileVerdict) (v1 : Option V1Verdict) (old new : S × SinkSeen)
@@ -107,38 +125,49 @@ module _ {S F : Type 0} (shelf : Ghosts S F) (seen : F → SourceSeen) (t : Desc
   -- or it broke off
   pub onto_cut : (words : Words) (lines : Lines) (old new : S × SinkSeen) → StopsTelling shelf seen words t (telling.Line lines) lines old new
       → BreaksOffAs shelf seen words.report t old.0 lines old.1 new.1 new.0
-  onto_cut words lines old new (inl (inr batch)) = record { files = batch.0; visits = batch.1; broke = inl batch.2 }
+  onto_cut words lines old new (inl (inr batch)) =
+      let first : List FileVerdict = batch.told ++ batch.verdict ∷ [] in
+      let (more_text, text_is) = longer_lines words.report lines first batch.ahead t.files in
+      let broke = Broke-append old.1 batch.mid new.1 (verdicts_as words.report lines batch.told t.files) (wanted_as words.report lines batch.verdict batch.file)
+      batch.sent batch.broke in
+      let line = subst (Broke old.1 new.1) (sym (verdicts_push words.report lines batch.told t.files batch.verdict batch.file batch.file_is)) broke in
+      let longer = broke_longer old.1 new.1 (verdicts_as words.report lines first t.files) more_text line in
+      record {
+        files = batch.told ++ batch.verdict ∷ batch.ahead;
+        visits = batch.visits;
+        broke = inl (subst (λ vs. Broke old.1 new.1 (verdicts_as words.report lines vs t.files))
+            (append_assoc batch.told (batch.verdict ∷ []) batch.ahead) (subst (Broke old.1 new.1) (sym text_is) longer));
+      }
   onto_cut words lines old new (inl (inl one)) =
       let vs : List FileVerdict = verdicts_in one.told in
       let count : length vs ≡ length one.told = length-told one.told in
       let there : slice_get t.files (length vs) ≡ Some one.file = ap (slice_get t.files) count ∙ one.file_is in
       let before : Chain (Visits shelf seen t) old.0 (take (length vs) t.files) vs one.between.0 =
       subst (λ m. Chain (Visits shelf seen t) old.0 (take m t.files) vs one.between.0) (sym count)
-      (visits_of old (take (length one.told) t.files) one.told one.between one.before) in
-      let step = Chain-next (Visits shelf seen t) old.0 one.between.0 new.0 t.files (length vs) vs one.file one.verdict
-      (slice_get_within t.files (length vs) one.file there) before
-      (subst (λ h. Visits shelf seen t one.between.0 h one.verdict new.0) (sym (get_or_from_slice_get t.files
-      (length vs) one.file one.file there)) one.visits) in
+      (visits_of V old (take (length one.told) t.files) one.told one.between one.before) in
+      let step = Chain-item (Visits shelf seen t) old.0 one.between.0 new.0 t.files (length vs) vs one.file one.verdict there before one.visits in
       record {
         files = vs ++ one.verdict ∷ [];
         visits = record {
           once = subst (λ m. Chain (Visits shelf seen t) old.0 (take m t.files) (vs ++ one.verdict ∷ []) new.0) (sym (length_push vs one.verdict)) step;
           counted = one.counts.counted;
-          are_true = one.are_true;
+          are_true = stopped_true shelf seen t words (telling.Line lines) old new one;
         };
         broke = inl (subst (Broke old.1 new.1) (sym (verdicts_push words.report lines vs t.files one.verdict one.file there))
             (Broke-append old.1 one.between.1 new.1 (verdicts_as words.report lines vs t.files) (wanted_as words.report lines one.verdict one.file)
-            (sent_of words lines old t.files one.told one.between one.before one.tells) (subst (Broke one.between.1 new.1) one.last one.broke)));
+            (sent_of words lines old t.files one.told one.between one.before (λ n f x at said. (one.each n f x at said).1))
+            (subst (Broke one.between.1 new.1) one.last one.broke)));
       }
   onto_cut words lines old new (inr end) =
       let all = end.all in
+      let visits = all.visits in
       record {
         files = end.verdicts;
         visits = record {
           once = subst (λ fs. Chain (Visits shelf seen t) old.0 fs end.verdicts new.0)
-              (sym (take_all (length end.verdicts) t.files (omega (arith, all.has.count))))
-              (whole_once (telling.Line lines) end.verdicts end.v1 old (new.0, end.mid) all);
-          counted = all.counts.counted;
+              (sym (take_all (length end.verdicts) t.files (omega (arith, visits.has.count))))
+              (visits_once V words t (telling.Line lines) end.verdicts end.v1 old (new.0, end.mid) visits);
+          counted = visits.counts.counted;
           are_true = record {
             contents = all.are_true.contents;
             agree = λ k f lt there. all.are_true.agree k f there;
@@ -147,7 +176,7 @@ module _ {S F : Type 0} (shelf : Ghosts S F) (seen : F → SourceSeen) (t : Desc
         };
         broke = inr (
           end.v1,
-          all.has,
+          visits.has,
           all.are_true,
           unflushed_after old.1 end.mid new.1 (verdicts_as words.report lines end.verdicts t.files) (end_as words.report lines end.verdicts end.v1)
               (lines_all words lines end.verdicts end.v1 old (new.0, end.mid) all) end.broke,

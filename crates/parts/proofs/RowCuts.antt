@@ -14,7 +14,7 @@ use Rattle.pieces.specs.Cuts.{cut, cut_digests}
 use Rattle.pieces.specs.Pieces.{pieces_of}
 use Rattle.pieces.proofs.Cutting.{digest_of_cut, length-cut_digests}
 use Rattle.folders.proofs.Places.{pieces_are_positive}
-use Rattle.parts.specs.FilePieces.{IsFirstBad}
+use Rattle.parts.specs.FilePieces.{IsFirstBadNumber}
 use Rattle.parts.specs.Parts.{IsVersion1Good, piece_count, version1_piece}
 use Rattle.parts.specs.RowChecks.{row_bytes, stream_part}
 use Rattle.parts.proofs.Streams.{to_pieces}
@@ -109,7 +109,7 @@ AreCompared t v f from to own found =
 pub row_cuts : (t : Description) (v : Version1) (n : ℕ) (f : FileEntry) (from to : ℕ) (bytes own rest : List ℕ) (found : Option ℕ) → IsSound t
     → slice_get t.files n ≡ Some f → t.v1 ≡ Some v → IsRow t f from to own → AreCompared t v f from to own found
     → drop (t.piece_length * from) bytes ≡ own ++ rest → (to ≡ piece_count t f → length bytes ≡ f.length)
-    → IsFirstBad from to (IsVersion1Good t v f bytes) (option_map (λ j. from + j) found)
+    → IsFirstBadNumber from to (IsVersion1Good t v f bytes) (option_map (λ j. from + j) found)
 row_cuts t v n f from to bytes own rest found sound there hybrid row compared at end =
     let pl : ℕ = t.piece_length in
     let first : ℕ = f.first_piece + from in

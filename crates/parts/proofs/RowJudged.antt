@@ -12,7 +12,7 @@ use Rattle.opening.specs.Description.{Description, FileEntry, TreeEntry}
 use Rattle.opening.specs.Sound.{IsSound}
 use Rattle.folders.specs.Folder.{tree_entry_of}
 use Rattle.folders.proofs.Places.{pieces_are_positive}
-use Rattle.parts.specs.FilePieces.{IsFirstBad}
+use Rattle.parts.specs.FilePieces.{IsFirstBadNumber}
 use Rattle.parts.specs.Parts.{IsPieceGood, piece_count}
 use Rattle.parts.specs.RowBits.{AreBitsOf}
 use Rattle.parts.specs.RowChecks.{IsRowOf}
@@ -74,7 +74,7 @@ pub row_first : (t : Description) (n : ℕ) (f : FileEntry) (e : TreeEntry) (fro
     (other : Option ℕ) → IsSound t → slice_get t.files n ≡ Some f → tree_entry_of t f ≡ Some e → IsRow t f from to own
     → IsRowOf t f e from to layer hashes → IsJudgedRow layer hashes own good other
     → drop (t.piece_length * from) bytes ≡ own ++ rest → (to ≡ piece_count t f → length bytes ≡ f.length)
-    → IsFirstBad from to (IsPieceGood t f bytes) (option_map (λ j. from + j) other)
+    → IsFirstBadNumber from to (IsPieceGood t f bytes) (option_map (λ j. from + j) other)
 row_first t n f e from to layer hashes bytes own rest good other sound there is row of judged at end =
     let nodes : List (List ℕ) = piece_nodes layer own in
     let count = hash_count t n f e from to layer hashes own sound there is row of in

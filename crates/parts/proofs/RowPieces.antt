@@ -15,7 +15,7 @@ use Rattle.pieces.specs.Cuts.{cut}
 use Rattle.pieces.specs.Pieces.{pieces_of}
 use Rattle.pieces.proofs.Cutting.{pieces_cover}
 use Rattle.folders.specs.Folder.{tree_entry_of}
-use Rattle.parts.specs.FilePieces.{IsFirstBad}
+use Rattle.parts.specs.FilePieces.{IsFirstBadNumber}
 use Rattle.parts.specs.Parts.{piece_count}
 use Rattle.parts.specs.RowChecks.{row_bytes}
 use Rattle.parts.proofs.GoodPieces.{in_layer, piece_fits}
@@ -29,7 +29,7 @@ pub first_of_rows : (xs ys : List (List ℕ)) (found : Option ℕ) (from to n : 
     → IsComparison xs ys found
     → ((j : ℕ) → j < n → get_or xs j [] ≡ get_or ys j [] → IsGood (from + j))
     → ((j : ℕ) → j < n → IsGood (from + j) → get_or xs j [] ≡ get_or ys j [])
-    → IsFirstBad from to IsGood (option_map (λ j. from + j) found)
+    → IsFirstBadNumber from to IsGood (option_map (λ j. from + j) found)
 first_of_rows xs ys None from to n IsGood at xs_len ys_len same onto back = λ k low lt.
     let place : from + (k - from) ≡ k = omega (arith, low) in
     subst IsGood place (onto (k - from) (omega (arith, low, lt, at)) (ap (λ l. get_or l (k - from) []) same))

@@ -19,7 +19,7 @@ use Rattle.pieces.specs.Cuts.{IsComparison, cut_digests}
 use Rattle.pieces.specs.declared.v1_feed.V1Feed.{V1Feed}
 use Rattle.folders.specs.CutFeeds.{AreCutsJudged, CutsStandAt, HasCutRoom}
 use Rattle.folders.specs.Folder.{tree_entry_of}
-use Rattle.folders.specs.RowFeeds.{IsFresh, JudgesRow}
+use Rattle.folders.specs.RowFeeds.{IsFreshFeed, JudgesRow}
 use Rattle.folders.specs.declared.row_feed.RowFeed.{RowFeed}
 use Rattle.folders.specs.declared.row_feed.RowFound.{RowFound}
 use Rattle.folders.proofs.Layers.{one_at_root, whole_layer}
@@ -109,7 +109,7 @@ begins_row t f s e feed shape layer hashes size begun at of begins part = record
 }
 
 pub fresh_row : (feed : RowFeed) (shape layer : ℕ) (hashes : List (List ℕ)) → BeginsRow shape layer hashes feed.check → AreClear feed.bits.items
-    → HasCutRoom feed.cuts.feed shape → IsFresh feed
+    → HasCutRoom feed.cuts.feed shape → IsFreshFeed feed
 fresh_row feed shape layer hashes begun clear room = record {
   count = begun.count;
   room = subst (HasCutRoom feed.cuts.feed) (sym begun.shape_is) room;

@@ -14,7 +14,7 @@ use Rattle.pieces.proofs.Cutting.{pieces_cover}
 use Rattle.folders.proofs.Places.{pieces_are_positive}
 use Rattle.parts.specs.Laws.{SharesHaveAllPlaces}
 use Rattle.parts.specs.Parts.{Holds, place_count}
-use Rattle.parts.specs.Shares.{all_bytes, place_in, start}
+use Rattle.parts.specs.Shares.{all_bytes, piece_at_byte, start}
 
 -- ---- all places
 
@@ -25,7 +25,7 @@ start_last : (t : Description) (n : ℕ) → 0 < n → start t n n ≡ place_cou
 start_last t n some =
     let other : nat_eq n 0 ≡ false = grind arith in
     let same : nat_eq n n ≡ true = grind arith in
-    let byte : ℕ = place_in t.piece_length (place_count t) t.files (all_bytes t / n * n) in
+    let byte : ℕ = piece_at_byte t.piece_length (place_count t) t.files (all_bytes t / n * n) in
     ap (λ b. cond b 0 (cond (nat_eq n n) (place_count t) byte)) other ∙ ap (λ b. cond b (place_count t) byte) same
 
 -- a place that comes before where some part begins is one of an earlier part
@@ -87,19 +87,20 @@ sum_next f t n g there =
 
 -- the place of a byte, one file on
 pub place_next : (pl past : ℕ) (fs : List FileEntry) (n byte : ℕ) (f : FileEntry) → slice_get fs n ≡ Some f
-    → place_in pl past (drop n fs) byte ≡ cond (nat_lt byte f.length) (f.first_piece + byte / pl) (place_in pl past (drop (n + 1) fs) (byte - f.length))
+    → piece_at_byte pl past (drop n fs) byte
+    ≡ cond (nat_lt byte f.length) (f.first_piece + byte / pl) (piece_at_byte pl past (drop (n + 1) fs) (byte - f.length))
 place_next pl past fs n byte f there =
-    ap (λ xs. place_in pl past xs byte)
+    ap (λ xs. piece_at_byte pl past xs byte)
     (drop_more fs n f (slice_get_within fs n f there) ∙ ap (λ g. g ∷ drop (n + 1) fs) (get_or_from_slice_get fs n f f there))
 
 pub place_here : (pl past : ℕ) (fs : List FileEntry) (n byte : ℕ) (f : FileEntry) → slice_get fs n ≡ Some f → byte < f.length
-    → place_in pl past (drop n fs) byte ≡ f.first_piece + byte / pl
+    → piece_at_byte pl past (drop n fs) byte ≡ f.first_piece + byte / pl
 place_here pl past fs n byte f there lt =
     let is : nat_lt byte f.length ≡ true = grind arith in
-    place_next pl past fs n byte f there ∙ ap (λ b. cond b (f.first_piece + byte / pl) (place_in pl past (drop (n + 1) fs) (byte - f.length))) is
+    place_next pl past fs n byte f there ∙ ap (λ b. cond b (f.first_piece + byte / pl) (piece_at_byte pl past (drop (n + 1) fs) (byte - f.length))) is
 
 pub place_later : (pl past : ℕ) (fs : List FileEntry) (n byte : ℕ) (f : FileEntry) → slice_get fs n ≡ Some f → f.length ≤ byte
-    → place_in pl past (drop n fs) byte ≡ place_in pl past (drop (n + 1) fs) (byte - f.length)
+    → piece_at_byte pl past (drop n fs) byte ≡ piece_at_byte pl past (drop (n + 1) fs) (byte - f.length)
 place_later pl past fs n byte f there le =
     let is : nat_lt byte f.length ≡ false = grind arith in
-    place_next pl past fs n byte f there ∙ ap (λ b. cond b (f.first_piece + byte / pl) (place_in pl past (drop (n + 1) fs) (byte - f.length))) is
+    place_next pl past fs n byte f there ∙ ap (λ b. cond b (f.first_piece + byte / pl) (piece_at_byte pl past (drop (n + 1) fs) (byte - f.length))) is

@@ -15,7 +15,7 @@ use Rattle.opening.specs.Description.{Description, FileEntry, Version1}
 use Rattle.pieces.specs.Pieces.{pieces_of}
 use Rattle.opening.specs.Sound.{IsSound}
 use Rattle.pieces.proofs.Cutting.{digest_of_cut}
-use Rattle.folders.specs.Folder.{Contents, Covers, IsStream, start_of}
+use Rattle.folders.specs.Folder.{Contents, Covers, IsStream, stream_start_of}
 use Rattle.folders.proofs.Places.{ends_before_next, pieces_are_positive, pieces_before, pieces_next, place_before, start_is}
 use Rattle.folders.proofs.Prefixes.{IsStreamPrefix, prefix_all, prefix_empty, prefix_file, prefix_none, prefix_zeros}
 use Rattle.parts.specs.Parts.{IsPieceAt, last_place, piece_count, place_count, version1_piece}
@@ -65,11 +65,11 @@ front t contents v sound hybrid whole (suc n) le =
       within = so_far.within;
     }
     more n f (b ∷ bytes) is content len so_far =
-        let gap : ℕ = start_of t f - length so_far.bytes in
-        let low : length so_far.bytes ≤ start_of t f = omega (arith, so_far.not_past, start_is t n f sound is) in
+        let gap : ℕ = stream_start_of t f - length so_far.bytes in
+        let low : length so_far.bytes ≤ stream_start_of t f = omega (arith, so_far.not_past, start_is t n f sound is) in
         let filled : List ℕ = so_far.bytes ++ replicate gap 0 in
-        let at : length filled ≡ start_of t f = omega (arith, low, length-append so_far.bytes (replicate gap 0), length-replicate {A = ℕ} gap 0) in
-        let all : length (filled ++ (b ∷ bytes)) ≡ start_of t f + f.length = omega (arith, at, len, length-append filled (b ∷ bytes)) in
+        let at : length filled ≡ stream_start_of t f = omega (arith, low, length-append so_far.bytes (replicate gap 0), length-replicate {A = ℕ} gap 0) in
+        let all : length (filled ++ (b ∷ bytes)) ≡ stream_start_of t f + f.length = omega (arith, at, len, length-append filled (b ∷ bytes)) in
         record {
           bytes = filled ++ (b ∷ bytes);
           prefix = subst (λ k. IsStreamPrefix t contents k (filled ++ (b ∷ bytes))) (add-one n)
@@ -147,13 +147,13 @@ to_pieces pl k len some lt =
 -- a byte that stands in piece k of file n, and not in the file, is in no file
 bare : (t : Description) (contents : Contents) (n k : ℕ) (f : FileEntry) (x : ℕ) → IsSound t → AreWhole t contents → slice_get t.files n ≡ Some f
     → k < piece_count t f
-    → start_of t f + f.length ≤ x → x < t.piece_length * (f.first_piece + k) + t.piece_length → Covers t contents x → ⊥
+    → stream_start_of t f + f.length ≤ x → x < t.piece_length * (f.first_piece + k) + t.piece_length → Covers t contents x → ⊥
 bare t contents n k f x sound whole is inside past before c =
     let found = whole c.number c.file c.there in
     let len : length c.bytes ≡ c.file.length = ap length (same_Some c.bytes found.0 (sym c.content ∙ found.1)) ∙ found.2 in
     elim (cases_lt c.number n) [
       | inl less ↦
-          let ends : start_of t c.file + c.file.length ≤ place_before t (c.number + 1) =
+          let ends : stream_start_of t c.file + c.file.length ≤ place_before t (c.number + 1) =
           ends_before_next t c.number c.file sound (pieces_are_positive t sound) c.there in
           let order : place_before t (c.number + 1) ≤ place_before t n = place_mono t (c.number + 1) n (omega (arith, less)) in
           omega (arith, ends, order, start_is t n f sound is, c.to, len, past)
@@ -168,7 +168,7 @@ bare t contents n k f x sound whole is inside past before c =
         | inr le ↦
             let at : c.number ≡ n = omega (arith, ge, le) in
             let same : c.file ≡ f = same_Some c.file f (sym c.there ∙ ap (slice_get t.files) at ∙ is) in
-            omega (arith, c.to, len, ap (start_of t) same, ap (λ (g : FileEntry). g.length) same, past)
+            omega (arith, c.to, len, ap (stream_start_of t) same, ap (λ (g : FileEntry). g.length) same, past)
       ]
     ]
 
@@ -182,11 +182,11 @@ cut_is t contents v stream p n k f bytes sound hybrid whole is at =
     let found = whole n f at.there in
     let len : length bytes ≡ f.length = ap length (same_Some bytes found.0 (sym at.content ∙ found.1)) ∙ found.2 in
     let begins : pl * k < f.length = in_pieces pl k f.length some at.inside in
-    let fits : start_of t f + f.length ≤ v.total = sound.in_stream v n f hybrid at.there (omega (arith, begins)) in
+    let fits : stream_start_of t f + f.length ≤ v.total = sound.in_stream v n f hybrid at.there (omega (arith, begins)) in
     let own : List ℕ = take pl (drop (pl * k) bytes) in
     let size : ℕ = min pl (v.total - pl * (f.first_piece + k)) in
     let at_p : pl * p ≡ pl * (f.first_piece + k) = ap (λ j. pl * j) at.piece_is in
-    let begin : pl * (f.first_piece + k) ≡ start_of t f + pl * k = omega arith in
+    let begin : pl * (f.first_piece + k) ≡ stream_start_of t f + pl * k = omega arith in
     let own_len : length own ≡ min pl (f.length - pl * k) = omega (arith, length-take pl (drop (pl * k) bytes), length-drop (pl * k) bytes, len) in
     let own_fits : length own ≤ size = omega (arith, own_len, begin, fits, begins) in
     let cut_len : length (cut pl stream p) ≡ size = omega (arith, length-take pl (drop (pl * p) stream), length-drop (pl * p) stream, is.length_is, at_p) in
@@ -197,18 +197,18 @@ cut_is t contents v stream p n k f bytes sound hybrid whole is at =
     let here : get_or (cut pl stream p) i 0 ≡ get_or stream (pl * p + i) 0 = get_or-take pl (drop (pl * p) stream) i 0 low ∙ get_or-drop (pl * p) stream i 0 in
     elim (cases_lt i (length own)) [
       | inl inside ↦
-          let place : start_of t f + (pl * k + i) ≡ pl * p + i = omega (arith, at_p, begin) in
+          let place : stream_start_of t f + (pl * k + i) ≡ pl * p + i = omega (arith, at_p, begin) in
           let in_file : pl * k + i < length bytes = omega (arith, inside, own_len, len) in
           here
           ∙ ap (λ j. get_or stream j 0) (sym place)
-          ∙ sym (get_or-drop (start_of t f) stream (pl * k + i) 0)
-          ∙ sym (get_or-take (length bytes) (drop (start_of t f) stream) (pl * k + i) 0 in_file)
+          ∙ sym (get_or-drop (stream_start_of t f) stream (pl * k + i) 0)
+          ∙ sym (get_or-take (length bytes) (drop (stream_start_of t f) stream) (pl * k + i) 0 in_file)
           ∙ ap (λ b. get_or b (pl * k + i) 0) (is.file_at n f bytes at.there at.content (omega (arith, in_file)))
           ∙ sym (get_or-drop (pl * k) bytes i 0)
           ∙ sym (get_or-take pl (drop (pl * k) bytes) i 0 low)
           ∙ sym (get_or_append_left own (replicate (size - length own) 0) 0 i inside)
       | inr past ↦
-          let after : start_of t f + f.length ≤ pl * p + i = omega (arith, past, own_len, at_p, begin, low) in
+          let after : stream_start_of t f + f.length ≤ pl * p + i = omega (arith, past, own_len, at_p, begin, low) in
           let before : pl * p + i < pl * (f.first_piece + k) + pl = omega (arith, at_p, low) in
           here
           ∙ is.zeros (pl * p + i) (omega (arith, lt, cut_len, at_p)) (bare t contents n k f (pl * p + i) sound whole at.there at.inside after before)
@@ -225,8 +225,8 @@ digest_is t contents v stream p n k f bytes sound hybrid whole is at =
     let pl : ℕ = t.piece_length in
     let some : 0 < pl = pieces_are_positive t sound in
     let begins : pl * k < f.length = in_pieces pl k f.length some at.inside in
-    let fits : start_of t f + f.length ≤ v.total = sound.in_stream v n f hybrid at.there (omega (arith, begins)) in
-    let begin : pl * (f.first_piece + k) ≡ start_of t f + pl * k = omega arith in
+    let fits : stream_start_of t f + f.length ≤ v.total = sound.in_stream v n f hybrid at.there (omega (arith, begins)) in
+    let begin : pl * (f.first_piece + k) ≡ stream_start_of t f + pl * k = omega arith in
     let at_p : pl * p ≡ pl * (f.first_piece + k) = ap (λ j. pl * j) at.piece_is in
     digest_of_cut pl stream p (to_pieces pl p (length stream) some (omega (arith, is.length_is, at_p, begin, fits, begins)))
     ∙ ap (λ b. Some (sha1 b)) (cut_is t contents v stream p n k f bytes sound hybrid whole is at)

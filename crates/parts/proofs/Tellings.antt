@@ -160,7 +160,7 @@ span_asks t r f s is bytes k lt = (
   λ good low high. good (between_held t r f s k is low high).1,
 )
 
-span_marks : (t : Description) (r : Places) (f : FileEntry) (s : Span) (content : Option (List ℕ)) (v : FileVerdict) (bits : List ℕ) → IsSpanOf t r f s
+pub span_marks : (t : Description) (r : Places) (f : FileEntry) (s : Span) (content : Option (List ℕ)) (v : FileVerdict) (bits : List ℕ) → IsSpanOf t r f s
     → MarksIn t r f content v bits → MarksRow t f s.from s.to content v bits
 span_marks t r f s content v bits is marks =
     subst (λ from. MarksRow t f from s.to content v bits) (sym is.from_is)

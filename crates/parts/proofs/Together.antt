@@ -17,7 +17,7 @@ use Rattle.folders.specs.declared.report.V1Verdict.TheVariants as version1
 use Rattle.folders.proofs.Reports.{yes_is_sure, all_at, all_from}
 use Rattle.parts.specs.Collisions.{FileCollides}
 use Rattle.parts.specs.Joins.{IsJoin, NoWorse, NoWorseV1, says_of, says_of_v1}
-use Rattle.parts.specs.Laws.{IsReportOf}
+use Rattle.parts.specs.Laws.{IsReportOfContents}
 use Rattle.parts.specs.Parts.{AreAllPlaces, Holds, IsPartV1, IsPieceAt, IsVersion1Good, PartReport, IsTruePart}
 use Rattle.parts.specs.Parts.{place_count}
 use Rattle.parts.proofs.Joined.{ContentCollides, good_joined, joined}
@@ -189,7 +189,7 @@ module _ (t : Description) (contents : Contents) (parts : List PartReport) (file
 
   -- ---- all together
 
-  pub together : IsReportOf t contents files v1 ⊎ FileCollides t contents
+  pub together : IsReportOfContents t contents files v1 ⊎ FileCollides t contents
   together = elim (below_or (λ n. (f : FileEntry) (v : FileVerdict) → slice_get t.files n ≡ Some f → slice_get files n ≡ Some v
       → IsVerdict t f (contents n) v) (FileCollides t contents) file_or (length t.files)) [
         | inr other ↦ inr other

@@ -6,26 +6,27 @@ use Rattle.std.proofs.lemmas.List.{length_push, map-append, take_all}
 use Rattle.std.proofs.lemmas.List.Folds.{list_all-append}
 use Rattle.std.proofs.lemmas.List.Sums.{count_by-le-length}
 use Rattle.std.specs.Option.{option_map}
-use Rattle.std.proofs.lemmas.Option.{get_or_from_slice_get, same_Some, slice_get-map, slice_get_within}
+use Rattle.std.proofs.lemmas.Option.{same_Some, slice_get-map, slice_get_within}
 use Rattle.benc.specs.Device.{Broke, Sent, SinkSeen}
 use Rattle.chains.specs.Chain.{Chain}
 use Rattle.chains.proofs.Cases.{item_at, item_stays, pushed_last}
-use Rattle.chains.proofs.Chains.{Chain-next}
+use Rattle.chains.proofs.Chains.{Chain-each, Chain-item}
 use Rattle.opening.specs.Description.{Description, FileEntry}
 use Rattle.opening.specs.Sound.{IsSound}
 use Rattle.folders.specs.Folder.{Contents}
 use Rattle.folders.specs.Shelf.{ShelfContents, more}
-use Rattle.folders.specs.Verdicts.{Agrees, CountsUnreadable, fault_count, is_checked, is_unreadable, is_whole, unreadable_count}
+use Rattle.folders.specs.Verdicts.{Agrees, CountsUnreadable, is_checked, is_unreadable, is_whole, unreadable_count}
 use Rattle.folders.specs.declared.report.FileVerdict.{FileVerdict}
 use Rattle.folders.specs.declared.report.V1Verdict.{V1Verdict}
 use Rattle.folders.specs.declared.report.V1Verdict.TheVariants as version1
 use Rattle.folders.proofs.Counts.{more_none, unreadable_push}
-use Rattle.parts.specs.Checking.{shelf_and_sink, verdicts_in}
-use Rattle.parts.specs.Telling.{TellsNothing, Tells, TellsFirst, Told}
-use Rattle.parts.specs.Visiting.{Finds, IsTold, SaysAndTells, StopsAtFile, Visiting, VisitsAll, VisitsOne}
+use Rattle.parts.specs.Checking.{shelf_and_sink}
+use Rattle.parts.specs.Telling.{NeedsBits, TellsNothing, Tells, TellsFirst, Told}
+use Rattle.parts.specs.Visiting.{Finds, SaysAndTells, StopsAtFile, TellsOwn, Visiting, VisitsAll, VisitsFile, VisitsOne, verdicts_in}
 use Rattle.parts.specs.Words.{Words}
 use Rattle.parts.specs.Worse.{worse_v1}
 use Rattle.parts.specs.declared.telling.Telling.{Telling}
+use Rattle.parts.specs.declared.telling.Telling.TheVariants as telling
 use Rattle.parts.specs.declared.verdicts.Verdicts.{Verdicts}
 use Rattle.parts.proofs.Contents.{contents_extend, contents_of}
 use Rattle.parts.proofs.FirstFiles.{FindsOne, HasFoundFirst, IsV1SoFar, agree_more, all_agree, found_none, found_one, v1_all}
@@ -66,6 +67,33 @@ counts_of old new files few counted =
     let low : unreadable_count files < 2 ^ 64 = omega (arith, few, count_by-le-length is_unreadable files) in
     record { counted = counted; readable = λ same. more_none old (unreadable_count files) low (sym counted ∙ same) }
 
+-- what is told without bits is told whatever they are
+pub plain_tells : {S : Type 0} (V : Visiting S) (t : Description) (told : Telling) → (NeedsBits told → ⊥) → TellsOwn V t told
+plain_tells V t telling.Nothing plain = λ n f c v bits there marks. tt
+plain_tells V t (telling.Line lines) plain = λ n f c v bits there marks. tt
+plain_tells V t (telling.LineAndRuns lines) plain = absurd (plain tt)
+plain_tells V t (telling.RunsIn r) plain = absurd (plain tt)
+
+module _ {S : Type 0} (V : Visiting S) where
+  -- the visits of some files
+  pub visits_of : (old : S × SinkSeen) (fs : List FileEntry) (told : List (FileVerdict × List ℕ)) (new : S × SinkSeen)
+      → Chain (VisitsOne V) old fs told new → Chain V.visits old.0 fs (verdicts_in told) new.0
+  visits_of = Chain-each (VisitsOne V) (λ old fs told new. Chain V.visits old.0 fs (verdicts_in told) new.0) (λ old. refl)
+      (λ old f x mid fs xs new step rest later. (mid.0, step.visits, later))
+
+  module _ (words : Words) (t : Description) (telling : Telling) (files : List FileVerdict) (v1 : Option V1Verdict) (old new : S × SinkSeen)
+      (all : VisitsAll V words t telling files v1 old new) where
+    -- each file was visited
+    pub visits_once : Chain V.visits old.0 t.files files new.0
+    visits_once = subst (λ vs. Chain V.visits old.0 t.files vs new.0) all.verdicts_are (visits_of old t.files all.told new all.visited)
+
+    -- for a verdict that is true of the contents that were found
+    pub verdicts_say : (m : ℕ) (f : FileEntry) (v : FileVerdict) → slice_get t.files m ≡ Some f → slice_get files m ≡ Some v
+        → V.says f (all.contents m) v
+    verdicts_say m f v there said =
+        let x = verdict_at all.told m v (subst (λ vs. slice_get vs m ≡ Some v) (sym all.verdicts_are) said) in
+        subst (V.says f (all.contents m)) x.2 (all.each m f x.0 there x.1).0
+
 module _ {S : Type 0} (V : Visiting S) (words : Words) (t : Description) (telling : Telling) where
   -- the first n files were visited and told of
   pub record IsToldFirst (old : S × SinkSeen) (n : ℕ) (files : List FileVerdict) (v1 : V1Verdict) (new : S × SinkSeen) : Type 0 where
@@ -77,6 +105,10 @@ module _ {S : Type 0} (V : Visiting S) (words : Words) (t : Description) (tellin
     pub stays : V.contents new.0 ≡ V.contents old.0
     pub checked : is_checked v1 ≡ list_all is_whole files
     pub found : HasFoundFirst t V.places (SaysAndTells V words t telling) (V.contents old.0).under n told v1
+
+  -- there are as many verdicts
+  pub told_count : (old new : S × SinkSeen) (n : ℕ) (files : List FileVerdict) (v1 : V1Verdict) → IsToldFirst old n files v1 new → length files ≡ n
+  told_count old new n files v1 all = ap length (sym all.verdicts_are) ∙ length-told all.told ∙ all.count
 
   -- none yet
   pub told_none : (old : S × SinkSeen) → IsToldFirst old 0 [] version1.Good old
@@ -91,17 +123,9 @@ module _ {S : Type 0} (V : Visiting S) (words : Words) (t : Description) (tellin
     found = found_none t V.places (SaysAndTells V words t telling) (V.contents old.0).under;
   }
 
-  -- a file was visited, after the first n
-  pub record VisitsNext (mid : S × SinkSeen) (n : ℕ) (f : FileEntry) (v : Verdicts) (bits : List ℕ) (visited : S) : Type 0 where
-    pub there : slice_get t.files n ≡ Some f
-    pub finds : Finds V t f ((V.contents mid.0).under f.path) bits v
-    pub visits : V.visits mid.0 f v.file visited
-    pub counts : V.faults visited ≡ more (V.faults mid.0) (fault_count v.file)
-    pub stays : V.contents visited ≡ V.contents mid.0
-
-  -- the same of the shelf that stood there at the start
+  -- what was found after the first n files, of the shelf that stood there at the start
   finds_there : (old mid : S × SinkSeen) (n : ℕ) (files : List FileVerdict) (a : V1Verdict) (f : FileEntry) (v : Verdicts) (bits : List ℕ) (visited : S)
-      → IsToldFirst old n files a mid → VisitsNext mid n f v bits visited → Finds V t f ((V.contents old.0).under f.path) bits v
+      → IsToldFirst old n files a mid → VisitsFile V t mid.0 f bits v visited → Finds V t f ((V.contents old.0).under f.path) bits v
   finds_there old mid n files a f v bits visited so_far next =
       subst (λ (on : ShelfContents). Finds V t f (on.under f.path) bits v) so_far.stays next.finds
 
@@ -112,14 +136,15 @@ module _ {S : Type 0} (V : Visiting S) (words : Words) (t : Description) (tellin
 
   -- and told of
   pub told_one : (old mid : S × SinkSeen) (n : ℕ) (files : List FileVerdict) (a : V1Verdict) (f : FileEntry) (v : Verdicts) (bits : List ℕ) (visited : S)
-      (out : SinkSeen) → VisitsNext mid n f v bits visited → Told (λ content. Tells words t telling f content v.file) t telling f v.file bits (Sent mid.1 out)
+      (out : SinkSeen) → TellsOwn V t telling → slice_get t.files n ≡ Some f → VisitsFile V t mid.0 f bits v visited
+      → Told (λ content. Tells words t telling f content v.file) t telling f v.file bits (Sent mid.1 out)
       → IsToldFirst old n files a mid → IsToldFirst old (n + 1) (files ++ v.file ∷ []) (worse_v1 a v.v1) (shelf_and_sink visited out)
-  told_one old mid n files a f v bits visited out next tells so_far =
+  told_one old mid n files a f v bits visited out own there next tells so_far =
       let finds = finds_there old mid n files a f v bits visited so_far next in
       let one : FindsOne t V.places (SaysAndTells V words t telling) f ((V.contents old.0).under f.path) (v.file, tells.text) v.v1 = record {
         content = finds.content;
         agrees = finds.agrees;
-        says = (finds.verdict, record { bits = bits; marked = finds.marked; tells = tells.is });
+        says = (finds.verdict, tells.is finds.content (own n f finds.content v.file bits there finds.marks));
         version1 = finds.version1;
       } in
       let step : VisitsOne V mid f (v.file, tells.text) (shelf_and_sink visited out) = record { visits = next.visits; told = tells.went } in
@@ -128,22 +153,20 @@ module _ {S : Type 0} (V : Visiting S) (words : Words) (t : Description) (tellin
         verdicts_are = verdicts_push so_far.told v.file tells.text ∙ ap (λ vs. vs ++ v.file ∷ []) so_far.verdicts_are;
         count = length_push so_far.told (v.file, tells.text) ∙ ap (λ k. k + 1) so_far.count;
         counted = unreadable_push (V.faults old.0) (V.faults mid.0) (V.faults visited) files v.file so_far.counted next.counts;
-        visited = Chain-next (VisitsOne V) old mid (shelf_and_sink visited out) t.files n so_far.told f (v.file, tells.text)
-            (slice_get_within t.files n f next.there) so_far.visited
-            (subst (λ h. VisitsOne V mid h (v.file, tells.text) (shelf_and_sink visited out)) (sym
-            (get_or_from_slice_get t.files n f f next.there)) step);
+        visited = Chain-item (VisitsOne V) old mid (shelf_and_sink visited out) t.files n so_far.told f (v.file, tells.text) there so_far.visited step;
         stays = next.stays ∙ so_far.stays;
         checked = checked_next files a f _ v bits so_far.checked finds;
-        found = found_one t V.places (SaysAndTells V words t telling) (V.contents old.0).under n so_far.told a v.v1 f (v.file, tells.text) next.there
+        found = found_one t V.places (SaysAndTells V words t telling) (V.contents old.0).under n so_far.told a v.v1 f (v.file, tells.text) there
             so_far.count one so_far.found;
       }
 
   -- or what is told of it broke off
   pub stops_at : (old mid : S × SinkSeen) (n : ℕ) (files : List FileVerdict) (a : V1Verdict) (f : FileEntry) (v : Verdicts) (bits : List ℕ) (visited : S)
-      (out : SinkSeen) → length files < 2 ^ 64 - 1 → (TellsNothing telling → ⊥) → VisitsNext mid n f v bits visited
+      (out : SinkSeen) → length files < 2 ^ 64 - 1 → (TellsNothing telling → ⊥) → TellsOwn V t telling → slice_get t.files n ≡ Some f
+      → VisitsFile V t mid.0 f bits v visited
       → Told (λ content. TellsFirst words t telling f content v.file) t telling f v.file bits (Broke mid.1 out)
       → IsToldFirst old n files a mid → StopsAtFile V words t telling old (shelf_and_sink visited out)
-  stops_at old mid n files a f v bits visited out few some next tells so_far =
+  stops_at old mid n files a f v bits visited out few some own there next tells so_far =
       let finds = finds_there old mid n files a f v bits visited so_far next in
       let under = (V.contents old.0).under in
       let seen_all : List (Option (List ℕ)) = so_far.found.seen ++ finds.content ∷ [] in
@@ -151,19 +174,18 @@ module _ {S : Type 0} (V : Visiting S) (words : Words) (t : Description) (tellin
       let stated = so_far.found.stated contents (λ k c at. contents_extend seen_all k c (item_stays so_far.found.seen (finds.content ∷ []) k c at)) in
       let here : contents n ≡ finds.content = contents_extend seen_all n finds.content (pushed_last so_far.found.seen finds.content n
       (sym so_far.found.count)) in
-      let there : contents (length so_far.told) ≡ finds.content = ap contents so_far.count ∙ here in
+      let last_is : contents (length so_far.told) ≡ finds.content = ap contents so_far.count ∙ here in
       let counted : V.faults visited ≡ more (V.faults old.0) (unreadable_count (verdicts_in so_far.told ++ v.file ∷ [])) =
       subst (λ vs. V.faults visited ≡ more (V.faults old.0) (unreadable_count (vs ++ v.file ∷ []))) (sym so_far.verdicts_are)
       (unreadable_push (V.faults old.0) (V.faults mid.0) (V.faults visited) files v.file so_far.counted next.counts) in
-      let last : IsTold V (λ c. TellsFirst words t telling f c v.file) t telling f finds.content v.file tells.text =
-      record { bits = bits; marked = finds.marked; tells = tells.is } in
+      let last = tells.is finds.content (own n f finds.content v.file bits there finds.marks) in
       record {
         some = some;
         told = so_far.told;
         between = mid;
         before = subst (λ m. Chain (VisitsOne V) old (take m t.files) so_far.told mid) (sym so_far.count) so_far.visited;
         file = f;
-        file_is = ap (slice_get t.files) so_far.count ∙ next.there;
+        file_is = ap (slice_get t.files) so_far.count ∙ there;
         verdict = v.file;
         visits = next.visits;
         text = tells.text;
@@ -173,10 +195,10 @@ module _ {S : Type 0} (V : Visiting S) (words : Words) (t : Description) (tellin
             let inside : k < length seen_all = omega (arith, lt, so_far.count, length_push so_far.found.seen finds.content, so_far.found.count) in
             let c = item_at seen_all k inside in
             subst (Agrees (under g.path)) (sym (contents_extend seen_all k c.0 c.1))
-            (agree_more t V.places (SaysAndTells V words t telling) under n so_far.told a f finds.content next.there finds.agrees so_far.found k g c.0 at c.1);
+            (agree_more t V.places (SaysAndTells V words t telling) under n so_far.told a f finds.content there finds.agrees so_far.found k g c.0 at c.1);
         each = λ k g x at said. stated.each k g x at said;
-        says = subst (λ c. V.says f c v.file) (sym there) finds.verdict;
-        last = subst (λ c. IsTold V (λ d. TellsFirst words t telling f d v.file) t telling f c v.file tells.text) (sym there) last;
+        says = subst (λ c. V.says f c v.file) (sym last_is) finds.verdict;
+        last = subst (λ c. TellsFirst words t telling f c v.file tells.text) (sym last_is) last;
         counts = counts_of (V.faults old.0) (V.faults visited) (verdicts_in so_far.told ++ v.file ∷ [])
             (omega (arith, few, ap length so_far.verdicts_are, length_push (verdicts_in so_far.told) v.file)) counted;
       }

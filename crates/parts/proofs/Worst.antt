@@ -95,7 +95,7 @@ whole_length t n f content file.Good sound there whole is = (is.0, is.1, by_leng
     by_length zero e = ap length (is.2.empty e) ∙ sym e
     by_length (suc len) e =
         let fits = is.2.fits (omega (arith, e)) in
-        fits.2.length_is ∙ (has_tree t n f fits.0 sound there fits.1).0
+        fits.2.same_length ∙ (has_tree t n f fits.0 sound there fits.1).0
 whole_length t n f content (file.Bad p) sound there whole is = (is.0, is.1, is.2.length_is)
 whole_length t n f content file.Missing sound there whole is = let no : ⊥ = cc in absurd no
 whole_length t n f content file.Unreadable sound there whole is = let no : ⊥ = cc in absurd no

@@ -5,8 +5,8 @@ use Rattle.block_windows.specs.Files.{bytes_at}
 use Rattle.chains.specs.Chain.{Chain}
 use Rattle.folders.specs.declared.shelf.Shelf.{Ghosts}
 use Rattle.opening.specs.Description.{Description, FileEntry}
-use Rattle.parts.specs.Held.{IsJudged, Promises, VisitsFound}
-use Rattle.parts.specs.Windows.{StandsAt}
+use Rattle.parts.specs.Held.{IsFileJudged, Promises, VisitsFound}
+use Rattle.parts.specs.Windows.{HasRoomForFile, StandsAt}
 use Rattle.parts.specs.declared.verdicts.Ahead.{Ahead}
 use Rattle.parts.specs.declared.batch.HeldFiles.{HeldFiles}
 use Rattle.parts.specs.declared.batch.Kept.{Kept}
@@ -18,6 +18,13 @@ use Rattle.parts.specs.declared.windows.Windows.{Windows}
 -- the verdicts that are left
 abbrev pub left : Ahead → List Verdicts
 left a = drop a.next (take a.count a.verdicts)
+
+-- there is room for one more file of this length, if this many bytes of a room are used
+pub record CanKeep (h : HeldFiles) (size used room : ℕ) : Type 0 where
+  pub few : h.count < 64
+  pub small : size ≤ 131072
+  pub windows : HasRoomForFile h.windows size
+  pub bytes : used + size < room
 
 -- what is kept of a file of this size has a place in the first bytes of a room, and in the windows
 -- if it is whole
@@ -33,8 +40,8 @@ pub record IsKeptAs (w : Windows) (room : List ℕ) (used size : ℕ) (e : Kept)
   pub bytes_are : h.1 ≡ bytes_at room e.start size
 
 -- of the files from this one on this many are kept
-abbrev pub AreKept : Description → ℕ → HeldFiles → ℕ → Type 0
-AreKept t from h used = (k : ℕ) (f : FileEntry) (e : Kept) → k < h.count
+abbrev pub AreFilesKept : Description → ℕ → HeldFiles → ℕ → Type 0
+AreFilesKept t from h used = (k : ℕ) (f : FileEntry) (e : Kept) → k < h.count
     → slice_get t.files (from + k) ≡ Some f → slice_get h.kept k ≡ Some e
     → HasKept h.windows used f.length e
 
@@ -42,7 +49,7 @@ AreKept t from h used = (k : ℕ) (f : FileEntry) (e : Kept) → k < h.count
 abbrev pub AreJudged : Description → ℕ → HeldFiles → List ℕ → List Verdicts → Type 0
 AreJudged t from h room vs = (k : ℕ) (f : FileEntry) (e : Kept) (v : Verdicts) → k < h.count
     → slice_get t.files (from + k) ≡ Some f → slice_get h.kept k ≡ Some e
-    → slice_get vs k ≡ Some v → IsJudged t f e.held (bytes_at room e.start f.length) v
+    → slice_get vs k ≡ Some v → IsFileJudged t f e.held (bytes_at room e.start f.length) v
 
 module _ {S F : Type 0} (shelf : Ghosts S F) (seen : F → SourceSeen) (t : Description) where
   -- the files from this one on were visited, and this is held of them

@@ -1,10 +1,10 @@
 -- Two different inputs with one SHA-256 digest, at one place of a file's tree and of the torrent's.
 use Rattle.std.specs.Prelude.{◌≡◌, ◌≢◌, ℕ, suc, ◌+◌, ◌*◌, ◌^◌, ◌≤◌, List, ◌++◌, length, slice_get, Some}
 use Rattle.sha2.specs.Sha256.{sha256}
-use Rattle.hashtree.specs.Tree.{block_count, filled, height, layer_of, node_over}
+use Rattle.hashtree.specs.Tree.{Fits, block_count, filled, height, layer_of, node_over}
 use Rattle.opening.specs.Description.{Description, FileEntry, TreeEntry}
 use Rattle.opening.specs.Sound.{piece_layer}
-use Rattle.folders.specs.Folder.{Contents, FitsTree, tree_entry_of}
+use Rattle.folders.specs.Folder.{Contents, tree_entry_of}
 
 -- the two children of this node over a row
 abbrev pub children : List (List ℕ) → ℕ → ℕ → List ℕ
@@ -28,7 +28,7 @@ pub record FileCollides (t : Description) (contents : Contents) : Type 0 where
   pub there : slice_get t.files number ≡ Some file
   pub content : contents number ≡ Some bytes
   pub tree_is : tree_entry_of t file ≡ Some tree
-  pub fits : FitsTree tree bytes
+  pub fits : Fits bytes tree.length tree.root
   pub rows : RowsCollide
       (filled (height (block_count tree.length)) (piece_layer t.piece_length)
       (layer_of bytes (piece_layer t.piece_length)))

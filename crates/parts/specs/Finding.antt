@@ -7,7 +7,7 @@ use Rattle.folders.specs.declared.report.FileVerdict.{FileVerdict}
 use Rattle.folders.specs.declared.report.V1Verdict.{V1Verdict}
 use Rattle.folders.specs.declared.report.V1Verdict.TheVariants as version1
 use Rattle.parts.specs.Parts.{Holds, IsPartVerdict, IsVersion1Good, IsTruePart, piece_count, place_count}
-use Rattle.parts.specs.Telling.{Marks, MarksIn}
+use Rattle.parts.specs.Telling.{MarksIn}
 use Rattle.parts.specs.declared.places.Places.{Places}
 use Rattle.parts.specs.declared.verdicts.Verdicts.{Verdicts}
 
@@ -29,33 +29,34 @@ IsFileV1 t v r f content (version1.Bad q) =
     × (IsVersion1Good t v f bytes k → ⊥)
     × ((j : ℕ) → j < k → HasPieceIn t r f content j bytes → IsVersion1Good t v f bytes j)
 
--- What a part found of a file under whose path a shelf holds this. It has this content, which is
--- the known one, and both verdicts are true of it; and if it is one whose bad pieces are printed,
--- these bits tell which of those among the part's places are good.
-pub record FindsFile (t : Description) (r : Places) (f : FileEntry)
-    (known : Option (Option (List ℕ))) (bits : List ℕ) (found : Verdicts) : Type 0 where
-  pub content : Option (List ℕ)
-  pub agrees : Agrees known content
-  pub verdict : IsPartVerdict t r f content found.file
-  pub version1 : (v : Version1) → t.v1 ≡ Some v → IsFileV1 t v r f content found.v1
-  pub checked : is_checked found.v1 ≡ is_whole found.file
-  pub marks : MarksIn t r f content found.file bits
+-- What was found of a file under whose path a shelf holds this, of its pieces among these places.
+-- It has this content, which is the known one; both verdicts are true of it; the file's says so
+-- much; and if it is one whose bad pieces are printed, these bits tell which of those among the
+-- places are good.
+pub record FindsAs (r : Places) (Says : FileEntry → Option (List ℕ) → FileVerdict → Type 0)
+    (t : Description) (f : FileEntry) (known : Option (Option (List ℕ))) (bits : List ℕ)
+    (found : Verdicts) : Type 0
+  where
+    pub content : Option (List ℕ)
+    pub agrees : Agrees known content
+    pub verdict : Says f content found.file
+    pub version1 : (v : Version1) → t.v1 ≡ Some v → IsFileV1 t v r f content found.v1
+    pub checked : is_checked found.v1 ≡ is_whole found.file
+    pub marks : MarksIn t r f content found.file bits
+
+-- so a part finds a file
+abbrev pub FindsFile : Description → Places → FileEntry → Option (Option (List ℕ)) → List ℕ
+    → Verdicts → Type 0
+FindsFile t r f known bits found = FindsAs r (IsPartVerdict t r) t f known bits found
 
 -- all places of a torrent
 abbrev pub all_places : Description → Places
 all_places t = record { from = 0; to = place_count t }
 
--- What a check found of a whole file under whose path a shelf holds this. It has this content,
--- which is the known one, and both verdicts are true of it; and if it is one whose bad pieces are
--- printed, these bits tell which of them are good.
-pub record FindsWhole (t : Description) (f : FileEntry) (known : Option (Option (List ℕ)))
-    (bits : List ℕ) (found : Verdicts) : Type 0 where
-  pub content : Option (List ℕ)
-  pub agrees : Agrees known content
-  pub verdict : IsVerdict t f content found.file
-  pub version1 : (v : Version1) → t.v1 ≡ Some v → IsFileV1 t v (all_places t) f content found.v1
-  pub checked : is_checked found.v1 ≡ is_whole found.file
-  pub marks : Marks t f content found.file bits
+-- and so a check finds a whole file
+abbrev pub FindsWhole : Description → FileEntry → Option (Option (List ℕ)) → List ℕ → Verdicts
+    → Type 0
+FindsWhole t f known bits found = FindsAs (all_places t) (IsVerdict t) t f known bits found
 
 -- What the report of a part says of a shelf that holds this. There are contents, which are the
 -- shelf's as far as those are known, and each verdict is true of them.

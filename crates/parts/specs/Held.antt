@@ -1,10 +1,8 @@
 -- Files that are read whole and judged later, several of them together.
-use Rattle.std.specs.Prelude.{◌≡◌, ◌≢◌, ℕ, ◌<◌, true, List, [], Some, Result, Ok, Err}
+use Rattle.std.specs.Prelude.{◌≡◌, ◌≢◌, ℕ, ◌+◌, ◌*◌, ◌<◌, ◌≤◌, true, List, [], Some, Result, Ok, Err}
 use Rattle.benc.specs.Device.{SourceSeen}
 use Rattle.benc.specs.declared.device.DeviceFault.{DeviceFault}
-use Rattle.folders.specs.Shelf.{more}
-use Rattle.folders.specs.Verdicts.{fault_count, is_whole}
-use Rattle.folders.specs.Visits.{Visits}
+use Rattle.folders.specs.Verdicts.{is_whole}
 use Rattle.folders.specs.declared.report.FileVerdict.TheVariants as file
 use Rattle.folders.specs.declared.report.V1Verdict.TheVariants as version1
 use Rattle.folders.specs.declared.shelf.Shelf.{Ghosts}
@@ -14,6 +12,7 @@ use Rattle.parts.specs.Parts.{IsVersion1Good, piece_count}
 use Rattle.parts.specs.declared.held.Held.{Held}
 use Rattle.parts.specs.declared.held.Held.TheVariants as held
 use Rattle.parts.specs.declared.verdicts.Verdicts.{Verdicts}
+use Rattle.parts.specs.Visiting.{VisitsFile, whole_visiting}
 
 -- ---- reading
 
@@ -28,17 +27,22 @@ IsHeldFor (Err fault) size h = h ≡ held.Unreadable
 -- ---- judging
 
 -- these verdicts follow from what is held of a file, and are true of its bytes if it is whole
-abbrev pub IsJudged : Description → FileEntry → Held → List ℕ → Verdicts → Type 0
-IsJudged t f held.Missing bytes v = (v.file ≡ file.Missing) × (v.v1 ≡ version1.NotChecked)
-IsJudged t f held.Unreadable bytes v = (v.file ≡ file.Unreadable) × (v.v1 ≡ version1.NotChecked)
-IsJudged t f held.Other bytes v = (v.file ≡ file.WrongLength) × (v.v1 ≡ version1.NotChecked)
-IsJudged t f held.Whole bytes v = FindsWhole t f (Some (Some bytes)) [] v
+abbrev pub IsFileJudged : Description → FileEntry → Held → List ℕ → Verdicts → Type 0
+IsFileJudged t f held.Missing bytes v = (v.file ≡ file.Missing) × (v.v1 ≡ version1.NotChecked)
+IsFileJudged t f held.Unreadable bytes v = (v.file ≡ file.Unreadable) × (v.v1 ≡ version1.NotChecked)
+IsFileJudged t f held.Other bytes v = (v.file ≡ file.WrongLength) × (v.v1 ≡ version1.NotChecked)
+IsFileJudged t f held.Whole bytes v = FindsWhole t f (Some (Some bytes)) [] v
     × (is_whole v.file ≡ true)
 
 -- a file with these bytes is good
 abbrev pub IsJudgedGood : Description → FileEntry → List ℕ → Type 0
 IsJudgedGood t f bytes =
-    IsJudged t f held.Whole bytes (record { file = file.Good; v1 = version1.Good })
+    IsFileJudged t f held.Whole bytes (record { file = file.Good; v1 = version1.Good })
+
+-- none of a file's version 1 pieces, if the torrent has any, is cut short by the stream's end
+abbrev pub AreCutsWhole : Description → FileEntry → Type 0
+AreCutsWhole t f = (v : Version1) → t.v1 ≡ Some v
+    → t.piece_length * (f.first_piece + piece_count t f) ≤ v.total
 
 -- the version 1 pieces of a file with these bytes are good, if the torrent has any
 abbrev pub AreCutsGood : Description → FileEntry → List ℕ → Type 0
@@ -47,13 +51,10 @@ AreCutsGood t f bytes = (v : Version1) → t.v1 ≡ Some v → (k : ℕ) → k <
 
 module _ {S F : Type 0} (shelf : Ghosts S F) (seen : F → SourceSeen) (t : Description) where
   -- a file was visited for these verdicts, which are true of what stands at its path
-  pub record VisitsFound (s : S) (f : FileEntry) (v : Verdicts) (s' : S) : Type 0 where
-    pub finds : FindsWhole t f ((shelf.contents s).under f.path) [] v
-    pub visits : Visits shelf seen t s f v.file s'
-    pub counts : shelf.faults s' ≡ more (shelf.faults s) (fault_count v.file)
-    pub stays : shelf.contents s' ≡ shelf.contents s
+  abbrev pub VisitsFound : S → FileEntry → Verdicts → S → Type 0
+  VisitsFound s f v s' = VisitsFile (whole_visiting shelf seen t) t s f [] v s'
 
   -- a file was read, and this is held of it: whatever verdicts follow from that, it was visited for
   -- them
   abbrev pub Promises : S → FileEntry → Held × List ℕ → S → Type 0
-  Promises s f h s' = (v : Verdicts) → IsJudged t f h.0 h.1 v → VisitsFound s f v s'
+  Promises s f h s' = (v : Verdicts) → IsFileJudged t f h.0 h.1 v → VisitsFound s f v s'

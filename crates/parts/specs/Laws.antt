@@ -1,6 +1,7 @@
 -- The laws of a check in parts.
-use Rattle.std.specs.Prelude.{◌≡◌, true, ◌⊎◌, ℕ, ◌<◌, List, [], ◌∷◌, ◌++◌, length, Option, Some, slice_get}
-use Rattle.opening.specs.Description.{Description}
+use Rattle.std.specs.Prelude.{◌≡◌, ◌↔◌, IsTrue, true, ◌⊎◌, ℕ, ◌<◌, List, [], ◌∷◌, ◌++◌, length, Option, Some, slice_get}
+use Rattle.lines.specs.Texts.{text_of}
+use Rattle.opening.specs.Description.{Description, FileEntry}
 use Rattle.opening.specs.Sound.{IsSound}
 use Rattle.folders.specs.Folder.{Contents, GoodFolder}
 use Rattle.folders.specs.Verdicts.{HasVerdicts, AreTrueVerdicts, is_yes, unreadable_count}
@@ -11,11 +12,14 @@ use Rattle.folders.specs.declared.report.FileVerdict.TheVariants as file
 use Rattle.folders.specs.declared.report.V1Verdict.TheVariants as version1
 use Rattle.parts.specs.Joins.{IsJoin, IsWorst, NoWorse, NoWorseV1, says_of, says_of_v1}
 use Rattle.parts.specs.Worse.{worse, worse_v1}
-use Rattle.parts.specs.Parts.{AreAllPlaces, PartReport, IsTruePart}
+use Rattle.parts.specs.PartLines.{has_place}
+use Rattle.parts.specs.PartWords.{part_in_text, part_words}
+use Rattle.parts.specs.Parts.{AreAllPlaces, PartReport, IsTruePart, Touches}
 use Rattle.parts.specs.Shares.{share}
+use Rattle.parts.specs.declared.places.Places.{Places}
 
 -- what `check` reports of a folder with these contents
-pub record IsReportOf (t : Description) (contents : Contents) (files : List FileVerdict)
+pub record IsReportOfContents (t : Description) (contents : Contents) (files : List FileVerdict)
     (v1 : Option V1Verdict) : Type 0 where
   pub has : HasVerdicts t files v1
   pub are_true : AreTrueVerdicts t contents files v1
@@ -29,7 +33,7 @@ PartsMakeTheReport =
     (v1 : Option V1Verdict) → IsSound t → AreAllPlaces t parts
     → ((i : ℕ) (p : PartReport) → slice_get parts i ≡ Some p → IsTruePart t contents p)
     → IsJoin t parts files v1
-    → IsReportOf t contents files v1 ⊎ FileCollides t contents
+    → IsReportOfContents t contents files v1 ⊎ FileCollides t contents
 
 -- A yes of the parts is a yes: of parts that have all places of the torrent, and that are each true
 -- of the same contents, a join that says yes means that the folder is good. No collision excuses
@@ -45,7 +49,7 @@ YesOfParts =
 abbrev pub ReportIsOne : Type 0
 ReportIsOne = (t : Description) (contents : Contents) (files others : List FileVerdict)
     (v1 other_v1 : Option V1Verdict) → IsSound t
-    → IsReportOf t contents files v1 → IsReportOf t contents others other_v1
+    → IsReportOfContents t contents files v1 → IsReportOfContents t contents others other_v1
     → unreadable_count files ≡ 0 → unreadable_count others ≡ 0
     → (files ≡ others) × (v1 ≡ other_v1)
 
@@ -67,3 +71,13 @@ abbrev pub SharesHaveAllPlaces : Type 0
 SharesHaveAllPlaces = (t : Description) (parts : List PartReport) → 0 < length parts
     → ((i : ℕ) (p : PartReport) → slice_get parts i ≡ Some p → p.places ≡ share t i (length parts))
     → AreAllPlaces t parts
+
+-- the lines of a part's report as rows of the table of lines, each as it is printed, are those that
+-- are printed
+abbrev pub PartWordsAreTexts : Type 0
+PartWordsAreTexts = part_words text_of ≡ part_in_text
+
+-- the test of whether a file has a place among some says whether there is one
+abbrev pub PlacesAreTested : Type 0
+PlacesAreTested = (t : Description) (r : Places) (f : FileEntry)
+    → IsTrue (has_place t r f) ↔ Touches t r f

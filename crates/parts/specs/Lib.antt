@@ -7,7 +7,6 @@ pub mod Finding
 pub mod Held
 pub mod Joins
 pub mod Laws
-pub mod Looking
 pub mod MarkedChecks
 pub mod MarkedLines
 pub mod PartLines

@@ -2,12 +2,10 @@
 -- is visited once, and its line and those of its runs go out before the next is opened. `words` is
 -- how it is worded, `shelf` and `opens_at` stand for what the shelf's type says of its shelves, and
 -- `seen` for what its files say.
-use Rattle.std.specs.Prelude.{◌≡◌, ◌⊎◌, ℕ, ◌+◌, ◌<◌, List, [], ◌∷◌, ◌++◌, length, take, slice_get, Option, Some, Result, Ok, Err}
+use Rattle.std.specs.Prelude.{◌≡◌, ◌⊎◌, ℕ, List, slice_get, Option, Some, Result, Ok, Err}
 use Rattle.benc.specs.Device.{Broke, BrokeOrUnflushed, Sent, SentAndFlushed, SinkSeen, SourceSeen}
 use Rattle.benc.specs.declared.device.DeviceFault.{DeviceFault}
-use Rattle.chains.specs.Chain.{Chain}
 use Rattle.folders.specs.Folder.{Contents}
-use Rattle.folders.specs.Verdicts.{Agrees, CountsUnreadable, HasVerdicts}
 use Rattle.folders.specs.declared.report.FileVerdict.{FileVerdict}
 use Rattle.folders.specs.declared.report.Report.{Report}
 use Rattle.folders.specs.declared.report.V1Verdict.{V1Verdict}
@@ -15,16 +13,16 @@ use Rattle.folders.specs.declared.shelf.Shelf.{Ghosts}
 use Rattle.opening.specs.Description.{Description, FileEntry}
 use Rattle.parts.specs.Checking.{shelf_and_sink}
 use Rattle.parts.specs.Finding.{IsTrueOfPlaces}
-use Rattle.parts.specs.MarkedLines.{marked_as, verdicts_of}
-use Rattle.parts.specs.Parts.{IsPartVerdict}
-use Rattle.parts.specs.PartVisits.{VisitsPart}
+use Rattle.parts.specs.MarkedLines.{verdicts_of}
 use Rattle.parts.specs.PartWords.{PartWords, last_as, marked_part_as, part_in_text}
 use Rattle.parts.specs.Runs.{Run}
 use Rattle.parts.specs.Shares.{share}
-use Rattle.parts.specs.Telling.{AreFirstMarkedRuns, AreMarkedRuns}
+use Rattle.parts.specs.Telling.{AreMarkedRuns}
+use Rattle.parts.specs.Visiting.{StopsAtFile, VisitsAll, part_visiting}
 use Rattle.lines.specs.declared.out_fault.OutFault.{OutFault as CheckFault}
 use Rattle.lines.specs.declared.out_fault.OutFault.TheVariants as stopped
 use Rattle.parts.specs.declared.places.Places.{Places}
+use Rattle.parts.specs.declared.telling.Telling.TheVariants as telling
 
 -- these are the runs of each of the first files, if these are the files' contents
 abbrev pub AreAllMarked : Description → Places → Contents → List (FileVerdict × List Run) → Type 0
@@ -54,47 +52,17 @@ PrintsMarked t part parts under verdicts v1 old new =
 module _ {S F : Type 0} (words : PartWords) (shelf : Ghosts S F)
     (opens_at : S → List (List ℕ) → ℕ → Result (Option F) DeviceFault → S → Type 0)
     (seen : F → SourceSeen) where
-  -- a file was visited for this verdict; then its line and those of these runs went out
-  pub record MarksFile (t : Description) (r : Places) (old : S × SinkSeen) (f : FileEntry)
-      (x : FileVerdict × List Run) (new : S × SinkSeen) : Type 0 where
-    pub visits : VisitsPart opens_at shelf.closes seen t r old.0 f x.0 new.0
-    pub went : Sent old.1 new.1 (marked_as words.check t r f x.0 x.1)
+  -- all files were visited, each before the next was opened, for these verdicts; and the line of
+  -- each, and those of its runs, went out
+  abbrev pub MarksAll : Description → Places → List FileVerdict → Option V1Verdict → S × SinkSeen
+      → S × SinkSeen → Type 0
+  MarksAll t r verdicts v1 old new = VisitsAll (part_visiting shelf opens_at seen r t) words.check t
+      (telling.RunsIn r) verdicts v1 old new
 
-  -- all files were, each before the next was opened, for these verdicts, which are true of what
-  -- stands at the files' paths; and the runs are those of the same contents
-  pub record MarksAll (t : Description) (r : Places) (verdicts : List FileVerdict)
-      (v1 : Option V1Verdict) (old new : S × SinkSeen) : Type 0 where
-    pub has : HasVerdicts t verdicts v1
-    pub are_true : IsTrueOfPlaces t r (shelf.contents old.0).under verdicts v1
-    pub marked : List (FileVerdict × List Run)
-    pub verdicts_are : verdicts_of marked ≡ verdicts
-    pub runs : AreAllMarked t r are_true.contents marked
-    pub files : Chain (MarksFile t r) old t.files marked new
-    pub counts : CountsUnreadable (shelf.faults old.0) (shelf.faults new.0) verdicts
-
-  -- After the lines of the files before it, a file was visited for this verdict, and its line or
-  -- one of those of its first runs broke off. No later file was opened. The verdicts are true of
-  -- what stands at the files' paths, and the runs are those of the same contents.
-  pub record StopsAtMarks (t : Description) (r : Places) (old new : S × SinkSeen) : Type 0 where
-    pub marked : List (FileVerdict × List Run)
-    pub between : S × SinkSeen
-    pub before : Chain (MarksFile t r) old (take (length marked) t.files) marked between
-    pub file : FileEntry
-    pub file_is : slice_get t.files (length marked) ≡ Some file
-    pub verdict : FileVerdict
-    pub visits : VisitsPart opens_at shelf.closes seen t r between.0 file verdict new.0
-    pub first : List Run
-    pub broke : Broke between.1 new.1 (marked_as words.check t r file verdict first)
-    pub contents : Contents
-    pub agree : (n : ℕ) (f : FileEntry) → n < length marked + 1 → slice_get t.files n ≡ Some f
-        → Agrees ((shelf.contents old.0).under f.path) (contents n)
-    pub each : (n : ℕ) (f : FileEntry) (x : FileVerdict × List Run) → slice_get t.files n ≡ Some f
-        → slice_get marked n ≡ Some x → IsPartVerdict t r f (contents n) x.0
-    pub runs : AreAllMarked t r contents marked
-    pub says : IsPartVerdict t r file (contents (length marked)) verdict
-    pub first_are : AreFirstMarkedRuns t r file (contents (length marked)) verdict first
-    pub counts : CountsUnreadable (shelf.faults old.0) (shelf.faults new.0)
-        (verdicts_of marked ++ verdict ∷ [])
+  -- those of the files before one did, and its line or one of those of its first runs broke off
+  abbrev pub StopsAtMarks : Description → Places → S × SinkSeen → S × SinkSeen → Type 0
+  StopsAtMarks t r old new =
+      StopsAtFile (part_visiting shelf opens_at seen r t) words.check t (telling.RunsIn r) old new
 
   -- the first line went out, then those of all files as each was done, and then the last lines,
   -- with one flush

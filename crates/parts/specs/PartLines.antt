@@ -17,8 +17,8 @@ has_place t r f =
 
 -- the first line: the part's number from 1 on, how many parts there are, and the version 2 info
 -- hash
-abbrev pub head_text : Description → ℕ → ℕ → List ℕ
-head_text t part parts =
+abbrev pub report_head_text : Description → ℕ → ℕ → List ℕ
+report_head_text t part parts =
     codes "part " ++ decimal (part + 1) ++ codes "/" ++ decimal parts ++ codes " "
     ++ encode_lower t.info_hash_v2 ++ codes "\n"
 
@@ -49,16 +49,17 @@ answer_line true = codes "part yes\n"
 answer_line false = codes "part no\n"
 
 -- what follows the lines of the files, worded so
-abbrev pub end_as : (V1Verdict → List ℕ) → (Bool → List ℕ) → List FileVerdict → Option V1Verdict
+abbrev pub part_end_as : (V1Verdict → List ℕ) → (Bool → List ℕ) → List FileVerdict
+    → Option V1Verdict
     → List ℕ
-end_as version1 answer files v1 = hybrid_line version1 v1 ++ answer (is_yes files v1)
+part_end_as version1 answer files v1 = hybrid_line version1 v1 ++ answer (is_yes files v1)
 
 -- what is printed behind the lines of the files
 abbrev pub end_lines : List FileVerdict → Option V1Verdict → List ℕ
-end_lines files v1 = end_as version1_words answer_line files v1
+end_lines files v1 = part_end_as version1_words answer_line files v1
 
 -- all lines
 abbrev pub part_text : Description → ℕ → ℕ → List FileVerdict → Option V1Verdict → List ℕ
 part_text t part parts files v1 =
-    head_text t part parts
+    report_head_text t part parts
     ++ (lines_text t (share t part parts) files t.files ++ end_lines files v1)

@@ -14,7 +14,7 @@ use Rattle.folders.specs.Visits.{FollowsAnswer}
 use Rattle.folders.specs.declared.report.FileVerdict.{FileVerdict}
 use Rattle.folders.specs.declared.report.FileVerdict.TheVariants.{Good}
 use Rattle.parts.specs.Parts.{Holds, Touches, last_place}
-use Rattle.parts.specs.Spans.{bytes_in, first_in}
+use Rattle.parts.specs.Spans.{bytes_in_places, first_in}
 use Rattle.parts.specs.declared.places.Places.{Places}
 
 -- an opened file was read for this verdict: its bytes among these places at most, and one more if
@@ -23,13 +23,13 @@ use Rattle.parts.specs.declared.places.Places.{Places}
 -- was before the end was seen.
 pub record IsReadIn (t : Description) (r : Places) (f : FileEntry) (v : FileVerdict)
     (old new : SourceSeen) : Type 0 where
-  pub within : IsReadWithin (bytes_in t r f + 1) old new
-  pub own : (Holds r (last_place t f) → ⊥) → IsReadWithin (bytes_in t r f) old new
+  pub within : IsReadWithin (bytes_in_places t r f + 1) old new
+  pub own : (Holds r (last_place t f) → ⊥) → IsReadWithin (bytes_in_places t r f) old new
   pub own_fault : new.faults ≡ more old.faults (fault_count v)
-  pub whole : is_whole v ≡ true → new.limit + bytes_in t r f ≡ old.limit
+  pub whole : is_whole v ≡ true → new.limit + bytes_in_places t r f ≡ old.limit
   pub other : is_whole v ≡ false → is_unreadable v ≡ false
-      → new.limit + bytes_in t r f ≢ old.limit
-  pub early : is_unreadable v ≡ true → IsReadWithin (bytes_in t r f) old new
+      → new.limit + bytes_in_places t r f ≢ old.limit
+  pub early : is_unreadable v ≡ true → IsReadWithin (bytes_in_places t r f) old new
 
 module _ {S F : Type 0}
     (opens_at : S → List (List ℕ) → ℕ → Result (Option F) DeviceFault → S → Type 0)

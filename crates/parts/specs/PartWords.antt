@@ -6,7 +6,7 @@ use Rattle.lines.specs.Rows.{Row, Spelling}
 use Rattle.lines.specs.Table.{bad_part_row, part_row, plain_row}
 use Rattle.opening.specs.Description.{Description}
 use Rattle.parts.specs.MarkedLines.{marked_head_text, marked_lines_as, verdicts_of}
-use Rattle.parts.specs.PartLines.{answer_line, end_as, head_text, lines_as}
+use Rattle.parts.specs.PartLines.{answer_line, lines_as, part_end_as, report_head_text}
 use Rattle.parts.specs.Runs.{Run}
 use Rattle.parts.specs.Shares.{share}
 use Rattle.parts.specs.Words.{Words, words_as, words_in_text}
@@ -23,7 +23,7 @@ pub record PartWords : Type 0 where
 abbrev pub part_in_text : PartWords
 part_in_text = record {
   check = words_in_text;
-  head = head_text;
+  head = report_head_text;
   bad_head = marked_head_text;
   answer = answer_line;
 }
@@ -54,7 +54,7 @@ part_words spelled = record {
 
 -- what follows the lines of the files
 abbrev pub last_as : PartWords → List FileVerdict → Option V1Verdict → List ℕ
-last_as words files v1 = end_as words.check.report.version1 words.answer files v1
+last_as words files v1 = part_end_as words.check.report.version1 words.answer files v1
 
 -- those of a report without runs
 abbrev pub part_as : PartWords → Description → ℕ → ℕ → List FileVerdict → Option V1Verdict → List ℕ

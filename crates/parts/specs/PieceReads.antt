@@ -8,7 +8,7 @@ use Rattle.folders.specs.TakeAll.{IsReadWithin}
 use Rattle.folders.specs.Verdicts.{IsFileOf}
 use Rattle.hashtree.specs.Bits.{AreClear}
 use Rattle.opening.specs.Description.{Description, FileEntry}
-use Rattle.parts.specs.FilePieces.{AreBelow, FindsPieces, TakesRow}
+use Rattle.parts.specs.FilePieces.{FindsPieces, HasNumbersBelow, TakesRowBytes}
 use Rattle.parts.specs.Spans.{IsSpan, span_bytes}
 use Rattle.parts.specs.declared.row.Found.{Found}
 use Rattle.parts.specs.declared.places.Span.{Span}
@@ -24,11 +24,11 @@ pub record MayReadPieces (t : Description) (f : FileEntry) (s : Span) (bits : Ve
 pub record ReadsPieces (t : Description) (f : FileEntry) (s : Span) (old_bits bits : Vec ℕ)
     (answer : Result (Option Found) DeviceFault) (old new : SourceSeen) : Type 0 where
   pub found : IfOk answer (FindsPieces t f s old.left bits.items)
-  pub inside : IfOk answer (λ found. IfSome found (AreBelow s.to))
+  pub inside : IfOk answer (λ found. IfSome found (HasNumbersBelow s.to))
   pub room : vec_capacity bits ≡ vec_capacity old_bits
   pub count : length bits.items ≡ length old_bits.items
   pub no_further : IsReadWithin (span_bytes t f s + 1) old new
   pub own : (IsTrue s.ends → ⊥) → IsReadWithin (span_bytes t f s) old new
-  pub taken : IfOk answer (TakesRow (span_bytes t f s) old new)
+  pub taken : IfOk answer (TakesRowBytes (span_bytes t f s) old new)
   pub blamed : OnErr answer (IsReadWithin (span_bytes t f s) old new)
   pub counts : CountsFault old.faults new.faults answer

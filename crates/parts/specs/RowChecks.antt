@@ -76,7 +76,7 @@ pub record ReadsRow (t : Description) (f : FileEntry) (from to : ℕ) (old new :
       → IsTrue found.root_is ↔ (root_of own ≡ e.root)
 
 -- the pieces were read and judged, or the source ended before
-abbrev pub JudgesRow : Description → FileEntry → ℕ → ℕ → SourceSeen → SourceSeen → List ℕ
+abbrev pub JudgesPieces : Description → FileEntry → ℕ → ℕ → SourceSeen → SourceSeen → List ℕ
     → Option Found → Type 0
-JudgesRow t f from to old new bits None = EndsInRow t f from to old new bits
-JudgesRow t f from to old new bits (Some found) = ReadsRow t f from to old new bits found
+JudgesPieces t f from to old new bits None = EndsInRow t f from to old new bits
+JudgesPieces t f from to old new bits (Some found) = ReadsRow t f from to old new bits found

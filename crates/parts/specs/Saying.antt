@@ -29,12 +29,16 @@ abbrev pub v1_says : ℕ → Option ℕ → V1Verdict
 v1_says first None = version1.Good
 v1_says first (Some number) = version1.Bad (first + number)
 
--- these are the verdicts on a file of which this was found
+-- these are the verdicts on a file of which this was found, if that of pieces is said so
+abbrev pub SaysAs : (Found → FileVerdict) → ℕ → Result (Option Found) DeviceFault → Verdicts
+    → Type 0
+SaysAs says first (Ok (Some found)) v =
+    (v.file ≡ says found) × (v.v1 ≡ v1_says first found.bad_cut)
+SaysAs says first (Ok None) v = (v.file ≡ file.WrongLength) × (v.v1 ≡ version1.NotChecked)
+SaysAs says first (Err e) v = (v.file ≡ file.Unreadable) × (v.v1 ≡ version1.NotChecked)
+
 abbrev pub SaysFound : ℕ → Result (Option Found) DeviceFault → Verdicts → Type 0
-SaysFound first (Ok (Some found)) v =
-    (v.file ≡ file_says first found.bad) × (v.v1 ≡ v1_says first found.bad_cut)
-SaysFound first (Ok None) v = (v.file ≡ file.WrongLength) × (v.v1 ≡ version1.NotChecked)
-SaysFound first (Err e) v = (v.file ≡ file.Unreadable) × (v.v1 ≡ version1.NotChecked)
+SaysFound first answer v = SaysAs (λ found. file_says first found.bad) first answer v
 
 -- ---- a whole file
 
@@ -45,7 +49,5 @@ whole_says first false bad = file_says first bad
 
 -- these are the verdicts on a file that was read from its first piece to its end
 abbrev pub SaysWhole : ℕ → Result (Option Found) DeviceFault → Verdicts → Type 0
-SaysWhole first (Ok (Some found)) v =
-    (v.file ≡ whole_says first found.root_is found.bad) × (v.v1 ≡ v1_says first found.bad_cut)
-SaysWhole first (Ok None) v = (v.file ≡ file.WrongLength) × (v.v1 ≡ version1.NotChecked)
-SaysWhole first (Err e) v = (v.file ≡ file.Unreadable) × (v.v1 ≡ version1.NotChecked)
+SaysWhole first answer v =
+    SaysAs (λ found. whole_says first found.root_is found.bad) first answer v

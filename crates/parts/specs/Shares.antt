@@ -10,11 +10,11 @@ abbrev pub all_bytes : Description → ℕ
 all_bytes t = sum_by (λ (f : FileEntry). f.length) t.files
 
 -- the piece that has this byte of the files, or the given place if they have fewer bytes
-abbrev pub place_in : ℕ → ℕ → List FileEntry → ℕ → ℕ
-place_in piece_length past [] byte = past
-place_in piece_length past (f ∷ fs) byte =
+abbrev pub piece_at_byte : ℕ → ℕ → List FileEntry → ℕ → ℕ
+piece_at_byte piece_length past [] byte = past
+piece_at_byte piece_length past (f ∷ fs) byte =
     (if nat_lt byte f.length then f.first_piece + byte / piece_length
-    else place_in piece_length past fs (byte - f.length))
+    else piece_at_byte piece_length past fs (byte - f.length))
 
 -- the first place of the part with this number, from 0 on, of this many: the piece that has the
 -- first of its bytes. Each part has as many bytes, but for what whole pieces and the last part add.
@@ -23,7 +23,7 @@ abbrev pub start : Description → ℕ → ℕ → ℕ
 start t part parts =
     (if nat_eq part 0 then 0
     else if nat_eq part parts then place_count t
-    else place_in t.piece_length (place_count t) t.files (all_bytes t / parts * part))
+    else piece_at_byte t.piece_length (place_count t) t.files (all_bytes t / parts * part))
 
 -- the places of a part: up to where the next one begins
 abbrev pub share : Description → ℕ → ℕ → Places

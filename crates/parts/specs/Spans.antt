@@ -14,8 +14,8 @@ abbrev pub end_in : Description → Places → FileEntry → ℕ
 end_in t r f = min (r.to - f.first_piece) (piece_count t f)
 
 -- how many bytes of a file the pieces have that are among these places
-abbrev pub bytes_in : Description → Places → FileEntry → ℕ
-bytes_in t r f =
+abbrev pub bytes_in_places : Description → Places → FileEntry → ℕ
+bytes_in_places t r f =
     min (t.piece_length * end_in t r f) f.length - t.piece_length * first_in r f
 
 -- the pieces of a file that are among these places, of which it has one

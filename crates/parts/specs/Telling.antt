@@ -119,11 +119,11 @@ abbrev pub MarksIn : Description → Places → FileEntry → Option (List ℕ) 
     → Type 0
 MarksIn t r f content v bits = MarksRow t f (first_in r f) (end_in t r f) content v bits
 
--- the bits are those that are told of
+-- the bits are those that are told of, if any are
 abbrev pub MarksOf : Description → Telling → FileEntry → Option (List ℕ) → FileVerdict → List ℕ
     → Type 0
-MarksOf t telling.Nothing f content v bits = Marks t f content v bits
-MarksOf t (telling.Line lines) f content v bits = Marks t f content v bits
+MarksOf t telling.Nothing f content v bits = ⊤
+MarksOf t (telling.Line lines) f content v bits = ⊤
 MarksOf t (telling.LineAndRuns lines) f content v bits = Marks t f content v bits
 MarksOf t (telling.RunsIn r) f content v bits = MarksIn t r f content v bits
 

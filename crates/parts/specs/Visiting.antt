@@ -1,36 +1,33 @@
 -- How the files of a torrent are visited one after the other, and told of in the same order.
-use Rattle.std.specs.Prelude.{◌≡◌, ℕ, ◌+◌, ◌<◌, List, [], ◌∷◌, ◌++◌, length, take, slice_get, Option, Some, Result, Ok, Err}
+use Rattle.std.specs.Prelude.{◌≡◌, ℕ, ◌+◌, ◌<◌, List, [], ◌∷◌, ◌++◌, length, map, take, slice_get, Option, Some, Result, Ok, Err}
 use Rattle.benc.specs.Device.{Broke, Sent, SinkSeen, SourceSeen}
 use Rattle.benc.specs.declared.device.DeviceFault.{DeviceFault}
 use Rattle.chains.specs.Chain.{Chain}
 use Rattle.folders.specs.Folder.{Contents}
-use Rattle.folders.specs.Shelf.{ShelfContents}
-use Rattle.folders.specs.Verdicts.{AgreeWith, Agrees, CountsUnreadable, HasVerdicts, IsVerdict, is_checked, is_whole}
+use Rattle.folders.specs.Shelf.{ShelfContents, more}
+use Rattle.folders.specs.Verdicts.{AgreeWith, Agrees, CountsUnreadable, HasVerdicts, IsVerdict, fault_count}
 use Rattle.folders.specs.Visits.{Visits}
 use Rattle.folders.specs.declared.report.FileVerdict.{FileVerdict}
 use Rattle.folders.specs.declared.report.Report.{Report}
 use Rattle.folders.specs.declared.report.V1Verdict.{V1Verdict}
 use Rattle.folders.specs.declared.shelf.Shelf.{Ghosts}
 use Rattle.opening.specs.Description.{Description, FileEntry, Version1}
-use Rattle.parts.specs.Checking.{verdicts_in}
-use Rattle.parts.specs.Finding.{IsFileV1, all_places}
+use Rattle.parts.specs.Finding.{FindsAs, all_places}
 use Rattle.parts.specs.Parts.{IsPartV1, IsPartVerdict}
 use Rattle.parts.specs.PartVisits.{VisitsPart}
-use Rattle.parts.specs.Telling.{Marks, MarksIn, MarksOf, Tells, TellsFirst, TellsNothing}
+use Rattle.parts.specs.Telling.{MarksIn, MarksOf, Tells, TellsFirst, TellsNothing}
 use Rattle.parts.specs.Words.{Words}
 use Rattle.parts.specs.declared.places.Places.{Places}
 use Rattle.parts.specs.declared.telling.Telling.{Telling}
 use Rattle.parts.specs.declared.verdicts.Verdicts.{Verdicts}
 
 -- How a check visits files: what its shelf holds, and how many faults it had; the places that are
--- checked; what a verdict says of a file's content, and what the bits of its pieces tell then; and
--- one visit.
+-- checked; what a verdict says of a file's content; and one visit.
 pub record Visiting (S : Type 0) : Type 1 where
   pub contents : S → ShelfContents
   pub faults : S → ℕ
   pub places : Places
   pub says : FileEntry → Option (List ℕ) → FileVerdict → Type 0
-  pub marks : FileEntry → Option (List ℕ) → FileVerdict → List ℕ → Type 0
   pub visits : S → FileEntry → FileVerdict → S → Type 0
 
 -- the visits of whole files
@@ -41,7 +38,6 @@ whole_visiting shelf seen t = record {
   faults = shelf.faults;
   places = all_places t;
   says = IsVerdict t;
-  marks = Marks t;
   visits = Visits shelf seen t;
 }
 
@@ -54,35 +50,45 @@ part_visiting shelf opens_at seen r t = record {
   faults = shelf.faults;
   places = r;
   says = IsPartVerdict t r;
-  marks = MarksIn t r;
   visits = VisitsPart opens_at shelf.closes seen t r;
 }
 
-module _ {S : Type 0} (V : Visiting S) where
-  -- What a visit found of a file under whose path a shelf holds this. It has this content, which is
-  -- the known one, and both verdicts are true of it; and so are the bits.
-  pub record Finds (t : Description) (f : FileEntry) (known : Option (Option (List ℕ)))
-      (bits : List ℕ) (found : Verdicts) : Type 0 where
-    pub content : Option (List ℕ)
-    pub agrees : Agrees known content
-    pub verdict : V.says f content found.file
-    pub version1 : (v : Version1) → t.v1 ≡ Some v → IsFileV1 t v V.places f content found.v1
-    pub checked : is_checked found.v1 ≡ is_whole found.file
-    pub marked : V.marks f content found.file bits
+-- the verdicts of some files, of what is told of each
+abbrev pub verdicts_in : List (FileVerdict × List ℕ) → List FileVerdict
+verdicts_in told = map (λ x. x.0) told
 
-  -- there are bits of a file with this content and verdict, and of each content with such bits the
-  -- text is told so
-  pub record IsTold (Is : Option (List ℕ) → List ℕ → Type 0) (t : Description) (told : Telling)
-      (f : FileEntry) (content : Option (List ℕ)) (v : FileVerdict) (text : List ℕ) : Type 0 where
-    pub bits : List ℕ
-    pub marked : V.marks f content v bits
-    pub tells : (c : Option (List ℕ)) → MarksOf t told f c v bits → Is c text
+-- each of the first files is told of so, if these are the files' contents
+abbrev pub AreTold : Words → Description → Telling → Contents → List (FileVerdict × List ℕ)
+    → Type 0
+AreTold words t telling contents told = (n : ℕ) (f : FileEntry) (x : FileVerdict × List ℕ)
+    → slice_get t.files n ≡ Some f → slice_get told n ≡ Some x
+    → Tells words t telling f (contents n) x.0 x.1
+
+module _ {S : Type 0} (V : Visiting S) where
+  -- what a visit finds of a file under whose path a shelf holds this
+  abbrev pub Finds : Description → FileEntry → Option (Option (List ℕ)) → List ℕ → Verdicts
+      → Type 0
+  Finds t f known bits found = FindsAs V.places V.says t f known bits found
+
+  -- a file was visited once, for these verdicts, which are true of what stands at its path
+  pub record VisitsFile (t : Description) (s : S) (f : FileEntry) (bits : List ℕ) (v : Verdicts)
+      (s' : S) : Type 0 where
+    pub finds : Finds t f ((V.contents s).under f.path) bits v
+    pub visits : V.visits s f v.file s'
+    pub counts : V.faults s' ≡ more (V.faults s) (fault_count v.file)
+    pub stays : V.contents s' ≡ V.contents s
+
+  -- the bits are those that are told of, if any are
+  abbrev pub TellsOwn : Description → Telling → Type 0
+  TellsOwn t told = (n : ℕ) (f : FileEntry) (content : Option (List ℕ)) (v : FileVerdict)
+      (bits : List ℕ) → slice_get t.files n ≡ Some f → MarksIn t V.places f content v bits
+      → MarksOf t told f content v bits
 
   -- this was said of a file with this content, and told of it
   abbrev pub SaysAndTells : Words → Description → Telling → FileEntry → Option (List ℕ)
       → FileVerdict × List ℕ → Type 0
-  SaysAndTells words t told f content x = V.says f content x.0
-      × IsTold (λ c. Tells words t told f c x.0) t told f content x.0 x.1
+  SaysAndTells words t told f content x =
+      V.says f content x.0 × Tells words t told f content x.0 x.1
 
   -- a file was visited for this verdict; then this went out
   pub record VisitsOne (old : S × SinkSeen) (f : FileEntry) (x : FileVerdict × List ℕ)
@@ -128,8 +134,7 @@ module _ {S : Type 0} (V : Visiting S) where
       pub each : (n : ℕ) (f : FileEntry) (x : FileVerdict × List ℕ) → slice_get t.files n ≡ Some f
           → slice_get told n ≡ Some x → SaysAndTells words t telling f (contents n) x
       pub says : V.says file (contents (length told)) verdict
-      pub last : IsTold (λ c. TellsFirst words t telling file c verdict) t telling file
-          (contents (length told)) verdict text
+      pub last : TellsFirst words t telling file (contents (length told)) verdict text
       pub counts : CountsUnreadable (V.faults old.0) (V.faults new.0)
           (verdicts_in told ++ verdict ∷ [])
 

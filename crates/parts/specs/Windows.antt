@@ -2,7 +2,7 @@
 use Rattle.std.specs.Prelude.{◌≡◌, ℕ, ◌+◌, ◌≤◌, List, Some}
 use Rattle.block_windows.specs.Files.{HasFile, IsHashed, IsWithin, block_total}
 use Rattle.cut_windows.specs.Windows.{HasCuts, cut_total, length_of_cuts}
-use Rattle.cut_windows.specs.Windows.{IsHashed as AreCutsHashed, IsWithin as AreCutsWithin}
+use Rattle.cut_windows.specs.Windows.{AreCutsHashed, AreCutsWithin}
 use Rattle.hashtree.specs.Tree.{block_count}
 use Rattle.opening.specs.Description.{Description, Version1}
 use Rattle.pieces.specs.Pieces.{pieces_of}
@@ -20,7 +20,7 @@ KeepsFiles old new = (e : Firsts) (start size : ℕ) → StandsAt old e start si
     → StandsAt new e start size
 
 -- there is room for a file of this size
-pub record HasRoom (w : Windows) (size : ℕ) : Type 0 where
+pub record HasRoomForFile (w : Windows) (size : ℕ) : Type 0 where
   pub blocks : block_total w.blocks + block_count size ≤ 64
   pub cuts : cut_total w.cuts + pieces_of (length_of_cuts w.cuts) size ≤ 64
 

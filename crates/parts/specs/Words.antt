@@ -17,11 +17,11 @@ abbrev pub words_in_text : Words
 words_in_text = record { report = in_text; run = run_text }
 
 -- the line of a run as a row of the table of lines: the torrent's numbers of its first and last
--- piece, and the offsets in the file of its first and last byte, both included
+-- piece, the offsets in the file of its first and last byte, both included, and the file's path
 abbrev pub run_row : Description → FileEntry → Run → Row
 run_row t f r =
     bad_pieces_row (f.first_piece + r.first) (f.first_piece + r.last) (t.piece_length * r.first)
-    (min (t.piece_length * (r.last + 1)) f.length - 1)
+    (min (t.piece_length * (r.last + 1)) f.length - 1) f.path
 
 -- the lines of a check, spelled so
 abbrev pub words_as : Spelling → Words

@@ -7,9 +7,8 @@ ghost use Rattle.folders.specs.Verdicts.{IsFileOf, fault_count};
 ghost use Rattle.folders.specs.Visits.{Visits};
 ghost use Rattle.opening.specs.Seen.{file_entry};
 ghost use Rattle.parts.specs.Batches.{NextVisits, left};
-ghost use Rattle.parts.specs.Checking.{EndsFiles, shelf_and_sink};
+ghost use Rattle.parts.specs.Checking.{EndsFiles, EndsWhole, shelf_and_sink};
 ghost use Rattle.parts.specs.Finding.{FindsWhole};
-ghost use Rattle.parts.specs.Looking.{EndsWhole, EndsAhead};
 ghost use Rattle.parts.specs.Parts.{piece_count as pieces_in};
 ghost use Rattle.parts.specs.Rooms.{IsRoomFor};
 ghost use Rattle.parts.specs.Telling.{TellsWhole, NeedsBits};
@@ -52,7 +51,8 @@ pub(crate) fn visit_whole<S: Shelf, L: LineSink, P: Pace>(
     Ok(report)
 }
 
-// Visits each file: small ones together, unless bits of pieces are told of.
+// Visits each file: small ones together, unless bits of pieces are told of. Conditions: there is
+// room for what is told, and it is of whole files.
 fn visit_in<S: Shelf, L: LineSink, P: Pace>(
     room: Room,
     torrent: &Torrent<'_>,
@@ -62,11 +62,13 @@ fn visit_in<S: Shelf, L: LineSink, P: Pace>(
     out: &mut L,
 ) -> Result<Report, DeviceFault>
     requires room { IsRoomFor torrent.now telling room }
+    requires whole { TellsWhole telling }
     ensures ends { EndsWhole S.Shelf S.File.seen (words_as L.spelled) torrent.now telling
         (shelf_and_sink shelf.old (L.seen out.old)) (shelf_and_sink shelf.new (L.seen out.new))
         result }
     ensures stays { S.contents shelf.new ≡ S.contents shelf.old }
 {
+    torrent.recall_sound();
     match telling {
         Telling::Nothing | Telling::Line(_) => {
             visit_ahead(room, torrent, shelf, telling, pace, out)
@@ -92,7 +94,7 @@ fn visit_ahead<S: Shelf, L: LineSink, P: Pace>(
 ) -> Result<Report, DeviceFault>
     requires room { IsRoomFor torrent.now telling room }
     requires lines { NeedsBits telling → ⊥ }
-    ensures ends { EndsAhead S.Shelf S.File.seen (words_as L.spelled) torrent.now telling
+    ensures ends { EndsWhole S.Shelf S.File.seen (words_as L.spelled) torrent.now telling
         (shelf_and_sink shelf.old (L.seen out.old)) (shelf_and_sink shelf.new (L.seen out.new))
         result }
     ensures stays { S.contents shelf.new ≡ S.contents shelf.old }
@@ -145,6 +147,7 @@ fn visit_next<S: Shelf, P: Pace>(
     requires there { number < length torrent.now.files }
     ensures visits { NextVisits S.Shelf S.File.seen torrent.now number (left ahead.old) shelf.old
         result (left ahead.new) shelf.new }
+    ensures few { length (left ahead.new) < 64 }
     ensures stays { S.contents shelf.new ≡ S.contents shelf.old }
 {
     if let Some(verdicts) = ahead.take() {

@@ -1,8 +1,8 @@
 //! Small files that are visited one after the other, and judged together.
-ghost use Rattle.std.specs.Prelude.{◌≡◌, ℕ, ◌+◌, ◌^◌, ◌<◌, ◌≤◌, [], IsTrue, length, slice_get, Some};
+ghost use Rattle.std.specs.Prelude.{◌≡◌, ℕ, ◌+◌, ◌^◌, ◌<◌, ◌≤◌, ◌↔◌, [], IsTrue, length, slice_get, Some};
 ghost use Rattle.opening.specs.Description.{Description};
-ghost use Rattle.parts.specs.Batches.{AreJudged, AreKept, HasKept, HoldsFrom, VisitsFrom, left};
-ghost use Rattle.parts.specs.Windows.{AreHashed, AreWithin, HasRoom, KeepsFiles, StandsAt};
+ghost use Rattle.parts.specs.Batches.{AreFilesKept, AreJudged, CanKeep, HasKept, HoldsFrom, VisitsFrom, left};
+ghost use Rattle.parts.specs.Windows.{AreHashed, AreWithin, HasRoomForFile, KeepsFiles, StandsAt};
 ghost use Rattle.parts.specs.declared.batch.Kept.{Kept};
 ghost use Rattle.parts.specs.declared.held.Held.TheVariants as kept;
 
@@ -55,9 +55,7 @@ impl HeldFiles {
     // Whether there is room for one more file of this length, if `used` bytes of the room
     // are used.
     fn has_room(&self, length: u64, used: usize, room: usize) -> bool
-        ensures count { IsTrue result → self.now.count < 64 }
-        ensures windows { IsTrue result → HasRoom self.now.windows length }
-        ensures bytes { IsTrue result → used + length < room }
+        ensures { IsTrue result ↔ CanKeep self.now length used room }
     {
         self.count < MOST
             && length <= SMALL
@@ -69,7 +67,7 @@ impl HeldFiles {
     // Keeps what is held of a file of this size, whose bytes begin there.
     fn keep(&mut self, held: Held, start: usize, size: usize)
         requires few { self.old.count < 64 }
-        requires room { HasRoom self.old.windows size }
+        requires room { HasRoomForFile self.old.windows size }
         requires fits { start + size < 2 ^ 64 }
         ensures count { self.new.count ≡ self.old.count + 1 }
         ensures length { length self.new.kept ≡ length self.old.kept }
@@ -94,7 +92,7 @@ impl HeldFiles {
 
 // Puts a file that is whole into the windows: where it begins there.
 fn firsts_of(windows: &mut Windows, held: Held, start: usize, size: usize) -> Firsts
-    requires room { HasRoom windows.old size }
+    requires room { HasRoomForFile windows.old size }
     requires fits { start + size < 2 ^ 64 }
     ensures whole { held ≡ kept.Whole → StandsAt windows.new result start size }
     ensures windows { KeepsFiles windows.old windows.new }
@@ -183,7 +181,7 @@ fn judge_files(
     requires few { from + held.now.count ≤ length torrent.now.files }
     requires kept { length held.now.kept ≡ 64 }
     requires count { held.now.count ≤ 64 }
-    requires places { AreKept torrent.now from held.now (length room.now) }
+    requires places { AreFilesKept torrent.now from held.now (length room.now) }
     requires hashed { AreHashed torrent.now held.now.windows room.now }
     requires none { bits.old.items ≡ [] }
     ensures count { length (left result) ≡ held.now.count }

@@ -2,11 +2,11 @@
 //! of these is another than is listed, as a row of pieces.
 ghost use Rattle.std.specs.Prelude.{◌≡◌, ◌+◌, ◌<◌, ◌≤◌, [], IsTrue, length, slice_range, Some};
 ghost use Rattle.block_windows.specs.Files.{bytes_at};
-ghost use Rattle.cut_windows.specs.Windows.{HasCuts, IsHashed, length_of_cuts};
+ghost use Rattle.cut_windows.specs.Windows.{AreCutsHashed, HasCuts, length_of_cuts};
 ghost use Rattle.folders.specs.Verdicts.{IsFileOf};
 ghost use Rattle.opening.specs.Description.{Version1};
 ghost use Rattle.opening.specs.Seen.{file_entry};
-ghost use Rattle.parts.specs.Held.{IsJudged, IsJudgedGood, AreCutsGood};
+ghost use Rattle.parts.specs.Held.{IsFileJudged, IsJudgedGood, AreCutsGood, AreCutsWhole};
 ghost use Rattle.parts.specs.Windows.{AreHashed, StandsAt};
 ghost use Rattle.parts.specs.declared.held.Held.TheVariants as kept;
 
@@ -40,7 +40,7 @@ pub(crate) fn judge_held(
     requires inside { start + file.now.length ≤ length room.now }
     requires stands { held ≡ kept.Whole → StandsAt windows.now firsts start file.now.length }
     requires hashed { AreHashed torrent.now windows.now room.now }
-    ensures judged { IsJudged torrent.now (file_entry file.now) held
+    ensures judged { IsFileJudged torrent.now (file_entry file.now) held
         (bytes_at room.now start file.now.length) result }
     ensures none { bits.new.items ≡ [] }
 {
@@ -101,9 +101,12 @@ fn are_cuts_good(
     requires piece_length { length_of_cuts cuts.now ≡ torrent.now.piece_length }
     requires stands { HasCuts cuts.now first _start file.now.length }
     requires inside { _start + file.now.length ≤ length _room.now }
-    requires hashed { (v : Version1) → torrent.now.v1 ≡ Some v → IsHashed cuts.now _room.now }
-    ensures { IsTrue result → AreCutsGood torrent.now (file_entry file.now)
+    requires hashed { (v : Version1) → torrent.now.v1 ≡ Some v → AreCutsHashed cuts.now _room.now }
+    ensures good { IsTrue result → AreCutsGood torrent.now (file_entry file.now)
         (bytes_at _room.now _start file.now.length) }
+    ensures always { AreCutsWhole torrent.now (file_entry file.now)
+        → AreCutsGood torrent.now (file_entry file.now)
+        (bytes_at _room.now _start file.now.length) → IsTrue result }
 {
     torrent.recall_sound();
     let Some(v1) = torrent.v1() else {
@@ -136,7 +139,7 @@ fn judge_bytes(
     requires file { IsFileOf torrent.now (file_entry file.now) }
     requires none { bits.old.items ≡ [] }
     requires length { length bytes.now ≡ file.now.length }
-    ensures judged { IsJudged torrent.now (file_entry file.now) kept.Whole bytes.now result }
+    ensures judged { IsFileJudged torrent.now (file_entry file.now) kept.Whole bytes.now result }
     ensures none { bits.new.items ≡ [] }
 {
     torrent.recall_sound();

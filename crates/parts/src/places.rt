@@ -3,7 +3,7 @@ ghost use Rattle.std.specs.Prelude.{◌≡◌, ◌↔◌, IsTrue, Option, ◌+�
 ghost use Rattle.folders.specs.Verdicts.{IsFileOf};
 ghost use Rattle.opening.specs.Seen.{file_entry};
 ghost use Rattle.parts.specs.Parts.{Touches, piece_count, place_count};
-ghost use Rattle.parts.specs.Shares.{all_bytes, place_in, share, start};
+ghost use Rattle.parts.specs.Shares.{all_bytes, piece_at_byte, share, start};
 ghost use Rattle.parts.specs.Spans.{IsSpanned};
 
 use opening::{File, Torrent};
@@ -75,7 +75,7 @@ fn place_count(torrent: &Torrent<'_>) -> u64
 
 // The place of this byte of all files, counted one after the other.
 fn place_of_byte(torrent: &Torrent<'_>, byte: u64) -> u64
-    ensures { result ≡ place_in torrent.now.piece_length (place_count torrent.now)
+    ensures { result ≡ piece_at_byte torrent.now.piece_length (place_count torrent.now)
         torrent.now.files byte }
 {
     torrent.recall_sound();

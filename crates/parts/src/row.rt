@@ -10,8 +10,8 @@ ghost use Rattle.folders.specs.Verdicts.{IsFileOf};
 ghost use Rattle.hashtree.specs.Bits.{AreClear};
 ghost use Rattle.opening.specs.Description.{Version1};
 ghost use Rattle.opening.specs.Seen.{file_entry, tree_entry, version1};
-ghost use Rattle.parts.specs.FilePieces.{AreBelow, FindsPieces, TakesRow};
-ghost use Rattle.parts.specs.RowChecks.{IsRowCuts, IsRowHashes, IsRowLayer, JudgesRow, stream_part};
+ghost use Rattle.parts.specs.FilePieces.{FindsPieces, HasNumbersBelow, TakesRowBytes};
+ghost use Rattle.parts.specs.RowChecks.{IsRowCuts, IsRowHashes, IsRowLayer, JudgesPieces, stream_part};
 ghost use Rattle.parts.specs.Spans.{IsSpan, span_bytes};
 
 use crate::places::Span;
@@ -87,7 +87,7 @@ pub(crate) fn read_pieces<F: Source>(
     requires clear { AreClear bits.old.items }
     ensures found { IfOk result (FindsPieces torrent.now (file_entry file.now) span
         (F.seen source.old).left bits.new.items) }
-    ensures inside { IfOk result (λ found. IfSome found (AreBelow span.to)) }
+    ensures inside { IfOk result (λ found. IfSome found (HasNumbersBelow span.to)) }
     ensures room { vec_capacity bits.new ≡ vec_capacity bits.old }
     ensures length { length bits.new.items ≡ length bits.old.items }
     ensures no_further { IsReadWithin (span_bytes torrent.now (file_entry file.now) span + 1)
@@ -95,7 +95,7 @@ pub(crate) fn read_pieces<F: Source>(
     ensures own { (IsTrue span.ends → ⊥)
         → IsReadWithin (span_bytes torrent.now (file_entry file.now) span)
         (F.seen source.old) (F.seen source.new) }
-    ensures taken { IfOk result (TakesRow (span_bytes torrent.now (file_entry file.now) span)
+    ensures taken { IfOk result (TakesRowBytes (span_bytes torrent.now (file_entry file.now) span)
         (F.seen source.old) (F.seen source.new)) }
     ensures blamed { OnErr result (IsReadWithin
         (span_bytes torrent.now (file_entry file.now) span) (F.seen source.old)
@@ -129,9 +129,9 @@ fn judge<F: Source>(
     requires file { IsFileOf torrent.now (file_entry file.now) }
     requires span { IsSpan torrent.now (file_entry file.now) span }
     requires clear { AreClear bits.old.items }
-    ensures judged { IfOk result (JudgesRow torrent.now (file_entry file.now) span.from
+    ensures judged { IfOk result (JudgesPieces torrent.now (file_entry file.now) span.from
         span.to (F.seen source.old) (F.seen source.new) bits.new.items) }
-    ensures inside { IfOk result (λ found. IfSome found (AreBelow span.to)) }
+    ensures inside { IfOk result (λ found. IfSome found (HasNumbersBelow span.to)) }
     ensures room { vec_capacity bits.new ≡ vec_capacity bits.old }
     ensures length { length bits.new.items ≡ length bits.old.items }
     ensures no_further { IsReadWithin (span_bytes torrent.now (file_entry file.now) span)
@@ -168,9 +168,9 @@ fn read_row<F: Source>(
     requires span { IsSpan torrent.now (file_entry file.now) span }
     requires piece { span.from < span.to }
     requires clear { AreClear bits.old.items }
-    ensures judged { IfOk result (JudgesRow torrent.now (file_entry file.now) span.from
+    ensures judged { IfOk result (JudgesPieces torrent.now (file_entry file.now) span.from
         span.to (F.seen source.old) (F.seen source.new) bits.new.items) }
-    ensures inside { IfOk result (λ found. IfSome found (AreBelow span.to)) }
+    ensures inside { IfOk result (λ found. IfSome found (HasNumbersBelow span.to)) }
     ensures room { vec_capacity bits.new ≡ vec_capacity bits.old }
     ensures length { length bits.new.items ≡ length bits.old.items }
     ensures no_further { IsReadWithin (span_bytes torrent.now (file_entry file.now) span)

@@ -1,6 +1,6 @@
 //! What is said of each file of a check as soon as it is done: its line, and those of its runs of
 //! bad pieces.
-ghost use Rattle.std.specs.Prelude.{◌≡◌, ◌*◌, ◌≤◌, length, IfOk, OnErr, ◌+◌, ◌-◌, ◌<◌, ◌++◌, min, MatchOption};
+ghost use Rattle.std.specs.Prelude.{◌≡◌, ◌*◌, ◌≤◌, length, IfOk, OnErr, ◌+◌, ◌-◌, ◌<◌, ◌++◌, min, map, MatchOption};
 ghost use Rattle.std.specs.Vec.{vec_capacity};
 ghost use Rattle.benc.specs.Device.{Wrote};
 ghost use Rattle.folders.specs.Verdicts.{IsFileOf};
@@ -182,7 +182,7 @@ pub fn say_run<L: LineSink>(
     ensures { Wrote (L.seen out.old) (L.seen out.new) result (L.spelled
         (run_row torrent.now (file_entry file.now) (record { first = from; last = to - 1 }))) }
 {
-    say(&line_of(torrent, file, from, to), out)
+    say(&line_of(torrent, file, from, to, &file.path.parts()), out)
 }
 
 /// What stands behind that line, if a text begins with it. It takes no memory. Conditions: as for
@@ -201,12 +201,19 @@ pub fn strip_run<'a>(
         (record { first = from; last = to - 1 }) in
         MatchOption result (BeginsWith line text.now → ⊥) (λ rest. text.now ≡ line ++ rest.now) }
 {
-    strip_line(&line_of(torrent, file, from, to), text)
+    strip_line(&line_of(torrent, file, from, to, &file.path.parts()), text)
 }
 
-// The line of a run. Conditions: as for `say_run`.
-fn line_of(torrent: &Torrent<'_>, file: &File<'_>, from: u64, to: u64) -> Line<'static>
+// The line of a run of a file with this path. Conditions: as for `say_run`.
+fn line_of<'a>(
+    torrent: &Torrent<'_>,
+    file: &File<'_>,
+    from: u64,
+    to: u64,
+    path: &'a [&'a str],
+) -> Line<'a>
     requires file { IsFileOf torrent.now (file_entry file.now) }
+    requires path { map (λ s. s.now) path.now ≡ file.now.path }
     requires some { from < to }
     requires inside { to ≤ pieces_in torrent.now (file_entry file.now) }
     ensures { row_of result
@@ -218,6 +225,7 @@ fn line_of(torrent: &Torrent<'_>, file: &File<'_>, from: u64, to: u64) -> Line<'
         last: run.last,
         from: run.from,
         to: run.to,
+        path,
     })
 }
 

@@ -141,6 +141,7 @@ impl Ahead {
     /// The next one.
     pub(crate) fn take(&mut self) -> Option<Verdicts>
         ensures some { IfSome result (λ v. left self.old ≡ v ∷ left self.new) }
+        ensures few { length (left self.new) < 64 }
         ensures none { IsNone result → left self.new ≡ left self.old }
         ensures ended { IsNone result → left self.old ≡ [] }
     {

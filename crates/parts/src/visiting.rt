@@ -8,7 +8,7 @@ ghost use Rattle.opening.specs.Seen.{file_entry};
 ghost use Rattle.parts.specs.Checking.{shelf_and_sink};
 ghost use Rattle.parts.specs.Parts.{piece_count};
 ghost use Rattle.parts.specs.Rooms.{IsRoomFor};
-ghost use Rattle.parts.specs.Visiting.{EndsVisits};
+ghost use Rattle.parts.specs.Visiting.{EndsVisits, TellsOwn};
 ghost use Rattle.parts.specs.Words.{words_as};
 
 use crate::room::{Room, buffer_of};
@@ -56,8 +56,8 @@ pub(crate) trait Visitor<S> {
 
 /// Visits each file of a torrent, and says what is wanted of it before the next one is visited.
 /// No memory is taken but for the buffer, which is a smaller one if that is refused, and for long
-/// pieces of a hybrid, which do without. What breaks off ends the visits. Condition: there is room
-/// for what is told.
+/// pieces of a hybrid, which do without. What breaks off ends the visits. Conditions: there is room
+/// for what is told, and if bits are told of, the visits' own are.
 // It has a block in its frame, so it is not inlined.
 #[inline(never)]
 pub(crate) fn visit_files<S, V: Visitor<S>, L: LineSink>(
@@ -69,6 +69,7 @@ pub(crate) fn visit_files<S, V: Visitor<S>, L: LineSink>(
     out: &mut L,
 ) -> Result<Report, DeviceFault>
     requires room { IsRoomFor torrent.now telling room }
+    requires own { TellsOwn (V.visiting visitor.now torrent.now) torrent.now telling }
     ensures ends { EndsVisits (V.visiting visitor.now torrent.now) (words_as L.spelled)
         torrent.now telling (shelf_and_sink shelf.old (L.seen out.old))
         (shelf_and_sink shelf.new (L.seen out.new)) result }

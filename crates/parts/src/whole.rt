@@ -66,9 +66,9 @@ pub fn check<S: Shelf>(
 /// # Errors
 ///
 /// `NoMemory`: memory for the report was refused before the first path was opened, and nothing was
-/// written. `Write`: the sink failed in a file's line, and none was visited behind the files that
-/// are read with that one; or it failed behind the last file's line or at the flush. A prefix of
-/// the lines of the visited files went out.
+/// written. `Write`: the sink failed in a file's line, behind all those of the files before it, and
+/// at most 63 files behind it were visited, which are read with it; or it failed behind the last
+/// file's line or at the flush.
 pub fn check_onto<S: Shelf, W: Sink>(
     alloc: Global,
     torrent: &Torrent<'_>,

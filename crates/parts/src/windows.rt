@@ -1,13 +1,10 @@
 //! The windows of files that are held: of their blocks, and of their version 1 pieces.
-ghost use Rattle.std.specs.Prelude.{◌≡◌, ℕ, ◌+◌, ◌^◌, ◌<◌, ◌≤◌, IsTrue, length};
+ghost use Rattle.std.specs.Prelude.{◌≡◌, ℕ, ◌+◌, ◌^◌, ◌<◌, ◌≤◌, ◌↔◌, IsTrue, length};
 ghost use Rattle.opening.specs.Description.{Description};
 
-use block_windows::{WINDOW, Window};
+use block_windows::Window;
 use cut_windows::CutWindow;
 use opening::Torrent;
-
-// Bytes in a block.
-const BLOCK: u64 = 16_384;
 
 /// Where a file's blocks begin in their window, and its version 1 pieces in theirs.
 #[derive(Clone, Copy)]
@@ -29,7 +26,7 @@ pub(crate) struct Windows {
 }
 
 impl Windows {
-    ghost use Rattle.parts.specs.Windows.{AreHashed, AreWithin, HasRoom, KeepsFiles, StandsAt};
+    ghost use Rattle.parts.specs.Windows.{AreHashed, AreWithin, HasRoomForFile, KeepsFiles, StandsAt};
 
     /// Of no file of this torrent.
     pub(crate) fn none(torrent: &Torrent<'_>) -> Windows
@@ -44,16 +41,15 @@ impl Windows {
 
     /// Whether there is room for one more file of this size.
     pub(crate) fn has_room(&self, size: usize) -> bool
-        ensures { IsTrue result → HasRoom self.now size }
+        ensures { IsTrue result ↔ HasRoomForFile self.now size }
     {
-        self.blocks.blocks() as u64 + (size as u64).div_ceil(BLOCK) <= WINDOW as u64
-            && self.cuts.has_room(size)
+        self.blocks.has_room(size) && self.cuts.has_room(size)
     }
 
     /// Takes a file of this size that stands at this byte of the room. Condition: there is room for
     /// it.
     pub(crate) fn push(&mut self, start: usize, size: usize) -> Firsts
-        requires room { HasRoom self.old size }
+        requires room { HasRoomForFile self.old size }
         requires fits { start + size < 2 ^ 64 }
         ensures stands { StandsAt self.new result start size }
         ensures kept { KeepsFiles self.old self.new }

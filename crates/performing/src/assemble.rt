@@ -10,6 +10,10 @@ use real_files::{Noted, System, create_output};
 use std::alloc::AllocError;
 use std::io::BufWriter;
 
+// How many bytes a part may have: 1 GiB, of which the nodes and digests of a torrent of 64 MiB take
+// less than a fifth.
+const LONGEST_PART: u64 = 1 << 30;
+
 /// Makes a torrent of what all parts hashed. Its file is opened once all parts are read, and stays
 /// untouched if it is refused. It is none of the parts. Gives the exit status.
 pub(crate) fn perform_assemble<'a>(system: &System, asked: &Assemble<'a>) -> Result<u8, Fault<'a>> {
@@ -30,10 +34,20 @@ pub(crate) fn perform_assemble<'a>(system: &System, asked: &Assemble<'a>) -> Res
 fn read_parts<'a>(system: &System, paths: &[&'a str]) -> Result<Vec<Vec<u8>>, Fault<'a>> {
     let mut texts = Vec::new(system.alloc());
     for path in paths {
-        let text = read_bytes(system, path, u64::MAX)?;
+        let text = read_part(system, path)?;
         texts.push(text).map_err(AllocError::from)?;
     }
     Ok(texts)
+}
+
+// The bytes of a part. What is longer than a part may be is none, whatever it begins with: nothing
+// of it is kept.
+fn read_part<'a>(system: &System, path: &'a str) -> Result<Vec<u8>, Fault<'a>> {
+    let text = read_bytes(system, path, LONGEST_PART + 1)?;
+    if text.len() as u64 > LONGEST_PART {
+        return Ok(Vec::new(system.alloc()));
+    }
+    Ok(text)
 }
 
 fn write_assembled<'a>(

@@ -1,10 +1,14 @@
 //! `check`: whether a folder holds the files of a torrent.
 use crate::extra::print_extra;
+use crate::folder_hints::hint_at_folder;
+use crate::hints::are_told;
 use crate::printed::{buffered_output, line_output, refuse, say_to};
 use crate::sizes::all_bytes;
-use crate::summary::{print_hint, print_summary};
-use crate::tally::Tally;
+use crate::summary::print_summary;
+use crate::told_lengths::ToldLengths;
 use crate::torrent_file::{open_torrent, read_torrent};
+use crate::verdict_counts::VerdictCounts;
+use crate::watched::Watched;
 use actions::Check;
 use benc::Sink;
 use commands::checks;
@@ -39,7 +43,7 @@ fn judge_torrent<'a, W: Sink + Drop>(
             let cleared = Cleared::new(out, &progress);
             print_check(system, &torrent, asked, &progress, cleared)
         }
-        Err(refusal) => refuse(&refusal, asked.json, out),
+        Err(refusal) => refuse(system, bytes, &refusal, asked.json, out),
     }
 }
 
@@ -51,27 +55,37 @@ fn print_check<'a, W: Sink + Drop>(
     out: W,
 ) -> Result<u8, Fault<'a>> {
     say_to!(asked.json, out, lines => {
-        explain_folder(system, torrent, asked, progress, &mut Tally::new(lines))
+        if asked.summary || are_told(system) {
+            explain_folder(system, torrent, asked, progress, lines)
+        } else {
+            judge_folder(system, torrent, asked, progress, &mut lines)
+        }
     })
 }
 
 // Prints the report, and on standard error what else is told of it.
-fn explain_folder<'a, L: LineSink>(
+fn explain_folder<'a, L: LineSink + Drop>(
     system: &System,
     torrent: &Torrent<'_>,
     asked: &Check<'a>,
     progress: &Progress,
-    lines: &mut Tally<L>,
+    lines: L,
 ) -> Result<u8, Fault<'a>> {
+    let told = ToldLengths::new(system, torrent, asked.dir, progress);
+    let mut lines = Watched::new(Watched::new(lines, told), VerdictCounts::none());
     let start = if asked.summary {
         Instant::now(system.rt()).ok()
     } else {
         None
     };
-    let status = judge_folder(system, torrent, asked, progress, lines)?;
-    print_hint(system, torrent, asked, lines.counts(), progress);
+    let status = judge_folder(system, torrent, asked, progress, &mut lines)?;
+    let counts = *lines.watch();
+    if counts.found_none_of(torrent.files().len() as u64) {
+        progress.clear();
+        hint_at_folder(system, torrent, asked.dir, &["try check", asked.torrent]);
+    }
     if asked.summary {
-        print_summary(system, torrent, lines.counts(), progress, start);
+        print_summary(system, torrent, counts, progress, start);
     }
     Ok(status)
 }

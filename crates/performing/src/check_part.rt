@@ -1,7 +1,12 @@
 //! `check --part`: one part of a check.
+use crate::folder_hints::hint_at_folder;
+use crate::hints::are_told;
 use crate::printed::{buffered_output, line_output, refuse, say_to};
 use crate::sizes::bytes_in;
+use crate::told_lengths::ToldLengths;
 use crate::torrent_file::{open_torrent, read_torrent};
+use crate::verdict_counts::VerdictCounts;
+use crate::watched::Watched;
 use actions::CheckPart;
 use benc::Sink;
 use commands::part_checks;
@@ -40,7 +45,7 @@ fn judge_torrent<'a, W: Sink + Drop>(
             let cleared = Cleared::new(out, &progress);
             print_part(system, &torrent, asked, &progress, cleared)
         }
-        Err(refusal) => refuse(&refusal, asked.json, out),
+        Err(refusal) => refuse(system, bytes, &refusal, asked.json, out),
     }
 }
 
@@ -51,7 +56,32 @@ fn print_part<'a, W: Sink + Drop>(
     progress: &Progress,
     out: W,
 ) -> Result<u8, Fault<'a>> {
-    say_to!(asked.json, out, lines => judge_part(system, torrent, asked, progress, &mut lines))
+    say_to!(asked.json, out, lines => {
+        if are_told(system) {
+            explain_part(system, torrent, asked, progress, lines)
+        } else {
+            judge_part(system, torrent, asked, progress, &mut lines)
+        }
+    })
+}
+
+// Prints the report, and on standard error what else is told of it.
+fn explain_part<'a, L: LineSink + Drop>(
+    system: &System,
+    torrent: &Torrent<'_>,
+    asked: &CheckPart<'a>,
+    progress: &Progress,
+    lines: L,
+) -> Result<u8, Fault<'a>> {
+    let told = ToldLengths::new(system, torrent, asked.dir, progress);
+    let mut lines = Watched::new(Watched::new(lines, told), VerdictCounts::none());
+    let status = judge_part(system, torrent, asked, progress, &mut lines)?;
+    let counts = *lines.watch();
+    if counts.found_none_of(counts.all()) {
+        progress.clear();
+        hint_at_folder(system, torrent, asked.dir, &["try check", asked.torrent]);
+    }
+    Ok(status)
 }
 
 fn judge_part<'a, L: LineSink>(

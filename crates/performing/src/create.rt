@@ -1,72 +1,77 @@
-//! `create`: a torrent of a folder.
+//! `create`: a torrent of a folder or of a file.
 use crate::excluded::refuse_globs;
-use actions::{Create, NewTorrent, PieceLength, auto_length};
+use crate::origin::{choice_of, folder_of, is_file, may_leave_out, path_of, shelf_at};
+use actions::{Create, NewTorrent, PieceLengthChoice, auto_length};
 use benc::{FromWrite, Sink};
 use commands::outcomes;
 use drafts::Draft;
-use excluding::{Excluding, regex_of};
+use excluding::Excluding;
+use filetree::Refusal;
 use folders::Shelf;
+use globs::{Glob, read_globs};
+use lines::Nowhere;
 use printing::Fault;
 use real_files::{
     Cause, Cleared, Folder, FolderLengths, Noted, Progress, System, bytes_of, create_new_output,
     create_output, refuse_if_there,
 };
-use regex::Regex;
 use std::alloc::AllocError;
 use std::fs::File;
 use std::io::BufWriter;
 
-/// Makes a torrent of a folder. What is no glob is refused before anything is read. Gives the exit
-/// status.
+/// Makes a torrent of a folder or of a file. What is no glob is refused before anything is read.
+/// Gives the exit status.
 pub(crate) fn perform_create<'a>(system: &System, asked: &NewTorrent<'a>) -> Result<u8, Fault<'a>> {
     let progress = Progress::new(system.rt(), None);
     let mut out = Cleared::new(FromWrite::new(system.output()), &progress);
     if asked.exclude.is_empty() {
         return create_of_all(system, asked, &progress, &mut out);
     }
-    match regex_of(system.alloc(), asked.exclude.as_slice()) {
-        Ok(pattern) => create_without(system, asked, &pattern, &progress, &mut out),
+    match read_globs(system.alloc(), asked.exclude.as_slice()) {
+        Ok(globs) => create_without(system, asked, &globs, &progress, &mut out),
         Err(fault) => refuse_globs(system, asked.exclude.as_slice(), fault),
     }
 }
 
-fn create_of_all<'a, W: Sink>(
-    system: &System,
+fn create_of_all<'a, 's, W: Sink>(
+    system: &'s System,
     asked: &NewTorrent<'a>,
-    progress: &Progress,
+    progress: &'s Progress,
     out: &mut W,
 ) -> Result<u8, Fault<'a>> {
     refuse_clobbering(system, asked)?;
-    let mut folder = Folder::new(system, asked.dir, progress);
+    let (path, alone) = (path_of(asked.origin), is_file(asked.origin));
+    let mut folder = shelf_at(system, path, alone, progress).choosing(choice_of(asked));
     let draft = gather(system, asked, &mut folder, out)?;
     write_gathered(system, asked, draft, &folder, progress, out)
 }
 
-// Leaves out the files in whose paths the pattern is found.
-fn create_without<'a, W: Sink>(
-    system: &System,
+// Without the files that the globs leave out.
+fn create_without<'a, 's, W: Sink>(
+    system: &'s System,
     asked: &NewTorrent<'a>,
-    pattern: &Regex,
-    progress: &Progress,
+    globs: &'s [Glob],
+    progress: &'s Progress,
     out: &mut W,
 ) -> Result<u8, Fault<'a>> {
     refuse_clobbering(system, asked)?;
-    let shelf = Folder::new(system, asked.dir, progress).read_in_part();
-    let (draft, folder) = gather_without(system, asked, shelf, pattern, out)?;
+    let (path, alone) = (path_of(asked.origin), is_file(asked.origin));
+    let shelf = shelf_at(system, path, alone, progress)
+        .choosing(choice_of(asked))
+        .without(globs);
+    let (draft, folder) = gather_without(system, asked, shelf, globs, out)?;
     write_gathered(system, asked, draft, &folder, progress, out)
 }
 
-// Gathers what a shelf lists without the files in whose paths the pattern is found, and gives the
-// shelf back.
+// Gathers what a shelf lists without the files that the globs leave out, and gives the shelf back.
 fn gather_without<'a, S: Shelf + Drop, W: Sink>(
     system: &System,
     asked: &NewTorrent<'a>,
     shelf: S,
-    pattern: &Regex,
+    globs: &[Glob],
     out: &mut W,
 ) -> Result<(Result<Draft, u8>, S), Fault<'a>> {
-    let matcher = pattern.matcher(system.alloc())?;
-    let mut kept = Excluding::new(system.alloc(), shelf, matcher);
+    let mut kept = Excluding::new(system.alloc(), shelf, globs);
     let draft = gather(system, asked, &mut kept, out)?;
     Ok((draft, kept.into_inner()))
 }
@@ -90,12 +95,12 @@ fn gather<'a, S: Shelf, W: Sink>(
     out: &mut W,
 ) -> Result<Result<Draft, u8>, Fault<'a>> {
     let create = Create {
-        dir: asked.dir,
+        dir: path_of(asked.origin),
         name: asked.name,
         piece_length: piece_length(system, asked, shelf)?,
         hybrid: asked.hybrid,
     };
-    let mut lengths = FolderLengths::new(system, asked.dir);
+    let mut lengths = FolderLengths::new(system, folder_of(asked.origin));
     outcomes::gather(system.alloc(), &create, shelf, &mut lengths, out)
 }
 
@@ -106,8 +111,11 @@ pub(crate) fn piece_length<S: Shelf>(
     shelf: &mut S,
 ) -> Result<u64, AllocError> {
     match asked.piece_length {
-        PieceLength::Bytes(bytes) => Ok(bytes),
-        PieceLength::Auto => Ok(auto_length(all_bytes(system, asked.dir, shelf)?)),
+        PieceLengthChoice::Bytes(bytes) => Ok(bytes),
+        PieceLengthChoice::Auto => {
+            let bytes = all_bytes(system, folder_of(asked.origin), shelf)?;
+            Ok(auto_length(bytes))
+        }
     }
 }
 
@@ -120,8 +128,8 @@ fn all_bytes<S: Shelf>(system: &System, dir: &str, shelf: &mut S) -> Result<u64,
     }
 }
 
-// The torrent's file is opened once all files are hashed, and stays untouched if one is refused. It
-// is none of those files.
+// The torrent's file is opened once all files are hashed, and stays untouched if one is refused or
+// all are left out. It is none of those files.
 fn write_gathered<'a, W: Sink>(
     system: &System,
     asked: &NewTorrent<'a>,
@@ -136,11 +144,19 @@ fn write_gathered<'a, W: Sink>(
                 system.note(Cause::IsInput);
                 return Err(Fault::Write(asked.out));
             }
+            if may_leave_out(asked) && is_of_nothing(&draft) {
+                return outcomes::write_torrent(&draft, asked.out, &mut Nowhere::new(), out);
+            }
             let file = open_output(system, asked)?;
             write_torrent(system, &draft, file, asked.out, progress, out)
         }
         Err(status) => Ok(status),
     }
+}
+
+// Whether a draft has no file.
+fn is_of_nothing(draft: &Draft) -> bool {
+    matches!(draft.finish(&mut Nowhere::new()), Err(Refusal::NoFiles))
 }
 
 // The torrent's file.

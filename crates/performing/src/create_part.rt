@@ -1,80 +1,88 @@
 //! `create --part`: one part of the making of a torrent.
 use crate::create::{piece_length, refuse_clobbering};
 use crate::excluded::refuse_globs;
-use actions::{Create, NewTorrent, Part, auto_length};
-use benc::{FromWrite, Sink, write_all};
-use commands::creations;
-use excluding::{Excluding, regex_of};
+use crate::origin::{choice_of, folder_of, is_file, may_leave_out, path_of, shelf_at};
+use actions::{Create, NewTorrent, NumberedPart, auto_length};
+use benc::{FromWrite, Sink};
+use commands::{creations, outcomes};
+use excluding::Excluding;
+use filetree::Refusal;
 use folders::Shelf;
-use part_texts::{ListedFile, Listing};
+use globs::{Glob, read_globs};
+use part_texts::{Listing, listed_files};
 use printing::Fault;
 use real_files::{
     Cause, Cleared, Folder, Noted, Progress, System, create_new_output, create_output, is_below,
     lengths_of,
 };
-use regex::Regex;
 use std::alloc::AllocError;
 use std::fs::File;
 
 // What was listed, in order, or the exit status of a refusal.
 type Listed = Result<Vec<Vec<String>>, u8>;
 
-/// Hashes one part of the files of a folder, and writes what it found. What is no glob is refused
-/// before anything is read. Gives the exit status.
+/// Hashes one part of the files of a folder or of a file, and writes what it found. What is no glob
+/// is refused before anything is read. Gives the exit status.
 pub(crate) fn perform_create_part<'a>(
     system: &System,
     asked: &NewTorrent<'a>,
-    part: Part,
+    part: NumberedPart,
 ) -> Result<u8, Fault<'a>> {
     let progress = Progress::new(system.rt(), None);
     let mut out = Cleared::new(FromWrite::new(system.output()), &progress);
     if asked.exclude.is_empty() {
         return part_of_all(system, asked, part, &progress, &mut out);
     }
-    match regex_of(system.alloc(), asked.exclude.as_slice()) {
-        Ok(pattern) => part_without(system, asked, part, &pattern, &progress, &mut out),
+    match read_globs(system.alloc(), asked.exclude.as_slice()) {
+        Ok(globs) => part_without(system, asked, part, &globs, &progress, &mut out),
         Err(fault) => refuse_globs(system, asked.exclude.as_slice(), fault),
     }
 }
 
-fn part_of_all<'a, W: Sink>(
-    system: &System,
+fn part_of_all<'a, 's, W: Sink>(
+    system: &'s System,
     asked: &NewTorrent<'a>,
-    part: Part,
-    progress: &Progress,
+    part: NumberedPart,
+    progress: &'s Progress,
     out: &mut W,
 ) -> Result<u8, Fault<'a>> {
     refuse_clobbering(system, asked)?;
-    let mut folder = Folder::new(system, asked.dir, progress).read_in_part();
+    let (path, alone) = (path_of(asked.origin), is_file(asked.origin));
+    let mut folder = shelf_at(system, path, alone, progress)
+        .choosing(choice_of(asked))
+        .read_in_part();
     let paths = list(system, asked, &mut folder, out)?;
     hash_listed(system, asked, part, paths, &mut folder, progress, out)
 }
 
-// Leaves out the files in whose paths the pattern is found.
-fn part_without<'a, W: Sink>(
-    system: &System,
+// Without the files that the globs leave out.
+fn part_without<'a, 's, W: Sink>(
+    system: &'s System,
     asked: &NewTorrent<'a>,
-    part: Part,
-    pattern: &Regex,
-    progress: &Progress,
+    part: NumberedPart,
+    globs: &'s [Glob],
+    progress: &'s Progress,
     out: &mut W,
 ) -> Result<u8, Fault<'a>> {
     refuse_clobbering(system, asked)?;
-    let folder = Folder::new(system, asked.dir, progress).read_in_part();
-    let (paths, mut folder) = list_without(system, asked, folder, pattern, out)?;
+    let (path, alone) = (path_of(asked.origin), is_file(asked.origin));
+    let folder = shelf_at(system, path, alone, progress)
+        .choosing(choice_of(asked))
+        .read_in_part()
+        .without(globs);
+    let (paths, mut folder) = list_without(system, asked, folder, globs, out)?;
     hash_listed(system, asked, part, paths, &mut folder, progress, out)
 }
 
-// Lists a shelf without the files in whose paths the pattern is found, and gives the shelf back.
+// Lists a shelf without the files that the globs leave out, and gives the shelf back.
 fn list_without<'a, S: Shelf + Drop, W: Sink>(
     system: &System,
     asked: &NewTorrent<'a>,
     shelf: S,
-    pattern: &Regex,
+    globs: &[Glob],
     out: &mut W,
 ) -> Result<(Listed, S), Fault<'a>> {
-    let matcher = pattern.matcher(system.alloc())?;
-    let mut kept = Excluding::new(system.alloc(), shelf, matcher);
+    let mut kept = Excluding::new(system.alloc(), shelf, globs);
     let paths = list(system, asked, &mut kept, out)?;
     Ok((paths, kept.into_inner()))
 }
@@ -87,7 +95,7 @@ fn list<'a, S: Shelf, W: Sink>(
     out: &mut W,
 ) -> Result<Listed, Fault<'a>> {
     let create = Create {
-        dir: asked.dir,
+        dir: path_of(asked.origin),
         name: asked.name,
         piece_length: piece_length(system, asked, shelf)?,
         hybrid: asked.hybrid,
@@ -95,11 +103,12 @@ fn list<'a, S: Shelf, W: Sink>(
     creations::list_files(system.alloc(), &create, shelf, out)
 }
 
-// Hashes one part of what was listed, and writes what it found.
+// Hashes one part of what was listed, and writes what it found. Where all is left out there is
+// nothing to write.
 fn hash_listed<'a, W: Sink>(
     system: &System,
     asked: &NewTorrent<'a>,
-    part: Part,
+    part: NumberedPart,
     paths: Listed,
     folder: &mut Folder<'_>,
     progress: &Progress,
@@ -109,7 +118,10 @@ fn hash_listed<'a, W: Sink>(
         Ok(paths) => paths,
         Err(status) => return Ok(status),
     };
-    if is_below(system, asked.dir, paths.as_slice(), asked.out)? {
+    if paths.is_empty() && may_leave_out(asked) {
+        return outcomes::refuse(&Refusal::NoFiles, &[], out);
+    }
+    if is_below(system, folder_of(asked.origin), paths.as_slice(), asked.out)? {
         system.note(Cause::IsInput);
         return Err(Fault::Write(asked.out));
     }
@@ -126,22 +138,20 @@ fn listing_of(
     asked: &NewTorrent<'_>,
     paths: Vec<Vec<String>>,
 ) -> Result<Listing, AllocError> {
-    let lengths = lengths_of(system, asked.dir, paths.as_slice())?;
+    let lengths = lengths_of(system, folder_of(asked.origin), paths.as_slice())?;
     let mut all: u64 = 0;
-    let mut files = Vec::new(system.alloc());
-    'files: for (path, length) in paths.into_iter().zip(lengths) {
-        all = all.saturating_add(length);
-        files.push(ListedFile { path, length })?;
+    'files: for length in &lengths {
+        all = all.saturating_add(*length);
     }
     let piece_length = match asked.piece_length {
-        actions::PieceLength::Bytes(bytes) => bytes,
-        actions::PieceLength::Auto => auto_length(all),
+        actions::PieceLengthChoice::Bytes(bytes) => bytes,
+        actions::PieceLengthChoice::Auto => auto_length(all),
     };
     Ok(Listing {
         name: String::from_str(system.alloc(), asked.name)?,
         piece_length,
         hybrid: asked.hybrid,
-        files,
+        files: listed_files(system.alloc(), paths, lengths.as_slice())?,
     })
 }
 
@@ -154,10 +164,7 @@ fn write_part<'a>(
 ) -> Result<u8, Fault<'a>> {
     let file = open_part(system, asked)?;
     let mut written = Cleared::new(FromWrite::new(Noted::new(file, system)), progress);
-    if write_all(&mut written, text).is_err() || written.flush().is_err() {
-        return Err(Fault::Write(asked.out));
-    }
-    Ok(0)
+    creations::write_part(text, asked.out, &mut written)
 }
 
 // The part's file.

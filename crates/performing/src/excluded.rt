@@ -1,11 +1,11 @@
 //! What is said of globs that are none.
-use excluding::GlobFault;
+use globs::GlobFault;
 use printing::Fault;
 use real_files::System;
 use std::io::Write;
 
-/// Says on standard error, as of other arguments that are refused, which glob is none, or that they
-/// are too large. Gives the exit status. What cannot be written is lost.
+/// Says on standard error, as of other arguments that are refused, which glob is none. Gives the
+/// exit status. What cannot be written is lost.
 pub(crate) fn refuse_globs<'a>(
     system: &System,
     globs: &[&str],
@@ -14,10 +14,6 @@ pub(crate) fn refuse_globs<'a>(
     let mut out = system.rt().stderr();
     let _ = match fault {
         GlobFault::NoMemory => return Err(Fault::NoMemory),
-        GlobFault::TooLarge => writeln!(
-            out,
-            "error: the values of '--exclude <GLOB>' are too large"
-        ),
         GlobFault::Malformed(number) => {
             let glob = globs.get(number).copied().unwrap_or("");
             writeln!(

@@ -18,7 +18,7 @@ pub(crate) fn perform_join<'a>(system: &System, asked: &Join<'a>) -> Result<u8, 
     let out = buffered_output(system)?;
     match open_torrent(system, bytes.as_slice()) {
         Ok(torrent) => print_join(system, &torrent, asked, out),
-        Err(refusal) => refuse(&refusal, asked.json, out),
+        Err(refusal) => refuse(system, bytes.as_slice(), &refusal, asked.json, out),
     }
 }
 
@@ -45,6 +45,6 @@ fn join_files<'a, L: LineSink>(
         .collect::<Vec<&[u8]>>(system.alloc())?;
     match outcomes::join(system.alloc(), torrent, slices.as_slice(), out)? {
         Ok(status) => Ok(status),
-        Err(fault) => refuse_join(system, fault, paths),
+        Err(fault) => refuse_join(system, fault, paths, slices.as_slice()),
     }
 }

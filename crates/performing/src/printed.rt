@@ -1,9 +1,11 @@
 //! Standard output, and what every command prints there.
 ghost use Rattle.std.specs.Prelude.{◌≢◌};
 
+use crate::hints::hint_at_version;
 use benc::{FromWrite, Sink};
 use commands::outcomes;
 use filetree::Refusal;
+use lines::LineSink;
 use printing::Fault;
 use real_files::{Output, System};
 use std::io::{BufWriter, LineWriter};
@@ -43,13 +45,31 @@ pub(crate) fn line_output<'s>(
     }
 }
 
-/// Prints the refusal of a torrent, as its line or as the object of that. Gives the exit status.
+/// Prints the refusal of a torrent with these bytes, as its line or as the object of that. Gives
+/// the exit status.
 pub(crate) fn refuse<'a, W: Sink + Drop>(
+    system: &System,
+    bytes: &[u8],
     refusal: &Refusal,
     json: bool,
     out: W,
 ) -> Result<u8, Fault<'a>>
     requires { refusal.now ≢ Refusal.Write }
 {
-    say_to!(json, out, lines => outcomes::refuse_onto(refusal, &[], &mut lines))
+    say_to!(json, out, lines => say_refusal(system, bytes, refusal, &mut lines))
+}
+
+/// Says the refusal of a torrent with these bytes, and tells people if it is of version 1 alone.
+/// Gives the exit status.
+pub(crate) fn say_refusal<'a, L: LineSink>(
+    system: &System,
+    bytes: &[u8],
+    refusal: &Refusal,
+    out: &mut L,
+) -> Result<u8, Fault<'a>>
+    requires { refusal.now ≢ Refusal.Write }
+{
+    let status = outcomes::refuse(refusal, &[], out)?;
+    hint_at_version(system, bytes, refusal);
+    Ok(status)
 }

@@ -1,8 +1,12 @@
 //! `replay`: which messages of a record are right.
+use crate::folder_hints::hint_at_folder;
 use crate::holding::hold_onto;
 use crate::printed::{buffered_output, refuse, say_to};
+use crate::refused_counts::RefusedCounts;
+use crate::replay_summary::print_replayed;
 use crate::sizes::all_bytes;
 use crate::torrent_file::{open_torrent, read_torrent};
+use crate::watched::Watched;
 use actions::Replay;
 use benc::{FromRead, FromWrite, Sink};
 use commands::outcomes;
@@ -44,7 +48,7 @@ fn replay_torrent<'a, W: Sink + Drop>(
                 Cleared::new(out, &progress),
             )
         }
-        Err(refusal) => refuse(&refusal, asked.json, out),
+        Err(refusal) => refuse(system, bytes, &refusal, asked.json, out),
     }
 }
 
@@ -55,7 +59,10 @@ fn print_replay<'a, W: Sink + Drop>(
     progress: &Progress,
     out: W,
 ) -> Result<u8, Fault<'a>> {
-    say_to!(asked.json, out, lines => replay_file(system, torrent, asked, progress, &mut lines))
+    let counts = RefusedCounts::none();
+    say_to!(asked.json, out, lines => {
+        replay_file(system, torrent, asked, progress, &mut Watched::new(lines, counts))
+    })
 }
 
 // The record is opened before the file of the answers, which is not touched if it fails. After that
@@ -65,29 +72,39 @@ fn replay_file<'a, L: LineSink>(
     torrent: &Torrent<'_>,
     asked: &Replay<'a>,
     progress: &Progress,
-    out: &mut L,
+    out: &mut Watched<L, RefusedCounts>,
 ) -> Result<u8, Fault<'a>> {
     let file = system.open(asked.record)?;
     let answers = answers_file(system, torrent, asked, progress)?;
     let mut session = outcomes::new_session(system.alloc(), torrent, asked.info_only)?;
     seed(system, torrent, asked, progress, &mut session, out)?;
-    if asked.pieces {
-        let longest = torrent.piece_length() / BLOCK;
-        return hold_onto(
-            system,
-            &mut session,
-            longest,
-            file,
-            asked.padded,
-            out,
-            answers,
-        );
+    let status = judge(system, torrent, asked, &mut session, file, out, answers)?;
+    if asked.summary {
+        progress.clear();
+        print_replayed(system, &session, *out.watch())?;
     }
-    replay_onto(system, &mut session, file, asked.padded, out, answers)
+    Ok(status)
 }
 
-// Fills the session from the folder, if there is one. Its lines go out by full buffers, all of them
-// before the record is read; on a terminal line by line, at its pace.
+// Replays the record, and holds what cannot be proved yet if that is asked for.
+fn judge<'a, L: LineSink>(
+    system: &System,
+    torrent: &Torrent<'_>,
+    asked: &Replay<'a>,
+    session: &mut Session<'_, Paged>,
+    file: File,
+    out: &mut L,
+    answers: Option<(&'a str, File)>,
+) -> Result<u8, Fault<'a>> {
+    if asked.pieces {
+        let longest = torrent.piece_length() / BLOCK;
+        return hold_onto(system, session, longest, file, asked.padded, out, answers);
+    }
+    replay_onto(system, session, file, asked.padded, out, answers)
+}
+
+// Fills the session from the folder, if there is one, and tells on standard error if another one
+// may be meant.
 fn seed<'a, L: LineSink>(
     system: &System,
     torrent: &Torrent<'_>,
@@ -99,15 +116,43 @@ fn seed<'a, L: LineSink>(
     let Some(dir) = asked.seed else {
         return Ok(());
     };
+    seed_from(system, torrent, dir, asked.json, progress, session, out)?;
+    progress.clear();
+    hint_at_folder(system, torrent, dir, &["try --seed"]);
+    Ok(())
+}
+
+// Fills the session from this folder. Its lines go out by full buffers, all of them before the
+// record is read; on a terminal line by line, at its pace.
+fn seed_from<'a, L: LineSink>(
+    system: &System,
+    torrent: &Torrent<'_>,
+    dir: &str,
+    json: bool,
+    progress: &Progress,
+    session: &mut Session<'_, Paged>,
+    out: &mut L,
+) -> Result<(), Fault<'a>> {
     let mut folder = Folder::with_torrent(system, dir, torrent, progress);
     let mut pace = TerminalPace::new(system);
     let Some(buffered) = buffer_for_seeds(system) else {
-        return outcomes::seed(system.alloc(), session, &mut folder, &mut pace, out);
+        return seed_onto(system, session, &mut folder, &mut pace, out);
     };
     let cleared = Cleared::new(buffered, progress);
-    say_to!(asked.json, cleared, lines => {
-        outcomes::seed(system.alloc(), session, &mut folder, &mut pace, &mut lines)
+    say_to!(json, cleared, lines => {
+        seed_onto(system, session, &mut folder, &mut pace, &mut lines)
     })
+}
+
+// The same onto these lines. One call of what is proved of it serves all kinds of lines.
+fn seed_onto<'a, L: LineSink>(
+    system: &System,
+    session: &mut Session<'_, Paged>,
+    folder: &mut Folder<'_>,
+    pace: &mut TerminalPace<'_>,
+    out: &mut L,
+) -> Result<(), Fault<'a>> {
+    outcomes::seed(system.alloc(), session, folder, pace, out)
 }
 
 // Standard output with a buffer, unless it is a terminal or memory is refused.

@@ -1,6 +1,6 @@
 //! `show`: what a torrent holds.
 use crate::long::print_long;
-use crate::printed::{buffered_output, say_to};
+use crate::printed::{buffered_output, say_refusal, say_to};
 use crate::torrent_file::{open_torrent, read_torrent};
 use benc::Sink;
 use commands::outcomes;
@@ -38,7 +38,7 @@ fn show_torrent<'a, L: LineSink>(
 ) -> Result<u8, Fault<'a>> {
     let torrent = match open_torrent(system, bytes) {
         Ok(torrent) => torrent,
-        Err(refusal) => return outcomes::refuse_onto(&refusal, &[], out),
+        Err(refusal) => return say_refusal(system, bytes, &refusal, out),
     };
     let status = outcomes::show(&torrent, out)?;
     if long {

@@ -1,11 +1,8 @@
-//! What a check tells people on standard error.
-use crate::tally::Counts;
-use actions::Check;
-use benc::FromWrite;
+//! `check --summary`: the verdicts in numbers, and the speed.
+use crate::verdict_counts::VerdictCounts;
 use opening::Torrent;
-use printing::write_escaped;
-use real_files::{Amount, Progress, System, has_folder};
-use std::io::{IsTerminal, Write};
+use real_files::{Amount, Progress, System};
+use std::io::Write;
 use std::time::{Duration, Instant};
 
 /// Prints how many files have each verdict, how many bytes were read, and how fast since this time.
@@ -13,7 +10,7 @@ use std::time::{Duration, Instant};
 pub(crate) fn print_summary(
     system: &System,
     torrent: &Torrent<'_>,
-    counts: Counts,
+    counts: VerdictCounts,
     progress: &Progress,
     start: Option<Instant>,
 ) {
@@ -49,46 +46,5 @@ fn time_since(system: &System, start: Option<Instant>) -> Duration {
     match (start, Instant::now(system.rt())) {
         (Some(start), Ok(now)) => now.duration_since(start),
         _ => Duration::from_secs(0),
-    }
-}
-
-/// On a terminal, if every file is missing and the torrent's name is that of a folder in the
-/// folder, prints that this may be the one that is meant.
-pub(crate) fn print_hint(
-    system: &System,
-    torrent: &Torrent<'_>,
-    asked: &Check<'_>,
-    counts: Counts,
-    progress: &Progress,
-) {
-    let count = torrent.files().len() as u64;
-    if count == 0 || counts.missing < count || !system.rt().stderr().is_terminal() {
-        return;
-    }
-    if let Some(inner) = inner_folder(system, torrent.name(), asked.dir) {
-        progress.clear();
-        let _ = system.rt().stderr().write_all(b"hint: try check ");
-        put_escaped(system, asked.torrent);
-        let _ = system.rt().stderr().write_all(b" ");
-        put_escaped(system, inner.as_str());
-        let _ = system.rt().stderr().write_all(b"\n");
-    }
-}
-
-fn put_escaped(system: &System, text: &str) {
-    let _ = write_escaped(&mut FromWrite::new(system.rt().stderr()), text.as_bytes());
-}
-
-// The path of the folder with this name in a folder, if there is one and the name leads nowhere
-// else.
-fn inner_folder(system: &System, name: &str, dir: &str) -> Option<String> {
-    if name.is_empty() || name == "." || name == ".." || name.contains('/') {
-        return None;
-    }
-    let path = format!(in system.alloc(); "{dir}/{name}").ok()?;
-    if has_folder(system, path.as_str()) {
-        Some(path)
-    } else {
-        None
     }
 }

@@ -1,7 +1,8 @@
 -- The cuts of a stream as it grows.
 use Rattle.std.proofs.Common.{◌≡◌, ℕ, zero, suc, ◌+◌, ◌-◌, ◌*◌, ◌/◌, ◌%◌, ◌<◌, ◌≤◌, List, [], ◌++◌, length, take, drop, slice_get, Some, ap, ◌∙◌}
-use Rattle.std.proofs.Common.{add_assoc, arith}
+use Rattle.std.proofs.Common.{add_assoc, arith, inl, inr}
 use Rattle.std.proofs.Math.Nat.{mul-le-mul_left, div-eq_of_lt-le, le-div_iff_mul-le, mul-add-div_right}
+use Rattle.std.proofs.lemmas.Bool.{cases_lt}
 use Rattle.std.proofs.lemmas.List.{length-drop, length-map, take-append-le, drop-append-le, take_all, get_or-map}
 use Rattle.std.proofs.lemmas.List.FromFn.{length-map-range_with_len, get_or-map-range_with_len}
 use Rattle.std.proofs.lemmas.Option.{slice_get-get_or}
@@ -78,3 +79,25 @@ some_pieces p n legal some = positive (pieces_of p n) (omega (arith, pieces_cove
 -- whole pieces before some bytes come on top of theirs
 pub more_pieces : (p k n : ℕ) → 0 < p → pieces_of p (k * p + n) ≡ k + pieces_of p n
 more_pieces p k n legal = ap (λ m. m / p) (add_assoc (k * p) n (p - 1)) ∙ mul-add-div_right legal k (n + (p - 1))
+
+-- the cuts behind some whole ones
+pub pieces_behind : (p k : ℕ) (content : List ℕ) → 0 < p → p * k ≤ length content
+    → pieces_of p (length content) ≡ k + pieces_of p (length (drop (p * k) content))
+pieces_behind p k content legal whole =
+    let rest : ℕ = length (drop (p * k) content) in
+    let all : length content ≡ k * p + rest = omega (arith, length-drop (p * k) content, whole) in
+    ap (pieces_of p) all ∙ more_pieces p k rest legal
+
+-- and behind the first one, which may be shorter
+pub pieces_after : (p : ℕ) (running : List ℕ) → 0 < p → 0 < length running
+    → pieces_of p (length running) ≡ 1 + pieces_of p (length (drop p running))
+pieces_after p running legal some = elim (cases_lt (length running) p) [
+  | inl short ↦
+      let none : length (drop p running) ≡ 0 = omega (arith, length-drop p running, short) in
+      let one : pieces_of p (length running) ≡ 0 + 1 =
+      ap (pieces_of p) (let e : length running ≡ p * 0 + length running = omega arith in e) ∙ cut_count_is p 0 (length running) some (omega (arith, short)) in
+      omega (arith, one, ap (pieces_of p) none, cut_count_none p legal)
+  | inr long ↦
+      let at : p * 1 ≡ p = omega arith in
+      pieces_behind p 1 running legal (omega (arith, long)) ∙ ap (λ m. 1 + pieces_of p (length (drop m running))) at
+]

@@ -6,14 +6,6 @@ use Rattle.sha1_lanes.specs.Batches.{filled_at}
 use Rattle.lanes.specs.declared.words.TheConstants.{LANES}
 use Rattle.pieces.specs.NextCuts.{AreOfCuts}
 
--- the first digest that is left is that of the first cut
-pub first_known : (digests : List (List ℕ)) (left size : ℕ) (bytes : List ℕ) → AreOfCuts digests left size bytes → 0 < left
-    → slice_index_or digests (LANES - left) [] ≡ sha1 (take size bytes)
-first_known digests left size bytes known some =
-    let place : LANES - left ≡ LANES - left + 0 = omega arith in
-    let front : 0 * size ≡ 0 = omega arith in
-    ap (λ k. slice_index_or digests k []) place ∙ known.are 0 some ∙ ap (λ k. sha1 (take size (drop k bytes))) front
-
 -- the digests that are left after the first are those of the cuts after the first
 pub one_taken : (digests : List (List ℕ)) (left size : ℕ) (bytes : List ℕ) → AreOfCuts digests left size bytes → left ≤ LANES → 0 < left
     → AreOfCuts digests (left - 1) size (drop size bytes)

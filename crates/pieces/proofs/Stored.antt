@@ -1,10 +1,12 @@
 -- What stands in the slots of a store.
-use Rattle.std.proofs.Common.{◌≡◌, ◌≢◌, ℕ, ◌+◌, ◌*◌, ◌<◌, ◌≤◌, List, ◌++◌, length, take, drop, refl, sym, ap, ◌∙◌, arith, inl, inr, mul-le-mul_right}
+use Rattle.std.proofs.Common.{◌≡◌, ◌≢◌, ℕ, ◌+◌, ◌-◌, ◌*◌, ◌<◌, ◌≤◌, List, ◌++◌, length, take, drop, refl, sym, ap, ◌∙◌, arith, inl, inr, mul-le-mul_right}
 use Rattle.std.proofs.lemmas.Bool.{cases_lt}
-use Rattle.std.proofs.lemmas.List.{drop-append-le, drop-take, take-take, length-take-le, length-append, length-drop}
+use Rattle.std.proofs.lemmas.List.{drop-append-le, drop-take, take-take, length-take-le, length-append, length-drop, with_items_is}
 use Rattle.std.proofs.lemmas.Slice.{take-put_mid, take-put_mid_below, drop-put_mid}
+use Rattle.std.specs.Prelude.{Vec}
+use Rattle.std.specs.Vec.{with_items}
 use borrow.Rule.Slice.PartMut.{put_mid}
-use Rattle.sha1_lanes.specs.Batches.{message_at}
+use Rattle.lanes.specs.Lanes.{bytes_at}
 
 -- a slot ends where the next one begins, or before
 slot_ends : (slot other size : ℕ) → slot < other → slot * size + size ≤ other * size
@@ -24,10 +26,19 @@ length_put xs bytes start room =
       length-take-le start xs (omega (arith, room)),
     )
 
+-- what was written into a list, over what was there
+pub written : {A : Type 0} (v : Vec ℕ A) (was bytes now : List ℕ) (start : ℕ) → start + length bytes ≤ length v.items → was ≡ v.items → now ≡ bytes
+    → (with_items v (put_mid start (start + length bytes - start) was now)).items ≡ put_mid start (length bytes) v.items bytes
+written v was bytes now start room old new =
+    let count : start + length bytes - start ≡ length bytes = omega arith in
+    let same : put_mid start (start + length bytes - start) was now ≡ put_mid start (length bytes) v.items bytes =
+    ap (λ k. put_mid start k was now) count ∙ ap (λ t. put_mid start (length bytes) t now) old ∙ ap (put_mid start (length bytes) v.items) new in
+    with_items_is v (put_mid start (start + length bytes - start) was now) (ap length same ∙ length_put v.items bytes start room ∙ sym v.ok.0) ∙ same
+
 -- bytes were written into a slot
 pub front_put : (xs bytes : List ℕ) (slot size at : ℕ) → at + length bytes ≤ size → slot * size + size ≤ length xs
-    → take (at + length bytes) (message_at (put_mid (slot * size + at) (length bytes) xs bytes) (slot * size) size)
-    ≡ take at (message_at xs (slot * size) size) ++ bytes
+    → take (at + length bytes) (bytes_at (put_mid (slot * size + at) (length bytes) xs bytes) (slot * size) size)
+    ≡ take at (bytes_at xs (slot * size) size) ++ bytes
 front_put xs bytes slot size at room inside =
     let start = slot * size in
     let new = put_mid (start + at) (length bytes) xs bytes in
@@ -42,7 +53,7 @@ front_put xs bytes slot size at room inside =
 
 -- the other slots stay as they are
 pub others_stay : (xs bytes : List ℕ) (slot other size at : ℕ) → at + length bytes ≤ size → slot * size + size ≤ length xs → other ≢ slot
-    → message_at (put_mid (slot * size + at) (length bytes) xs bytes) (other * size) size ≡ message_at xs (other * size) size
+    → bytes_at (put_mid (slot * size + at) (length bytes) xs bytes) (other * size) size ≡ bytes_at xs (other * size) size
 others_stay xs bytes slot other size at room inside differ =
     let new = put_mid (slot * size + at) (length bytes) xs bytes in
     elim (cases_lt other slot) [

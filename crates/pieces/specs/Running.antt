@@ -1,28 +1,23 @@
--- The bytes of a file that are running: those behind the cuts whose digests are kept. Public
+-- The bytes of a stream that are running: those behind the cuts whose digests were told. Public
 -- clauses do not name these.
-use Rattle.std.specs.Prelude.{◌≡◌, ℕ, ◌-◌, ◌*◌, List, [], ◌++◌, drop, length, Option, Some, None}
-use Rattle.pieces.specs.Cuts.{cut_digests}
+use Rattle.std.specs.Prelude.{◌≡◌, ℕ, ◌-◌, ◌*◌, List, [], drop, Option, Some, None}
 use Rattle.pieces.specs.Cutting.{IsCutting}
 use Rattle.pieces.specs.Staged.{IsStaged, bytes_staged, steps_made, told_before}
 use Rattle.pieces.specs.declared.cutter.Cutter.{Cutter}
 use Rattle.pieces.specs.declared.stages.Stages.{Stages}
 
--- these are the digests of this many whole cuts in front, behind which these bytes of the content
--- run
-pub record RunsBehind (piece_length : ℕ) (digests : List (List ℕ)) (count : ℕ)
-    (content running : List ℕ) : Type 0 where
-  pub front : List ℕ
-  pub content_is : content ≡ front ++ running
-  pub whole : length front ≡ piece_length * count
-  pub digests_are : digests ≡ cut_digests piece_length front
-
 -- how many digests stages told
 abbrev pub told : Stages → ℕ
 told s = told_before (steps_made s)
 
+-- the same of stages, if there are some
+abbrev pub told_in : Option Stages → ℕ
+told_in None = 0
+told_in (Some s) = told s
+
 -- stages hold some content in pieces of this length
-abbrev pub HoldsSome : Stages → ℕ → Type 0
-HoldsSome s piece_length = ∥ ((content : List ℕ) × IsStaged s piece_length content) ∥₁
+abbrev pub HoldsSomeContent : Stages → ℕ → Type 0
+HoldsSomeContent s piece_length = ∥ ((content : List ℕ) × IsStaged s piece_length content) ∥₁
 
 -- stages hold these bytes behind the pieces whose digests they told
 pub record HoldsUntold (s : Stages) (piece_length : ℕ) (running : List ℕ) : Type 0 where

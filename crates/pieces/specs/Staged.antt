@@ -1,6 +1,7 @@
 -- Pieces whose stretches pass through the lanes of a relay as they come. Public clauses do not name
 -- these.
-use Rattle.std.specs.Prelude.{◌≡◌, ℕ, ◌+◌, ◌-◌, ◌*◌, ◌<◌, ◌≤◌, min, List, [], ◌++◌, length, take, drop, Option, Some, None}
+use Rattle.std.specs.Prelude.{◌≡◌, ℕ, ◌+◌, ◌-◌, ◌*◌, ◌/◌, ◌<◌, ◌≤◌, min, List, [], ◌++◌, length, take, drop, Option, Some, None}
+use Rattle.std.specs.Vec.{vec_capacity}
 use Rattle.sha1.specs.Sha1.{sha1}
 use Rattle.sha1_lanes.specs.Relays.{HasPassed}
 use Rattle.sha1_lanes.specs.declared.relay.Relay.{Relay}
@@ -9,6 +10,17 @@ use Rattle.pieces.specs.Cuts.{cut}
 use Rattle.pieces.specs.Slot.{slot_of}
 use Rattle.pieces.specs.Stored.{slot_bytes}
 use Rattle.pieces.specs.declared.stages.Stages.{Stages}
+
+-- stages are worth their memory: a stream of this length has at least four whole pieces, and a
+-- piece for each lane has more than 32 MiB
+abbrev pub IsLargeStream : ℕ → ℕ → Type 0
+IsLargeStream total piece_length =
+    (4 ≤ total / piece_length) × (2048 < LANES * (piece_length / 16384))
+
+-- how many bytes of memory stages take, if there are some
+abbrev pub room_in : Option Stages → ℕ
+room_in None = 0
+room_in (Some s) = vec_capacity s.store.bytes
 
 -- ---- the lanes and the slots
 
@@ -81,17 +93,6 @@ pub record CountsTold (digest : Option (List ℕ)) (told next : ℕ) : Type 0 wh
 abbrev pub IsDigestOf : Option (List ℕ) → ℕ → List ℕ → ℕ → Type 0
 IsDigestOf digest piece_length content piece =
     (d : List ℕ) → digest ≡ Some d → d ≡ sha1 (cut piece_length content piece)
-
--- this many bytes came, as many digests were compared as were told, and this many bytes are in the
--- cutter: none
-abbrev pub IsInStep : Stages → ℕ → ℕ → ℕ → Type 0
-IsInStep s given compared filled =
-    (bytes_staged s ≡ given) × (compared ≡ told_before (steps_made s)) × (filled ≡ 0)
-
--- the stages, if there are some, are in step
-abbrev pub AreInStep : Option Stages → ℕ → ℕ → ℕ → Type 0
-AreInStep stages given compared filled =
-    (s : Stages) → stages ≡ Some s → IsInStep s given compared filled
 
 -- these further bytes came, and this digest is told
 pub record TakesStretch (old : Stages) (bytes : List ℕ) (digest : Option (List ℕ)) (new : Stages)

@@ -1,6 +1,7 @@
 //! The buffer through which files are read.
 
-ghost use Rattle.std.specs.Prelude.{◌≡◌, ◌*◌, ◌/◌, ◌-◌, ◌^◌, ◌<◌, ◌≤◌, ◌↔◌, IsTrue, length, min};
+ghost use Rattle.std.specs.Prelude.{◌≡◌, ◌*◌, ◌/◌, ◌-◌, ◌^◌, ◌<◌, ◌≤◌, ◌↔◌, IfSome, IsTrue, length, min};
+ghost use Rattle.std.specs.Vec.{vec_capacity};
 ghost use Rattle.lanes.specs.declared.words.TheConstants.{LANES};
 
 use crate::room::room_of_zeros;
@@ -25,8 +26,12 @@ pub struct PieceBuffer {
 }
 
 impl PieceBuffer {
-    /// A buffer for a block in each lane.
-    pub fn of_blocks(alloc: Global) -> PieceBuffer {
+    ghost use Rattle.pieces.specs.Buffers.{buffer_room};
+
+    /// A buffer for a block in each lane, which takes 131,072 bytes of memory at most.
+    pub fn of_blocks(alloc: Global) -> PieceBuffer
+        ensures { buffer_room result ≤ 131072 }
+    {
         PieceBuffer {
             room: room_for(alloc, LANES).unwrap_or(Vec::new(alloc)),
             least: [0; LEAST],
@@ -35,7 +40,9 @@ impl PieceBuffer {
 
     /// A buffer for a piece of this length in each lane. If that is more than 32 MiB, or memory for
     /// it is refused, it is one for a block in each.
-    pub fn of_pieces(alloc: Global, piece_length: u64) -> PieceBuffer {
+    pub fn of_pieces(alloc: Global, piece_length: u64) -> PieceBuffer
+        ensures { buffer_room result ≤ 33554432 }
+    {
         if !fits_in_lanes(piece_length) {
             return PieceBuffer::of_blocks(alloc);
         }
@@ -74,6 +81,8 @@ fn blocks_in_lanes(piece_length: u64) -> u64
 }
 
 // Room for this many blocks, if memory for them is given.
-fn room_for(alloc: Global, blocks: usize) -> Option<Vec<u8>> {
+fn room_for(alloc: Global, blocks: usize) -> Option<Vec<u8>>
+    ensures { IfSome result (λ room. vec_capacity room ≡ blocks * 16384) }
+{
     room_of_zeros(alloc, blocks.checked_mul(BLOCK)?)
 }

@@ -1,6 +1,6 @@
 //! Whole cuts that follow one another, hashed side by side (BEP 3, "pieces").
 
-ghost use Rattle.std.specs.Prelude.{◌≡◌, ℕ, ◌+◌, ◌-◌, ◌*◌, ◌%◌, ◌^◌, ◌<◌, ◌≤◌, ◌++◌, [], List, drop, length, min, slice_index, slice_index_or, take};
+ghost use Rattle.std.specs.Prelude.{◌≡◌, ℕ, ◌+◌, ◌-◌, ◌*◌, ◌%◌, ◌^◌, ◌<◌, ◌≤◌, ◌++◌, [], List, IfSome, None, drop, length, min, slice_index, slice_index_or, take};
 ghost use Rattle.sha1.specs.Sha1.{sha1};
 ghost use Rattle.lanes.specs.declared.words.TheConstants.{LANES};
 
@@ -18,16 +18,40 @@ pub(crate) struct NextCuts {
 
 impl NextCuts {
     ghost use Rattle.pieces.specs.Cutting.{IsCutting};
-    ghost use Rattle.pieces.specs.NextCuts.{KnowsCuts};
+    ghost use Rattle.pieces.specs.NextCuts.{KnowsCuts, cuts_told};
 
     /// No cut that comes next was hashed yet.
     pub(crate) fn new() -> NextCuts
-        ensures { (size : ℕ) (bytes : List ℕ) → KnowsCuts result size bytes }
+        ensures none { result.left ≡ 0 }
+        ensures knows { (size : ℕ) (bytes : List ℕ) → KnowsCuts result size bytes }
     {
-        NextCuts {
-            digests: [[0; 20]; LANES],
-            left: 0,
+        NextCuts::of([[0; 20]; LANES], 0)
+    }
+
+    /// The next cuts, of which this many have these digests, in the last lanes.
+    pub(crate) fn of(digests: [[u8; 20]; LANES], left: usize) -> NextCuts
+        requires few { left ≤ LANES }
+        ensures digests { result.digests ≡ digests }
+        ensures left { result.left ≡ left }
+    {
+        NextCuts { digests, left }
+    }
+
+    /// The digest of the first of the next cuts, if one was hashed. It is left out then.
+    pub(crate) fn pop(&mut self) -> Option<[u8; 20]>
+        ensures count { self.new.left + cuts_told result ≡ self.old.left }
+        ensures all { result ≡ None → self.old.left ≡ 0 }
+        ensures first { (size : ℕ) (bytes : List ℕ) → KnowsCuts self.old size bytes
+            → IfSome result (λ d. (size ≤ length bytes) × (d ≡ sha1 (take size bytes))) }
+        ensures next { (size : ℕ) (bytes : List ℕ) → KnowsCuts self.old size bytes
+            → IfSome result (λ _. KnowsCuts self.new size (drop size bytes)) }
+    {
+        if self.left == 0 {
+            return None;
         }
+        let digest = self.digests[LANES - self.left];
+        self.left -= 1;
+        Some(digest)
     }
 
     /// Gives the running cut the first of these bytes, as many as it has room for: how many. Whole
@@ -44,11 +68,9 @@ impl NextCuts {
     {
         let size = cutter.piece_length();
         self.look_ahead(cutter, bytes);
-        if self.left == 0 {
+        let Some(digest) = self.pop() else {
             return cutter.take(bytes);
-        }
-        let digest = self.digests[LANES - self.left];
-        self.left -= 1;
+        };
         cutter.take_known(&digest, &bytes[..size as usize]);
         size as usize
     }

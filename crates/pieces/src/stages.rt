@@ -18,6 +18,7 @@ ghost use Rattle.lanes.specs.declared.words.TheConstants.{LANES};
 
 use crate::buffer::fits_in_lanes;
 use crate::cutter::Cutter;
+use crate::next_cuts::NextCuts;
 use crate::slots::slot_of;
 use crate::store::Store;
 use lanes::LANES;
@@ -43,14 +44,17 @@ pub(crate) struct Stages {
 
 impl Stages {
     ghost use Rattle.pieces.specs.Cutting.{IsCutting};
-    ghost use Rattle.pieces.specs.Staged.{AreBegun, ClosesStretch, CountsTold, DoesStep, IsDigestOf, IsDraining, IsPassing, IsStaged, TakesStretch, bytes_staged, steps_made, told_before};
+    ghost use Rattle.pieces.specs.Staged.{AreBegun, ClosesStretch, CountsTold, DoesStep, IsDigestOf, IsDraining, IsLargeStream, IsPassing, IsStaged, TakesStretch, bytes_staged, steps_made, told_before};
+    ghost use Rattle.pieces.specs.NextCuts.{KnowsCuts};
+    ghost use Rattle.pieces.specs.Running.{told};
     ghost use Rattle.pieces.specs.Stored.{slot_bytes};
 
     /// Stages for a stream of this length, if it is worth them: it has at least four whole pieces,
     /// and a piece for each lane has more than 32 MiB, which no buffer holds.
     pub(crate) fn of_stream(alloc: Global, total: u64, piece_length: u64) -> Option<Stages>
         requires { 0 < piece_length }
-        ensures { AreBegun result piece_length }
+        ensures begun { AreBegun result piece_length }
+        ensures worth { IfSome result (λ _. IsLargeStream total piece_length) }
     {
         if total / piece_length < LEAST_PIECES || fits_in_lanes(piece_length) {
             return None;
@@ -78,15 +82,8 @@ impl Stages {
         })
     }
 
-    /// How many whole pieces came.
-    pub(crate) fn pieces(&self) -> u64
-        ensures { result ≡ self.now.piece }
-    {
-        self.piece
-    }
-
-    /// How many steps were made.
-    pub(crate) fn steps(&self) -> u64
+    // How many steps were made.
+    fn steps(&self) -> u64
         requires fits { self.now.piece + 1 < 2 ^ 64 }
         ensures { result ≡ steps_made self.now }
     {
@@ -113,12 +110,53 @@ impl Stages {
         (taken, self.close())
     }
 
-    /// Makes this step, after those before it, with no new piece: the digest of the next piece
-    /// whose digest was not told yet, if it is known now.
-    pub(crate) fn drain(&mut self, step: u64) -> Option<[u8; 20]>
+    /// Passes the whole pieces on to their end: the digests of those whose digests were not told
+    /// yet. A cutter is given what came of the piece that is not whole. Condition: the cutter is
+    /// empty.
+    pub(crate) fn settle(mut self, cutter: &mut Cutter) -> NextCuts
+        requires fits { self.piece + 9 < 2 ^ 64 }
+        requires empty { cutter.old.filled ≡ 0 }
+        ensures count { result.left + told self ≡ self.piece }
+        ensures piece_length { cutter.new.piece_length ≡ cutter.old.piece_length }
+        ensures filled { cutter.new.filled ≤ self.store.size * self.stretch + self.filled }
+        ensures known { (piece_length : ℕ) (content : List ℕ) → IsStaged self piece_length content
+            → KnowsCuts result piece_length (drop (piece_length * told self) content) }
+        ensures running { (piece_length : ℕ) (content : List ℕ)
+            → IsStaged self piece_length content
+            → cutter.old.piece_length ≡ piece_length → IsCutting cutter.old []
+            → IsCutting cutter.new (drop (piece_length * self.piece) content) }
+    {
+        let first = self.steps();
+        let told = first.saturating_sub(LANES as u64 - 1);
+        let mut digests = [[0; 20]; LANES];
+        'steps: for step in first..self.last_step() {
+            let digest = self.drain(step).unwrap_or([0; 20]);
+            digests[(step + 1 - self.piece) as usize] = digest;
+        }
+        self.give_rest(cutter);
+        NextCuts::of(digests, (self.piece - told) as usize)
+    }
+
+    // The first step before which the digests of all whole pieces are told.
+    fn last_step(&self) -> u64
+        requires { self.now.piece + LANES < 2 ^ 64 }
+        ensures told { told_before result ≡ self.now.piece }
+        ensures least { (step : ℕ) → step < result → told_before step < self.now.piece }
+    {
+        if self.piece == 0 {
+            return 0;
+        }
+        self.piece + (LANES as u64 - 1)
+    }
+
+    // Makes this step, after those before it, with no new piece: the digest of the next piece
+    // whose digest was not told yet, if it is known now.
+    fn drain(&mut self, step: u64) -> Option<[u8; 20]>
         requires fits { step + 1 < 2 ^ 64 }
+        ensures store { self.new.store ≡ self.old.store }
         ensures piece { self.new.piece ≡ self.old.piece }
-        ensures count { bytes_staged self.new ≡ bytes_staged self.old }
+        ensures stretch { self.new.stretch ≡ self.old.stretch }
+        ensures filled { self.new.filled ≡ self.old.filled }
         ensures counts { CountsTold result (told_before step) (told_before (step + 1)) }
         ensures content { (piece_length : ℕ) (content : List ℕ)
             → IsDraining self.old step piece_length content
@@ -130,9 +168,9 @@ impl Stages {
         self.step(step)
     }
 
-    /// Gives a cutter what came of the piece that is not whole. Condition: the cutter is empty. The
-    /// stages stay as they are.
-    pub(crate) fn give_rest(&self, cutter: &mut Cutter)
+    // Gives a cutter what came of the piece that is not whole. Condition: the cutter is empty. The
+    // stages stay as they are.
+    fn give_rest(&self, cutter: &mut Cutter)
         requires empty { cutter.old.filled ≡ 0 }
         ensures piece_length { cutter.new.piece_length ≡ cutter.old.piece_length }
         ensures filled { cutter.new.filled

@@ -1,6 +1,7 @@
 //! The store in which stretches of pieces wait for their step.
 
 ghost use Rattle.std.specs.Prelude.{◌≡◌, ◌≢◌, ℕ, suc, ◌+◌, ◌-◌, ◌*◌, ◌%◌, ◌<◌, ◌≤◌, ◌++◌, [], List, IfSome, length, take, vec_len};
+ghost use Rattle.std.specs.Vec.{vec_capacity};
 ghost use Rattle.sha1.specs.Sha1.{sha1};
 ghost use Rattle.sha1_lanes.specs.Relays.{HasPassed};
 ghost use Rattle.lanes.specs.declared.words.TheConstants.{LANES};
@@ -23,6 +24,8 @@ pub(crate) struct Store {
     // How many bytes a slot has, which is as many as a stretch has.
     size: usize,
     ghost slots: { vec_len bytes ≡ SLOTS * size },
+    ghost exact: { vec_capacity bytes ≡ SLOTS * size },
+    ghost most: { SLOTS * size ≤ 67108864 },
     ghost some: { 0 < size },
     ghost whole_blocks: { size % 64 ≡ 0 },
 }

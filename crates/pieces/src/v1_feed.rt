@@ -1,11 +1,13 @@
 //! What a hybrid states of its version 1 stream, and the stream compared with that as its bytes
 //! come (BEP 3, "pieces"; BEP 52, "Upgrade Path").
-ghost use Rattle.std.specs.Prelude.{◌≡◌, ◌≢◌, ℕ, ◌+◌, ◌-◌, ◌*◌, ◌<◌, ◌≤◌, ◌++◌, [], List, drop, length, take, replicate, slice_get, Some, None, is_some, true, IsTrue, ◌↔◌};
+ghost use Rattle.std.specs.Prelude.{◌≡◌, ℕ, ◌+◌, ◌-◌, ◌*◌, ◌<◌, ◌≤◌, [], List, drop, length, take, replicate, slice_get, None, Some, is_some, true, IsTrue, ◌↔◌};
 ghost use Rattle.pieces.specs.Cuts.{IsNext};
-ghost use Rattle.pieces.specs.Staged.{AreBegun, AreInStep, CountsTold, IsInStep};
+ghost use Rattle.pieces.specs.CutStreams.{bytes_running};
+ghost use Rattle.pieces.specs.Running.{told_in};
+ghost use Rattle.pieces.specs.Staged.{AreBegun, IsLargeStream};
 
-use crate::cutter::{Cutter, ZEROS};
-use crate::listed::first_bad;
+use crate::cut_stream::CutStream;
+use crate::cutter::ZEROS;
 use crate::next_cuts::NextCuts;
 use crate::stages::Stages;
 use std::alloc::Global;
@@ -27,29 +29,27 @@ pub struct V1Feed<'a> {
     // How many bytes the stream has, and how many of them came.
     total: u64,
     given: u64,
-    // The running cut, which is empty after a bad one, and its number.
-    cutter: Cutter,
+    // The stream up to the first bad cut, and how many of its cuts were compared.
+    stream: CutStream,
     cut: u64,
-    // The stages through which the cuts go from that one on, and then the cutter is empty.
-    stages: Option<Stages>,
-    // The first of the cuts before whose digest differs.
+    // The first of these whose digest differs.
     bad: Option<u64>,
     ghost in_stream: { given ≤ total },
-    ghost counted: { cut + cutter.filled ≤ given },
-    ghost in_step: { AreInStep stages given cut cutter.filled },
-    ghost stopped: { bad ≢ None → stages ≡ None },
+    ghost counted: { stream.cutter.piece_length * cut + bytes_running stream ≤ given },
+    ghost in_time: { told_in stream.stages ≤ cut },
 }
 
 impl<'a> V1Feed<'a> {
-    ghost use Rattle.pieces.specs.Cutting.{IsCutting};
+    ghost use Rattle.pieces.specs.CutStreams.{turns};
     ghost use Rattle.pieces.specs.NextCuts.{KnowsCuts};
-    ghost use Rattle.pieces.specs.Feeding.{BeginsStream, ComparesCut, ComparesTold, CountsContent, EndsStream, FeedsStream, FillsCut, IsFeedGiven, IsFeedWith, KeepsContent, KeepsStaged, bytes_given, total};
+    ghost use Rattle.pieces.specs.Feeding.{BeginsStream, CountsContent, EndsStream, FeedsStream, bytes_given, store_room, total};
 
     /// A feed that was given nothing, for a stream of the length that the hybrid states. Condition:
     /// the piece length is above 0.
     pub fn new(v: &V1<'a>, piece_length: u64) -> V1Feed<'a>
         requires { 0 < piece_length }
-        ensures { BeginsStream v.now.total v.now.pieces.now piece_length result }
+        ensures begins { BeginsStream v.now.total v.now.pieces.now piece_length result }
+        ensures no_memory { store_room result ≡ 0 }
     {
         V1Feed::over(v, piece_length, None)
     }
@@ -60,7 +60,9 @@ impl<'a> V1Feed<'a> {
     /// without. Condition: the piece length is above 0.
     pub fn with_room(alloc: Global, v: &V1<'a>, piece_length: u64) -> V1Feed<'a>
         requires { 0 < piece_length }
-        ensures { BeginsStream v.now.total v.now.pieces.now piece_length result }
+        ensures begins { BeginsStream v.now.total v.now.pieces.now piece_length result }
+        ensures most { store_room result ≤ 67108864 }
+        ensures worth { 0 < store_room result → IsLargeStream v.now.total piece_length }
     {
         V1Feed::over(
             v,
@@ -73,15 +75,15 @@ impl<'a> V1Feed<'a> {
     fn over(v: &V1<'a>, piece_length: u64, stages: Option<Stages>) -> V1Feed<'a>
         requires some { 0 < piece_length }
         requires begun { AreBegun stages piece_length }
-        ensures { BeginsStream v.now.total v.now.pieces.now piece_length result }
+        ensures begins { BeginsStream v.now.total v.now.pieces.now piece_length result }
+        ensures stages { result.stream.stages ≡ stages }
     {
         V1Feed {
             pieces: v.pieces,
             total: v.total,
             given: 0,
-            cutter: Cutter::new(piece_length),
+            stream: CutStream::new(piece_length, stages),
             cut: 0,
-            stages,
             bad: None,
         }
     }
@@ -111,7 +113,7 @@ impl<'a> V1Feed<'a> {
         let mut next = NextCuts::new();
         let mut start = 0;
         'parts: while start < bytes.len() {
-            start += self.take_part(&mut next, &bytes[start..]);
+            start += self.take(&mut next, &bytes[start..]);
         }
     }
 
@@ -135,145 +137,50 @@ impl<'a> V1Feed<'a> {
 
     /// The first cut whose SHA-1 digest is not the one in `pieces`, or `None` if the digests of the
     /// cuts are `pieces`.
-    pub fn finish(mut self) -> Option<u64>
+    pub fn finish(self) -> Option<u64>
         ensures { EndsStream self.entry result }
     {
-        self.leave_stages();
-        if !self.cutter.is_empty() {
-            self.close_cut();
+        let mut bad = self.bad;
+        if bad.is_some() {
+            return bad;
         }
-        if self.bad.is_none() && self.cut < self.pieces.len() as u64 {
-            return Some(self.cut);
+        let mut stream = self.stream;
+        let mut cut = self.cut;
+        let mut left = stream.settle();
+        'cuts: while let Some(digest) = stream.next_left(&mut left) {
+            bad = first_bad(bad, self.pieces, cut, &digest);
+            cut += 1;
         }
-        self.bad
+        if bad.is_none() && cut < self.pieces.len() as u64 {
+            return Some(cut);
+        }
+        bad
     }
 
-    // Takes the first of these bytes, at most as many as there is room for in the running cut.
-    fn take_part(&mut self, next: &mut NextCuts, bytes: &[u8]) -> usize
+    // Takes the first of these bytes: how many.
+    fn take(&mut self, next: &mut NextCuts, bytes: &[u8]) -> usize
         requires some { 0 < length bytes.now }
         requires room { bytes_given self.old + length bytes.now ≤ total self.old }
-        requires next { KnowsCuts next.old self.old.cutter.piece_length bytes.now }
-        ensures some { 0 < result }
+        requires next { self.old.stream.stages ≡ None
+            → KnowsCuts next.old self.old.stream.cutter.piece_length bytes.now }
         ensures bound { result ≤ length bytes.now }
+        ensures less { turns self.new.stream (length bytes.now - result)
+            < turns self.old.stream (length bytes.now) }
         ensures feeds { FeedsStream self.old (take result bytes.now) self.new }
-        ensures next { result < length bytes.now
-            → KnowsCuts next.new self.new.cutter.piece_length (drop result bytes.now) }
+        ensures next { result < length bytes.now → self.new.stream.stages ≡ None
+            → KnowsCuts next.new self.new.stream.cutter.piece_length (drop result bytes.now) }
     {
-        if let Some(stages) = self.stages.take() {
-            *next = NextCuts::new();
-            return self.take_staged(stages, bytes);
-        }
-        self.make_room();
         if self.bad.is_some() {
             self.skip(bytes.len() as u64);
             return bytes.len();
         }
-        self.fill(next, bytes)
-    }
-
-    // Takes the first of these bytes, at most up to the end of a stretch, into the stages.
-    fn take_staged(&mut self, mut stages: Stages, bytes: &[u8]) -> usize
-        requires some { 0 < length bytes.now }
-        requires room { bytes_given self.old + length bytes.now ≤ total self.old }
-        requires alone { self.old.stages ≡ None }
-        requires in_step { IsInStep stages self.old.given self.old.cut self.old.cutter.filled }
-        ensures some { 0 < result }
-        ensures bound { result ≤ length bytes.now }
-        ensures total { total self.new ≡ total self.old }
-        ensures given { bytes_given self.new ≡ bytes_given self.old + result }
-        ensures piece_length { self.new.cutter.piece_length ≡ self.old.cutter.piece_length }
-        ensures content { (pieces : List (List ℕ)) (piece_length : ℕ) (content : List ℕ)
-            → IsFeedWith self.old stages pieces piece_length content
-            → IsFeedGiven self.new pieces piece_length (content ++ take result bytes.now) }
-    {
-        let (taken, digest) = stages.take(bytes);
+        let (taken, digest) = self.stream.take(next, bytes);
         self.given += taken as u64;
-        self.compare_told(digest);
-        self.keep(stages);
-        taken
-    }
-
-    // Goes on with these stages, unless a cut was bad. It leaves them once no whole piece is to
-    // come.
-    fn keep(&mut self, stages: Stages)
-        requires alone { self.old.stages ≡ None }
-        requires in_step { IsInStep stages self.old.given self.old.cut self.old.cutter.filled }
-        ensures total { total self.new ≡ total self.old }
-        ensures given { bytes_given self.new ≡ bytes_given self.old }
-        ensures piece_length { self.new.cutter.piece_length ≡ self.old.cutter.piece_length }
-        ensures content { KeepsStaged self.old stages self.new }
-    {
-        if self.bad.is_some() {
-            return;
-        }
-        if self.total - self.given <= self.total % self.cutter.piece_length() {
-            return self.settle(stages);
-        }
-        self.stages = Some(stages);
-    }
-
-    // Leaves the stages, if there are some.
-    fn leave_stages(&mut self)
-        ensures alone { self.new.stages ≡ None }
-        ensures content { KeepsContent self.old self.new }
-    {
-        if let Some(stages) = self.stages.take() {
-            self.settle(stages);
-        }
-    }
-
-    // Compares the whole pieces that are in these stages with their digests. What came of the next
-    // one is the running cut then.
-    fn settle(&mut self, mut stages: Stages)
-        requires alone { self.old.stages ≡ None }
-        requires in_step { IsInStep stages self.old.given self.old.cut self.old.cutter.filled }
-        ensures alone { self.new.stages ≡ None }
-        ensures total { total self.new ≡ total self.old }
-        ensures given { bytes_given self.new ≡ bytes_given self.old }
-        ensures piece_length { self.new.cutter.piece_length ≡ self.old.cutter.piece_length }
-        ensures content { KeepsStaged self.old stages self.new }
-    {
-        let mut step = stages.steps();
-        'steps: while self.bad.is_none() && self.cut < stages.pieces() {
-            let digest = stages.drain(step);
-            self.compare_told(digest);
-            step += 1;
-        }
-        if self.bad.is_none() {
-            stages.give_rest(&mut self.cutter);
-        }
-    }
-
-    // Closes the running cut if it is full.
-    fn make_room(&mut self)
-        ensures total { total self.new ≡ total self.old }
-        ensures given { bytes_given self.new ≡ bytes_given self.old }
-        ensures open { self.new.cutter.filled < self.new.cutter.piece_length }
-        ensures piece_length { self.new.cutter.piece_length ≡ self.old.cutter.piece_length }
-        ensures alone { self.new.stages ≡ self.old.stages }
-        ensures content { KeepsContent self.old self.new }
-    {
-        if self.cutter.is_full() {
-            self.close_cut();
-        }
-    }
-
-    // Takes the first of these bytes into the running cut, as many as there is room for in it.
-    fn fill(&mut self, next: &mut NextCuts, bytes: &[u8]) -> usize
-        requires some { 0 < length bytes.now }
-        requires next { KnowsCuts next.old self.old.cutter.piece_length bytes.now }
-        requires room { bytes_given self.old + length bytes.now ≤ total self.old }
-        requires open { self.old.cutter.filled < self.old.cutter.piece_length }
-        requires alone { self.old.stages ≡ None }
-        ensures some { 0 < result }
-        ensures bound { result ≤ length bytes.now }
-        ensures total { total self.new ≡ total self.old }
-        ensures given { bytes_given self.new ≡ bytes_given self.old + result }
-        ensures content { FillsCut self.old (take result bytes.now) self.new }
-        ensures next { KnowsCuts next.new self.new.cutter.piece_length (drop result bytes.now) }
-    {
-        let taken = next.fill(&mut self.cutter, bytes);
-        self.given += taken as u64;
+        let Some(digest) = digest else {
+            return taken;
+        };
+        self.bad = first_bad(self.bad, self.pieces, self.cut, &digest);
+        self.cut += 1;
         taken
     }
 
@@ -281,59 +188,30 @@ impl<'a> V1Feed<'a> {
     fn skip(&mut self, n: u64)
         requires bad { is_some self.old.bad ≡ true }
         requires room { bytes_given self.old + n ≤ total self.old }
-        ensures { (bytes : List ℕ) → length bytes ≡ n → FeedsStream self.old bytes self.new }
+        ensures stream { self.new.stream ≡ self.old.stream }
+        ensures feeds { (bytes : List ℕ) → length bytes ≡ n
+            → FeedsStream self.old bytes self.new }
     {
         self.given += n;
     }
+}
 
-    // Compares the running cut with its digest, and begins the next.
-    fn close_cut(&mut self)
-        requires { 0 < self.old.cutter.filled }
-        ensures total { total self.new ≡ total self.old }
-        ensures given { bytes_given self.new ≡ bytes_given self.old }
-        ensures cut { self.new.cut ≡ self.old.cut + 1 }
-        ensures piece_length { self.new.cutter.piece_length ≡ self.old.cutter.piece_length }
-        ensures empty { self.new.cutter.filled ≡ 0 }
-        ensures running { IsCutting self.new.cutter [] }
-        ensures pieces { self.new.pieces ≡ self.old.pieces }
-        ensures alone { self.new.stages ≡ self.old.stages }
-        ensures bad { ComparesCut self.old self.new }
-    {
-        let digest = self.cutter.close();
-        self.compare(&digest);
+// The first bad cut, after this digest of one more cut was compared.
+fn first_bad(bad: Option<u64>, pieces: &[[u8; 20]], cut: u64, digest: &[u8; 20]) -> Option<u64>
+    ensures { IsNext pieces.now cut digest.now bad result }
+{
+    if bad.is_none() && !is_listed(pieces, cut, digest) {
+        return Some(cut);
     }
+    bad
+}
 
-    // Compares the digest of the next whole piece, if it is told.
-    fn compare_told(&mut self, digest: Option<[u8; 20]>)
-        requires alone { self.old.stages ≡ None }
-        requires more { (d : List ℕ) → digest ≡ Some d
-            → self.old.cut + self.old.cutter.filled < self.old.given }
-        ensures total { total self.new ≡ total self.old }
-        ensures given { bytes_given self.new ≡ bytes_given self.old }
-        ensures cut { CountsTold digest self.old.cut self.new.cut }
-        ensures cutter { self.new.cutter ≡ self.old.cutter }
-        ensures pieces { self.new.pieces ≡ self.old.pieces }
-        ensures alone { self.new.stages ≡ None }
-        ensures bad { ComparesTold self.old digest self.new }
-    {
-        if let Some(digest) = digest {
-            self.compare(&digest);
-        }
-    }
-
-    // Compares this digest with the one that is listed for the next cut.
-    fn compare(&mut self, digest: &[u8; 20])
-        requires alone { self.old.stages ≡ None }
-        requires more { self.old.cut + self.old.cutter.filled < self.old.given }
-        ensures total { total self.new ≡ total self.old }
-        ensures given { bytes_given self.new ≡ bytes_given self.old }
-        ensures cut { self.new.cut ≡ self.old.cut + 1 }
-        ensures cutter { self.new.cutter ≡ self.old.cutter }
-        ensures pieces { self.new.pieces ≡ self.old.pieces }
-        ensures alone { self.new.stages ≡ None }
-        ensures bad { IsNext self.old.pieces.now self.old.cut digest.now self.old.bad self.new.bad }
-    {
-        self.bad = first_bad(self.bad, self.pieces, self.cut, digest);
-        self.cut += 1;
+// Whether this is the digest that is listed for the cut.
+fn is_listed(pieces: &[[u8; 20]], cut: u64, digest: &[u8; 20]) -> bool
+    ensures { IsTrue result ↔ (slice_get pieces.now cut ≡ Some digest.now) }
+{
+    match pieces.get(cut as usize) {
+        Some(listed) => listed == digest,
+        None => false,
     }
 }

@@ -1,8 +1,8 @@
-//! What `btcheck` prints: texts, paths, numbers and faults.
+//! What `btcheck` prints beside the lines of its reports: texts, paths and faults.
 #![tactic(auto)]
 
 mod fault;
 mod text;
 
 pub use fault::{Fault, OUTPUT, fault_line};
-pub use text::{Line, flush_after, write_escaped, write_line, write_path};
+pub use text::{ShortLine, flush_after, write_escaped, write_line, write_path};

@@ -78,11 +78,11 @@ fn escape(byte: u8) -> [u8; 4]
 
 /// A line of at most 256 bytes, put together in place.
 #[derive(Drop)]
-pub struct Line {
+pub struct ShortLine {
     bytes: ArrayVec<u8, 256>,
 }
 
-impl Model for Line {
+impl Model for ShortLine {
     ghost use Rattle.std.specs.Prelude.{ℕ, List};
 
     ghost Value = { List ℕ };
@@ -90,12 +90,12 @@ impl Model for Line {
     ghost view = { λ l. l.bytes.items };
 }
 
-impl Line {
+impl ShortLine {
     /// A line with nothing in it.
-    pub fn new() -> Line
+    pub fn new() -> ShortLine
         ensures { result ≡ [] }
     {
-        Line {
+        ShortLine {
             bytes: ArrayVec::new(),
         }
     }

@@ -2,6 +2,7 @@
 ghost use Rattle.std.specs.Prelude.{◌≡◌};
 ghost use Rattle.std.specs.Process.{exit_status};
 
+use crate::place::print_place;
 use crate::system::System;
 use benc::FromWrite;
 use printing::{Fault, fault_line, write_escaped};
@@ -28,9 +29,16 @@ pub(crate) fn print_reason_of(system: &System, path: &str) {
     let Some(cause) = system.cause() else {
         return;
     };
+    begin_reason(system, path);
+    let _ = writeln!(system.rt().stderr(), "{cause}");
+}
+
+/// Prints on standard error that what follows is the reason of what is said of the file with this
+/// path. What cannot be written is lost.
+pub(crate) fn begin_reason(system: &System, path: &str) {
     let _ = system.rt().stderr().write_all(b"reason: ");
     let _ = write_escaped(&mut FromWrite::new(system.rt().stderr()), path.as_bytes());
-    let _ = writeln!(system.rt().stderr(), ": {cause}");
+    let _ = system.rt().stderr().write_all(b": ");
 }
 
 // Prints why a file could not be read or written, on a terminal or if reasons are asked for.
@@ -39,9 +47,15 @@ fn print_reason(system: &System, fault: &Fault<'_>) {
     if !has_reason(fault) || !is_shown {
         return;
     }
-    if let Some(cause) = system.cause() {
-        let _ = writeln!(system.rt().stderr(), "reason: {cause}{}", hint(fault));
+    let Some(cause) = system.cause() else {
+        return;
+    };
+    let _ = system.rt().stderr().write_all(b"reason: ");
+    if let Some(place) = system.take_place() {
+        print_place(system, place.as_slice());
+        let _ = system.rt().stderr().write_all(b": ");
     }
+    let _ = writeln!(system.rt().stderr(), "{cause}{}", hint(fault));
 }
 
 // What may be meant by the path of a fault, if it is one that other programs have for a stream.
@@ -52,10 +66,10 @@ fn hint(fault: &Fault<'_>) -> &'static str {
     }
 }
 
-// Whether a fault comes from a call of the system.
+// Whether a fault may have a reason.
 fn has_reason(fault: &Fault<'_>) -> bool {
     matches!(
         fault,
-        Fault::Read(_) | Fault::ReadBelow(_) | Fault::Write(_)
+        Fault::Read(_) | Fault::ReadBelow(_) | Fault::Write(_) | Fault::NotUtf8 | Fault::Special(_)
     )
 }

@@ -2,16 +2,19 @@
 ghost use Rattle.std.specs.Prelude.{◌≡◌, None, ⊤};
 ghost use Rattle.benc.specs.Device.{one_more};
 
+use crate::choice::Choice;
 use crate::fault::print_reason_of;
 use crate::identity::Identity;
-use crate::listing::Listing;
+use crate::listing::{Listing, Special};
 use crate::noted::Noted;
-use crate::paths::path_below;
+use crate::offsets::Offsets;
+use crate::paths::{folder_and_name, path_below};
 use crate::progress::{Counted, Progress};
 use crate::system::{Cause, System};
 use benc::{DeviceFault, FromRead, Source};
 use folders::{SeekShelf, Shelf, ShelfFault};
-use opening::{File as Listed, Torrent};
+use globs::Glob;
+use opening::Torrent;
 use std::alloc::AllocError;
 use std::fs::{self, File};
 use std::io::{self, ErrorKind, Seek, SeekFrom};
@@ -25,6 +28,12 @@ use std::io::{self, ErrorKind, Seek, SeekFrom};
 pub struct Folder<'a> {
     system: &'a System,
     dir: &'a str,
+    // The one file that is listed, if it is one alone.
+    only: Option<&'a str>,
+    without: &'a [Glob],
+    choice: Choice,
+    // Whether what it left out was said.
+    has_told: bool,
     faults: u64,
     // None if the files are read one behind the other.
     offsets: Option<Offsets<'a>>,
@@ -47,6 +56,10 @@ impl<'a> Folder<'a> {
         Folder {
             system,
             dir,
+            only: None,
+            without: &[],
+            choice: Choice::strict(),
+            has_told: false,
             faults: 0,
             offsets: None,
             opened: Vec::new(system.alloc()),
@@ -68,12 +81,45 @@ impl<'a> Folder<'a> {
         Folder {
             system,
             dir,
+            only: None,
+            without: &[],
+            choice: Choice::strict(),
+            has_told: false,
             faults: 0,
             offsets: Some(Offsets::new(torrent)),
             opened: Vec::new(system.alloc()),
             reads_all: true,
             progress,
         }
+    }
+
+    /// The folder that holds the file with this path, of which that file alone is listed.
+    pub fn of_file(system: &'a System, path: &'a str, progress: &'a Progress) -> Folder<'a>
+        ensures { result.faults ≡ 0 }
+    {
+        let (dir, name) = folder_and_name(path);
+        let mut folder = Folder::new(system, dir, progress);
+        folder.only = Some(name);
+        folder
+    }
+
+    /// What these globs match is neither opened nor listed nor looked at, so it is no fault,
+    /// whatever it is. A name that is not UTF-8 has U+FFFD for them in place of what is none.
+    pub fn without(mut self, globs: &'a [Glob]) -> Folder<'a>
+        ensures dir { result.dir.now ≡ self.entry.dir.now }
+        ensures faults { result.faults ≡ self.entry.faults }
+    {
+        self.without = globs;
+        self
+    }
+
+    /// Links, and what is special, are treated so.
+    pub fn choosing(mut self, choice: Choice) -> Folder<'a>
+        ensures dir { result.dir.now ≡ self.entry.dir.now }
+        ensures faults { result.faults ≡ self.entry.faults }
+    {
+        self.choice = choice;
+        self
     }
 
     /// Some files that are listed will not be read, so it is not known how many bytes will be.
@@ -163,6 +209,19 @@ impl<'a> Folder<'a> {
         File::open(self.system.rt(), system_path)
     }
 
+    // What becomes of what is neither a file nor a folder. It is said once.
+    fn special(&mut self) -> Special
+        ensures { self.new.faults ≡ self.old.faults }
+    {
+        let has_told = self.has_told;
+        self.has_told = true;
+        match (self.choice.skips_special, has_told) {
+            (false, _) => Special::Refused,
+            (true, false) => Special::Told,
+            (true, true) => Special::LeftOut,
+        }
+    }
+
     // Keeps which file was opened, if it was listed.
     fn keep(&mut self, file: &File)
         ensures { self.new.faults ≡ self.old.faults }
@@ -229,7 +288,10 @@ impl<'a> Shelf for Folder<'a> {
         let listing = Listing {
             system: self.system,
             dir: self.dir,
-            takes_special: false,
+            only: self.only,
+            without: self.without,
+            choice: self.choice,
+            special: self.special(),
         };
         let walk = listing.walk();
         if matches!(walk, Err(ShelfFault::Device)) {
@@ -283,41 +345,5 @@ impl SeekShelf for Folder<'_> {
             Some((file, name)) => Ok(Some(self.source(file, name, self.progress.read()))),
             None => Ok(None),
         }
-    }
-}
-
-// Where the files of a torrent begin in all its bytes, if they are asked for in the torrent's
-// order.
-#[derive(Drop)]
-struct Offsets<'a> {
-    files: &'a [Listed<'a>],
-    next: usize,
-    passed: u64,
-}
-
-impl<'a> Offsets<'a> {
-    // The offsets of all files of this torrent.
-    fn new(torrent: &'a Torrent<'a>) -> Offsets<'a> {
-        Offsets {
-            files: torrent.files(),
-            next: 0,
-            passed: 0,
-        }
-    }
-
-    // How many bytes the files before the one with this path have, whether they were asked for or
-    // not. It counts on from the file that was asked for last.
-    fn before(&mut self, path: &[&str]) -> u64 {
-        let files = self.files;
-        'files: for at in self.next..files.len() {
-            let file = &files[at];
-            if file.path.parts().as_slice() == path {
-                self.next = at;
-                return self.passed;
-            }
-            self.passed = self.passed.saturating_add(file.length);
-        }
-        self.next = files.len();
-        self.passed
     }
 }

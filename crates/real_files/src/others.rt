@@ -1,5 +1,6 @@
 //! What else stands below a folder that holds the files of a torrent.
-use crate::listing::Listing;
+use crate::choice::Choice;
+use crate::listing::{Listing, Special};
 use crate::paths::path_below;
 use crate::system::System;
 use folders::ShelfFault;
@@ -28,14 +29,17 @@ pub fn others_below(
 }
 
 // All that is listed below a folder, if there is such a folder.
-fn listed(system: &System, dir: &str) -> Result<Vec<Vec<String>>, ShelfFault> {
+fn listed<'s>(system: &'s System, dir: &'s str) -> Result<Vec<Vec<String>>, ShelfFault> {
     if !has_folder(system, dir) {
         return Ok(Vec::new(system.alloc()));
     }
     let listing = Listing {
         system,
         dir,
-        takes_special: true,
+        only: None,
+        without: &[],
+        choice: Choice::strict(),
+        special: Special::Listed,
     };
     Ok(listing.walk()?.files)
 }

@@ -22,6 +22,15 @@ pub(crate) fn path_below<S: AsStr>(
     Ok(text)
 }
 
+/// The path of the folder that holds the file with this path, and the name that the file has there.
+pub fn folder_and_name<'a>(path: &'a str) -> (&'a str, &'a str) {
+    match path.rsplit_once('/') {
+        None => (".", path),
+        Some(("", name)) => ("/", name),
+        Some((folder, name)) => (folder, name),
+    }
+}
+
 /// The path of what has this name in a folder.
 pub(crate) fn path_in(
     alloc: Global,

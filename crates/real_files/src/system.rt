@@ -9,11 +9,12 @@ use std::fmt;
 use std::fs::File;
 use std::io::{self, ErrorKind};
 
-/// The system that a command runs on. It keeps why the last call that failed did so.
+/// The system that a command runs on. It keeps why the last call that failed did so, and where.
 #[derive(Drop)]
 pub struct System {
     rt: HostRuntime,
     cause: Cell<Option<Cause>>,
+    place: Cell<Option<Vec<u8>>>,
     shows_reasons: Cell<bool>,
 }
 
@@ -24,6 +25,10 @@ pub enum Cause {
     Error(io::Error),
     /// It is to be written, and is read too.
     IsInput,
+    /// It is a name that is not UTF-8.
+    Name,
+    /// It leads to a folder that it is in.
+    Loop,
 }
 
 impl System {
@@ -32,6 +37,7 @@ impl System {
         System {
             rt: *rt,
             cause: Cell::new(None),
+            place: Cell::new(None),
             shows_reasons: Cell::new(false),
         }
     }
@@ -53,7 +59,23 @@ impl System {
 
     /// Keeps why a call failed.
     pub fn note(&self, cause: Cause) {
-        self.cause.set(Some(cause));
+        self.keep(Some(cause));
+    }
+
+    /// Keeps why something failed, or that no call of the system did.
+    pub(crate) fn keep(&self, cause: Option<Cause>) {
+        self.cause.set(cause);
+        self.place.set(None);
+    }
+
+    /// Keeps the path at which the call failed whose cause was kept last.
+    pub(crate) fn note_place(&self, path: Vec<u8>) {
+        self.place.set(Some(path));
+    }
+
+    /// The path at which the last call that failed did so, if it was kept. From then on it is not.
+    pub(crate) fn take_place(&self) -> Option<Vec<u8>> {
+        self.place.replace(None)
     }
 
     /// Whether reasons are printed, whatever standard error is.
@@ -89,6 +111,8 @@ impl fmt::Display for Cause {
     fn fmt<W: fmt::Write>(&self, f: &mut fmt::Formatter<W>) -> fmt::Result {
         match self {
             Cause::IsInput => f.write_str("it is an input"),
+            Cause::Name => f.write_str("the name is not UTF-8"),
+            Cause::Loop => f.write_str("it leads to a folder that it is in"),
             Cause::Error(error) => match name_of(error.kind()) {
                 Some(text) => f.write_str(text),
                 None => write!(f, "{error}"),

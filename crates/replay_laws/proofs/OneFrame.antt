@@ -8,10 +8,10 @@ use Rattle.session.specs.Layouts.{tree_of}
 use Rattle.session.specs.Session.{SessionSeen, HasClosedTrees}
 use Rattle.wire.specs.declared.message.Ask.{Ask}
 use Rattle.holdings.specs.declared.run.Run.{Run}
-use Rattle.holdings.specs.Holdings.{HoldingsSeen}
+use Rattle.holdings.specs.Holdings.{HoldingsSeen, all_pieces}
 use Rattle.replays.specs.ByPieces.{TellsByPieces, TellsHashes, TellsPlainly, TellsRun, bytes_in}
-use Rattle.replays.specs.Held.{Work, all_pieces, work}
-use Rattle.replays.specs.ProvedLines.{FrameTold, HaveCome, HoldsBlock, IsTold, held_of, proved_of}
+use Rattle.replays.specs.Held.{Work, work}
+use Rattle.replays.specs.ProvedLines.{FrameTold, HaveCome, HoldsBlock, IsToldOfFrame, held_of, proved_of}
 use Rattle.replays.proofs.ToldCases.{TheSaid, blocks_report, report-apart, report-not_held, report_said, tells-cases}
 use Rattle.replay_laws.proofs.Entries.{CameBefore, entries-held, entries-prove-nothing, in-either, said_of, same-tree, still-last}
 use Rattle.replay_laws.proofs.Holding.{AreOfCame, came-weaker}
@@ -22,7 +22,7 @@ use Rattle.replay_laws.proofs.Staying.{Stays}
 pub record FrameKeeps (d : Description) (E : SessionSeen) (frames : List FrameTold) (i : ℕ) (h : FrameTold) (S' : SessionSeen) (k' : HoldingsSeen)
     : Type 0 where
   pub good : AreOfCame d (CameBefore frames (suc i) E) k'
-  pub proved : HasClosedTrees E → Stays S' E → (file : ℕ) (run : Run) → IsTold (proved_of file run) h → HaveCome frames i E file run
+  pub proved : HasClosedTrees E → Stays S' E → (file : ℕ) (run : Run) → IsToldOfFrame (proved_of file run) h → HaveCome frames i E file run
 
 module _ (d : Description) (E : SessionSeen) (ends : E.torrent ≡ d) (frames : List FrameTold) (i : ℕ) (h : FrameTold)
     (there : slice_get frames i ≡ Some h) (whole : Bool) (S : SessionSeen) (same : S.torrent ≡ d) (k : HoldingsSeen) (S' : SessionSeen)
@@ -47,7 +47,7 @@ module _ (d : Description) (E : SessionSeen) (ends : E.torrent ≡ d) (frames : 
     entries-good = entries-held d E ends frames i h there S same v report_is bytes message_is r.tree r.run.of_file r.entries r.settled r.told_is
         k r.mid r.held (settled-hold-nothing v.file before r.settled after r.settles.settled) good
 
-    run-proved : HasClosedTrees E → Stays S' E → (file : ℕ) (run : Run) → IsTold (proved_of file run) h → HaveCome frames i E file run
+    run-proved : HasClosedTrees E → Stays S' E → (file : ℕ) (run : Run) → IsToldOfFrame (proved_of file run) h → HaveCome frames i E file run
     run-proved closed stays file run told =
         by (in-either r.entries r.settled told.0 (proved_of file run) (sym (ap (λ ss. slice_get ss told.0) r.told_is) ∙ told.1))
       where
@@ -79,7 +79,7 @@ module _ (d : Description) (E : SessionSeen) (ends : E.torrent ≡ d) (frames : 
     still-good = came-weaker d (CameBefore frames i E) Came k (λ n b bs came. still-last E frames i h there n b bs (no-block n b) came) good
 
     -- what is told to be proved is settled after it
-    told-later : (file : ℕ) (run : Run) → IsTold (proved_of file run) h → (j : ℕ) × (slice_get settled j ≡ Some (proved_of file run))
+    told-later : (file : ℕ) (run : Run) → IsToldOfFrame (proved_of file run) h → (j : ℕ) × (slice_get settled j ≡ Some (proved_of file run))
     told-later file run told = by told.0 (sym (ap (λ ss. slice_get ss told.0) told_is) ∙ told.1)
       where
         by : (m : ℕ) → slice_get (report_said h.report ∷ settled) m ≡ Some (proved_of file run) → (j : ℕ) × (slice_get settled j ≡ Some (proved_of file run))

@@ -5,7 +5,7 @@ use Rattle.std.specs.Prelude.{slice_get}
 use Rattle.std.specs.FinMap.{empty}
 use Rattle.std.proofs.lemmas.Option.{none-some, same_Some}
 use Rattle.chains.specs.Chain.{Chain}
-use Rattle.chains.proofs.Chains.{Chain-more, Chain-weaker}
+use Rattle.chains.proofs.Chains.{Chain-more, Chain-weaker, Chain-within}
 use Rattle.opening.specs.Description.{Description}
 use Rattle.session.specs.Session.{SessionSeen, HasClosedTrees}
 use Rattle.wire.specs.declared.form.Form.{Form}
@@ -14,7 +14,7 @@ use Rattle.holdings.specs.declared.run.Run.{Run}
 use Rattle.holdings.specs.Holdings.{HoldingsSeen}
 use Rattle.replays.specs.ByPieces.{TellsByPieces, by_pieces}
 use Rattle.replays.specs.Replay.{Begins, Beside, Ends, Handles, HandlesButLast, IsCutReport, ReplaySeen, Replayed}
-use Rattle.replays.specs.ProvedLines.{AllProvedCame, CutLinesCame, FrameTold, HaveCome, IsTold, ProvedFramesCame, ProvedLinesCame, frames_of, proved_of}
+use Rattle.replays.specs.ProvedLines.{AllProvedCame, CutLinesCame, FrameTold, HaveCome, IsToldOfFrame, ProvedFramesCame, ProvedLinesCame, frames_of, proved_of}
 use Rattle.replay_laws.proofs.Entries.{CameBefore}
 use Rattle.replay_laws.proofs.Holding.{AreOfCame, none-held}
 use Rattle.replay_laws.proofs.OneFrame.{FrameKeeps, frame-keeps}
@@ -41,10 +41,8 @@ goes-stay x y h x' (whole, stepped, stays, tells) =
 -- what is known stays known to the end
 run-stays : (x : Beside HoldingsSeen) (ys : List (Directed (List ℕ))) (hs : List FrameTold) (x' : Beside HoldingsSeen) → Chain Goes x ys hs x'
     → Stays x.0 x'.0
-run-stays x [] [] x' run = stays-same x.0 x'.0 (ap (λ (y : Beside HoldingsSeen). y.0) run)
-run-stays x [] (h ∷ hs) x' run = absurd run
-run-stays x (y ∷ ys) [] x' run = absurd run
-run-stays x (y ∷ ys) (h ∷ hs) x' (mid, step, rest) = stays-then x.0 mid.0 x'.0 (goes-stay x y h mid step) (run-stays mid ys hs x' rest)
+run-stays = Chain-within Goes (λ (x : Beside HoldingsSeen) (x' : Beside HoldingsSeen). Stays x.0 x'.0) (λ x. stays-same x.0 x.0 refl)
+    (λ x y z first next. stays-then x.0 y.0 z.0 first next) goes-stay
 
 -- ---- frame after frame
 
@@ -68,7 +66,7 @@ module _ (d : Description) (E : SessionSeen) (ends : E.torrent ≡ d) (frames : 
 
   pub run-came : (closed : HasClosedTrees E) (i : ℕ) (x : Beside HoldingsSeen) (ys : List (Directed (List ℕ))) (hs : List FrameTold) (x' : Beside HoldingsSeen)
       → Chain Goes x ys hs x' → ((j : ℕ) → slice_get hs j ≡ slice_get frames (i + j)) → x.0.torrent ≡ d → AreOfCame d (CameBefore frames i E) x.1
-      → Stays x'.0 E → (j : ℕ) (h : FrameTold) → slice_get hs j ≡ Some h → (file : ℕ) (run : Run) → IsTold (proved_of file run) h
+      → Stays x'.0 E → (j : ℕ) (h : FrameTold) → slice_get hs j ≡ Some h → (file : ℕ) (run : Run) → IsToldOfFrame (proved_of file run) h
       → HaveCome frames (i + j) E file run
   run-came closed i x [] [] x' run at same good stays j h is file r told = absurd (none-some h is)
   run-came closed i x [] (g ∷ hs) x' run at same good stays j h is file r told = absurd run
@@ -78,7 +76,7 @@ module _ (d : Description) (E : SessionSeen) (ends : E.torrent ≡ d) (frames : 
       let on = run-stays mid ys hs x' rest in
       let zero_is : i ≡ i + 0 = omega arith in
       subst (λ n. HaveCome frames n E file r) zero_is
-      (k.proved closed (stays-then mid.0 x'.0 E on stays) file r (subst (IsTold (proved_of file r)) (sym (same_Some g h is)) told))
+      (k.proved closed (stays-then mid.0 x'.0 E on stays) file r (subst (IsToldOfFrame (proved_of file r)) (sym (same_Some g h is)) told))
   run-came closed i x (y ∷ ys) (g ∷ hs) x' (mid, step, rest) at same good stays (suc j) h is file r told =
       let k = one-keeps i x y g mid step (here i g hs at) same good in
       let suc_is : suc i + j ≡ i + suc j = omega arith in

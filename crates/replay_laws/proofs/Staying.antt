@@ -1,5 +1,5 @@
 -- What the session's steps and settlings leave: its torrent, and what is known.
-use Rattle.std.proofs.Common.{◌≡◌, ◌⊎◌, ℕ, zero, suc, ◌+◌, Bool, true, List, [], ◌∷◌, length, Some, Ok, inl, inr, sym, ap, ◌∙◌, subst}
+use Rattle.std.proofs.Common.{◌≡◌, ◌⊎◌, ℕ, zero, suc, ◌+◌, Bool, true, List, [], ◌∷◌, length, Some, Ok, inl, inr, ap, ◌∙◌}
 use Rattle.wire.specs.declared.form.Form.{Form}
 use Rattle.wire.specs.declared.form.Form.TheVariants.{One, Two}
 use Rattle.wire.specs.declared.frame.Frame.{Frame}
@@ -11,21 +11,21 @@ use Rattle.node_maps.specs.Digest.{Hash}
 use Rattle.session.specs.Blocks.{BlocksSeen}
 use Rattle.session.specs.Pieces.{AreLeavesTaken, IsLeafMarked}
 use Rattle.session.specs.SafeStep.{KeepsKnown}
-use Rattle.session.specs.Session.{SessionSeen, IsTree}
+use Rattle.session.specs.Session.{SessionSeen}
 use Rattle.session.specs.declared.verdict.Verdict.{Verdict}
 use Rattle.session.proofs.MarkedLeaves.{mark-keeps}
 use Rattle.session.proofs.NotedSteps.{noted-torrent}
-use Rattle.session.proofs.Runs.{step-torrent}
+use Rattle.session.proofs.OneTree.{keeps-same, keeps-then}
 use Rattle.session.proofs.TakenLeaves.{leaves-keep}
 use Rattle.holdings.specs.declared.run.Run.{Run}
 use Rattle.holdings.specs.declared.run.Settled.{Settled}
 use Rattle.holdings.specs.declared.run.Settled.TheVariants.{Proved, False}
 use Rattle.holdings.specs.Cells.{Cells}
-use Rattle.holdings.specs.Settling.{AreMarked, IsMarkedRun, Settles}
-use Rattle.holdings.specs.Holdings.{HoldingsSeen}
+use Rattle.holdings.specs.Settling.{AreBlocksMarked, IsMarkedRun, Settles}
+use Rattle.holdings.specs.Holdings.{HoldingsSeen, all_pieces}
 use Rattle.holdings.specs.Next.{SettlesNext}
 use Rattle.replays.specs.ByPieces.{TellsByPieces, TellsHashes, TellsPlainly, TellsRun, bytes_in}
-use Rattle.replays.specs.Held.{AreSettled, IsSettled, Work, all_pieces, work}
+use Rattle.replays.specs.Held.{AreSettled, IsSettled, Work, work}
 use Rattle.replays.specs.Replay.{Meets, StepsBy}
 use Rattle.replays.proofs.ToldCases.{TheReport, TheSaid, blocks_report, settled-cases, tells-cases}
 
@@ -37,23 +37,17 @@ pub record Stays (S S' : SessionSeen) : Type 0 where
 pub stays-same : (S S' : SessionSeen) → S' ≡ S → Stays S S'
 stays-same S S' e = record {
   torrent = ap (λ (U : SessionSeen). U.torrent) e;
-  keeps = λ n tree s at. (s, subst (λ U. IsTree U n tree s) (sym e) at, λ l i v known. known);
+  keeps = keeps-same S S' e;
 }
 
 pub stays-then : (S M S' : SessionSeen) → Stays S M → Stays M S' → Stays S S'
-stays-then S M S' a b = record {
-  torrent = b.torrent ∙ a.torrent;
-  keeps = λ n tree s at.
-      let (mid, mid_is, first) = a.keeps n tree s at in
-      let (later, later_is, next) = b.keeps n tree mid mid_is in
-      (later, later_is, λ l i v known. next l i v (first l i v known));
-}
+stays-then S M S' a b = record { torrent = b.torrent ∙ a.torrent; keeps = keeps-then S M S' a.keeps b.keeps }
 
 -- ---- steps
 
 steps-stay : (form : Form) (S : SessionSeen) (x : Directed Message) (v : Verdict) (S' : SessionSeen) → StepsBy form S x v S' → Stays S S'
-steps-stay One S x v S' step = record { torrent = step-torrent S x.1 v S' step.allowed; keeps = step.keeps_known }
-steps-stay Two S x v S' step = record { torrent = noted-torrent S x v S' step.allowed; keeps = step.keeps_known }
+steps-stay One S x v S' step = record { torrent = step.torrent_stays; keeps = step.known_stays }
+steps-stay Two S x v S' step = record { torrent = noted-torrent S x v S' step.allowed; keeps = step.known_stays }
 
 pub meets-stay : (wanted : Bool) (form : Form) (S : SessionSeen) (f : Directed Frame) (d : TheReport) (answer : List ℕ) (S' : SessionSeen)
     → Meets wanted form S f d answer S' → Stays S S'
@@ -74,7 +68,8 @@ leaves-stay S n first leaves count S' taken = record {
   keeps = leaves-keep S n first leaves S' (Ok count) taken tt;
 }
 
-marks-stay : (S : SessionSeen) (n first : ℕ) (cells : Cells) (j count : ℕ) (S' : SessionSeen) (cells' : Cells) → AreMarked S n first cells j count S' cells'
+marks-stay : (S : SessionSeen) (n first : ℕ) (cells : Cells) (j count : ℕ) (S' : SessionSeen) (cells' : Cells)
+    → AreBlocksMarked S n first cells j count S' cells'
     → Stays S S'
 marks-stay S n first cells j zero S' cells' none = stays-same S S' none.0
 marks-stay S n first cells j (suc count) S' cells' (M, between, rest, last) =

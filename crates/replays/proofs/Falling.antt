@@ -21,7 +21,7 @@ use Rattle.holdings.specs.declared.piece_range.Pieces.{Pieces}
 use Rattle.holdings.specs.declared.run.Settled.{Settled}
 use Rattle.holdings.specs.declared.run.Settled.TheVariants.{Proved, False}
 use Rattle.holdings.specs.Cells.{Cells, digest_in}
-use Rattle.holdings.specs.Settling.{AreMarked, IsMarked, IsMarkedRun, IsGivenUp, Settles}
+use Rattle.holdings.specs.Settling.{AreBlocksMarked, IsBlockMarked, IsMarkedRun, IsGivenUp, Settles}
 use Rattle.holdings.specs.Holdings.{HoldingsSeen, PieceSeen, held_in, without_piece}
 use Rattle.holdings.specs.Next.{LacksMemoryNext, LeavesCells, SettlesNext, with_cells}
 use Rattle.holdings.proofs.Settlements.{some_of}
@@ -35,7 +35,7 @@ mark-torrent : (S : SessionSeen) (n b : ℕ) (d : Hash) (S' : SessionSeen) → I
 mark-torrent S n b d S' m = ap (λ (U : SessionSeen). U.torrent) m.3
 
 marks-torrent : (S : SessionSeen) (n first : ℕ) (cells : Cells) (from k : ℕ) (S' : SessionSeen) (cells' : Cells)
-    → AreMarked S n first cells from k S' cells' → S'.torrent ≡ S.torrent
+    → AreBlocksMarked S n first cells from k S' cells' → S'.torrent ≡ S.torrent
 marks-torrent S n first cells from zero S' cells' h = ap (λ (U : SessionSeen). U.torrent) h.0
 marks-torrent S n first cells from (suc k) S' cells' (M, between, rest, last) =
     mark-torrent M n (first + (from + k)) last.digest S' last.marked ∙ marks-torrent S n first cells from k M between rest
@@ -70,7 +70,7 @@ fewer-set cells j d held = by (cases_lt j (length cells))
     by (inr high) = absurd (none-some d (sym (get_or-eq_default cells None high) ∙ held))
 
 marks-fewer : (S : SessionSeen) (n first : ℕ) (cells : Cells) (from k : ℕ) (S' : SessionSeen) (cells' : Cells)
-    → AreMarked S n first cells from k S' cells' → held_in cells' + k ≡ held_in cells
+    → AreBlocksMarked S n first cells from k S' cells' → held_in cells' + k ≡ held_in cells
 marks-fewer S n first cells from zero S' cells' h = let same : held_in cells' ≡ held_in cells = ap held_in h.1 in omega (arith, same)
 marks-fewer S n first cells from (suc k) S' cells' (M, between, rest, last) =
     let before : held_in between + k ≡ held_in cells = marks-fewer S n first cells from k M between rest in

@@ -10,4 +10,3 @@ pub mod SaidAll
 pub mod Falling
 pub mod Named
 pub mod ToldByPieces
-pub mod AsTexts

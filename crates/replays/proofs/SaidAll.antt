@@ -21,7 +21,7 @@ use Rattle.replays.specs.ReplayRows.{all_lines_as, said_lines_as}
 use Rattle.replays.specs.SaidLines.{said_refuses, said_lacks}
 use Rattle.replays.specs.Held.{AreSaidOf, AreSettled, IsSaidOf, IsSettled, Work, work}
 use Rattle.replays.specs.ByPieces.{SaysAll, SaysEntries, SaysSettled, by_pieces_as}
-use Rattle.replays.specs.TellingOf.{IsNoted}
+use Rattle.replays.specs.TellingOf.{IsOutcomeAfter}
 
 -- ---- what goes out, and what it amounts to
 
@@ -32,11 +32,12 @@ or_apart false y z = refl
 pub none-sent : (spelled : Spelling) (n : ℕ) (a : SinkSeen) → Sent a a (all_lines_as spelled n [])
 none-sent spelled n a = record { bytes = Appends_nothing a.written; faults = refl; flushes = refl }
 
-pub none-noted : (spelled : Spelling) (o : Outcome) → IsNoted (by_pieces_as spelled) o [] o
+pub none-noted : (spelled : Spelling) (o : Outcome) → IsOutcomeAfter (by_pieces_as spelled) o [] o
 none-noted spelled o = record { refused = sym (or-false o.refused); no_memory = sym (or-false o.no_memory); fault = refl }
 
-noted-then : (spelled : Spelling) (ss ts : List Said) (o p q : Outcome) → IsNoted (by_pieces_as spelled) o ss p → IsNoted (by_pieces_as spelled) p ts q
-    → IsNoted (by_pieces_as spelled) o (ss ++ ts) q
+noted-then : (spelled : Spelling) (ss ts : List Said) (o p q : Outcome) → IsOutcomeAfter (by_pieces_as spelled) o ss p
+    → IsOutcomeAfter (by_pieces_as spelled) p ts q
+    → IsOutcomeAfter (by_pieces_as spelled) o (ss ++ ts) q
 noted-then spelled ss ts o p q first next = record {
   refused = next.refused ∙ ap (λ b. b || list_any said_refuses ts) first.refused
       ∙ or_apart o.refused (list_any said_refuses ss) (list_any said_refuses ts)
@@ -50,7 +51,7 @@ noted-then spelled ss ts o p q first next = record {
 -- some, and then more, which may break off
 pub says-then : {A E : Type 0} (spelled : Spelling) (n : ℕ) (ss ts : List Said) (a b c : SinkSeen) (o p q : Outcome) (r : Result A E)
     → Sent a b (all_lines_as spelled n ss)
-    → IsNoted (by_pieces_as spelled) o ss p → SaysAll spelled n ts b c p q r → SaysAll spelled n (ss ++ ts) a c o q r
+    → IsOutcomeAfter (by_pieces_as spelled) o ss p → SaysAll spelled n ts b c p q r → SaysAll spelled n (ss ++ ts) a c o q r
 says-then spelled n ss ts a b c o p q (Ok u) sent noted (more, then) = (
   subst (Sent a c) (sym (flat_map-append (said_lines_as spelled n) ss ts))
       (Sent-append a b c (all_lines_as spelled n ss) (all_lines_as spelled n ts) sent more),
@@ -85,7 +86,7 @@ pub record InEntries (S : SessionSeen) (v : BlocksSeen) (bytes : List ℕ) (n : 
   pub count_is : length told ≡ count
   pub held : AreSaidOf S v bytes n 0 k told k'
   pub sent : Sent a b (all_lines_as spelled number told)
-  pub noted : IsNoted (by_pieces_as spelled) o told p
+  pub noted : IsOutcomeAfter (by_pieces_as spelled) o told p
 
 module _ (S : SessionSeen) (v : BlocksSeen) (bytes : List ℕ) (n : ℕ) (k mid k' : HoldingsSeen) (spelled : Spelling) (number count : ℕ) (a b c : SinkSeen)
     (o p q : Outcome) (s : Said) (so_far : InEntries S v bytes n k mid spelled number count a b o p) (next : IsSaidOf S v bytes n count mid s k') where
@@ -133,7 +134,7 @@ pub record InSettling (file : ℕ) (w w' : Work) (spelled : Spelling) (number : 
   pub told : List Said
   pub settled : AreSettled file w told w'
   pub sent : Sent a b (all_lines_as spelled number told)
-  pub noted : IsNoted (by_pieces_as spelled) o told p
+  pub noted : IsOutcomeAfter (by_pieces_as spelled) o told p
 
 module _ (file : ℕ) (S : SessionSeen) (k : HoldingsSeen) (from : Pieces) (mid w' : Work) (spelled : Spelling) (number : ℕ) (a b c : SinkSeen)
     (o p q : Outcome) (s : Said) (so_far : InSettling file (work S k from) mid spelled number a b o p) (next : IsSettled file mid s w') where

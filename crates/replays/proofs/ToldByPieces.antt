@@ -14,7 +14,7 @@ use Rattle.session.specs.Session.{SessionSeen}
 use Rattle.session.specs.declared.verdict.Verdict.{Verdict}
 use Rattle.session.specs.declared.verdict.Verdict.TheVariants as verdict
 use Rattle.holdings.specs.declared.piece_range.Pieces.{Pieces}
-use Rattle.holdings.specs.Holdings.{HoldingsSeen}
+use Rattle.holdings.specs.Holdings.{HoldingsSeen, all_pieces}
 use Rattle.replays.specs.declared.report.FrameReport.{FrameReport}
 use Rattle.replays.specs.declared.report.FrameReport.TheVariants as frame_report
 use Rattle.replays.specs.declared.report.Outcome.{Outcome}
@@ -22,9 +22,9 @@ use Rattle.replays.specs.declared.said.Said.{Said}
 use Rattle.replays.specs.declared.said.Said.TheVariants as said
 use Rattle.lines.specs.Rows.{Spelling}
 use Rattle.replays.specs.ReplayRows.{all_lines_as}
-use Rattle.replays.specs.Held.{ArePiecesOf, AreSaidOf, IsFirstWith, IsRunOf, SettlesAll, all_pieces, work}
+use Rattle.replays.specs.Held.{ArePiecesOf, AreSaidOf, IsFirstWith, IsRunOf, SettlesAll, work}
 use Rattle.replays.specs.ByPieces.{SaysAll, SaysEntries, SaysHashes, SaysRun, SaysSettled, TellsByPieces, asked_in, by_pieces_as, bytes_in}
-use Rattle.replays.specs.TellingOf.{IsNoted, TellsFrame}
+use Rattle.replays.specs.TellingOf.{IsOutcomeAfter, TellsFrame}
 use Rattle.replays.proofs.SaidAll.{says-then, settled-none}
 
 -- all of a frame was told, or as much as went out
@@ -138,7 +138,7 @@ module _ {A E : Type 0} (spelled : Spelling) (n : ℕ) (f : Directed Frame) (S :
 -- the report, and then settlings
 pub says-hashes : {A E : Type 0} (d : FrameReport) (file : ℕ) (S : SessionSeen) (k : HoldingsSeen) (pieces : Pieces) (S' : SessionSeen) (k' : HoldingsSeen)
     (spelled : Spelling) (n : ℕ) (a b c : SinkSeen) (o p q : Outcome) (r : Result A E) → Sent a b (all_lines_as spelled n (said.Report d ∷ []))
-    → IsNoted (by_pieces_as spelled) o (said.Report d ∷ []) p
+    → IsOutcomeAfter (by_pieces_as spelled) o (said.Report d ∷ []) p
     → SaysSettled file S k pieces S' k' spelled n b c p q r → SaysHashes d file S k pieces S' k' spelled n a c o q r
 says-hashes d file S k pieces S' k' spelled n a b c o p q r sent noted next = record {
   settled = next.told;

@@ -33,16 +33,16 @@ use Rattle.lines.specs.declared.out_fault.OutFault.TheVariants as failed
 -- ---- one answer
 
 -- the bytes are the frame of a message
-abbrev pub IsFrameOf : Message → List ℕ → Type 0
-IsFrameOf m bytes =
+abbrev pub IsMessageFrame : Message → List ℕ → Type 0
+IsMessageFrame m bytes =
     (body : List ℕ) × IsBody body × MeansMessage body m × (bytes ≡ stream.frame body)
 
 -- the frame of an answer: of a hashes message, or of a reject
 abbrev pub IsAnswerFrame : Ask → Answer → List ℕ → Type 0
 IsAnswerFrame ask (answer.Hashes hashes) bytes =
     (lent : Bor (List Hash)) × (lent.now ≡ hashes.items)
-    × IsFrameOf (message.Hashes ask lent) bytes
-IsAnswerFrame ask answer.Reject bytes = IsFrameOf (message.Reject ask) bytes
+    × IsMessageFrame (message.Hashes ask lent) bytes
+IsAnswerFrame ask answer.Reject bytes = IsMessageFrame (message.Reject ask) bytes
 
 -- the answer fits a frame
 abbrev pub HasFewHashes : Answer → Type 0
@@ -74,7 +74,7 @@ reply_to f d = reply.Nothing
 -- the bytes of what is to be answered, if answers are wanted
 abbrev pub IsReply : Bool → SessionSeen → Reply → List ℕ → Type 0
 IsReply true S (reply.Hashes ask) bytes = AnswersAsk S ask bytes
-IsReply true S (reply.Reject ask) bytes = IsFrameOf (message.Reject ask) bytes
+IsReply true S (reply.Reject ask) bytes = IsMessageFrame (message.Reject ask) bytes
 IsReply true S reply.Nothing bytes = bytes ≡ []
 IsReply false S r bytes = bytes ≡ []
 

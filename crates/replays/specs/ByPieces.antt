@@ -1,6 +1,6 @@
 -- What is told of a frame if the blocks that cannot be proved yet are held: they are held in place
 -- of their refusal, and what can be settled is settled after the frame's own lines.
-use Rattle.std.specs.Prelude.{◌≡◌, ◌⊎◌, ℕ, ◌==◌, ◌++◌, Bool, true, false, not, if◌then◌else◌, List, [], ◌∷◌, length, codes, decimal}
+use Rattle.std.specs.Prelude.{◌≡◌, ◌⊎◌, ℕ, ◌==◌, ◌++◌, Bool, true, false, not, if◌then◌else◌, List, [], ◌∷◌, length}
 use Rattle.std.specs.Prelude.{Option, Some, None, Result, Ok, Err, OnOk, is_ok}
 use Rattle.benc.specs.Device.{SinkSeen, Sent, Broke}
 use Rattle.opening.specs.Trees.{IsTreeWithRoot}
@@ -13,21 +13,20 @@ use Rattle.wire.specs.declared.message.Ask.{Ask}
 use Rattle.wire.specs.declared.message.Message.TheVariants as message
 use Rattle.wire.specs.Records.{Directed}
 use Rattle.holdings.specs.declared.piece_range.Pieces.{Pieces}
-use Rattle.holdings.specs.Holdings.{HoldingsSeen, held_count}
+use Rattle.holdings.specs.Holdings.{HoldingsSeen, all_pieces, held_count}
 use Rattle.replays.specs.declared.report.FrameReport.{FrameReport}
 use Rattle.replays.specs.declared.report.FrameReport.TheVariants as frame_report
 use Rattle.replays.specs.declared.report.Outcome.{Outcome}
 use Rattle.replays.specs.declared.said.Said.{Said}
 use Rattle.replays.specs.declared.said.Said.TheVariants as said
-use Rattle.replays.specs.Held.{ArePiecesOf, AreSaidOf, IsFirstWith, IsRunOf, SettlesAll, all_pieces}
+use Rattle.replays.specs.Held.{ArePiecesOf, AreSaidOf, IsFirstWith, IsRunOf, SettlesAll}
 use Rattle.lines.specs.Rows.{Spelling}
 use Rattle.lines.specs.Table.{still_held_row}
-use Rattle.replays.specs.ReplayLines.{ending_line_of}
+use Rattle.lines.specs.Texts.{text_of}
 use Rattle.replays.specs.ReplayRows.{all_lines_as, ending_row}
-use Rattle.replays.specs.SaidLines.{all_lines, any_lacks, any_refuses}
-use Rattle.replays.specs.declared.report.Ending.{Ending}
+use Rattle.replays.specs.SaidLines.{any_lacks, any_refuses}
 use Rattle.replays.specs.Telling.{Teller}
-use Rattle.replays.specs.TellingOf.{IsNoted}
+use Rattle.replays.specs.TellingOf.{IsOutcomeAfter}
 
 -- the bytes of a message of blocks
 abbrev pub bytes_in : Directed Frame → Option (List ℕ)
@@ -98,38 +97,27 @@ TellsByPieces whole f (frame_report.Verdict (verdict.Stored count)) S k told S' 
     TellsStored whole f (frame_report.Verdict (verdict.Stored count)) S k told S' k'
 TellsByPieces whole f d S k told S' k' = TellsPlainly d S k told S' k'
 
--- how many blocks are held at the end, if any
-abbrev pub held_line : HoldingsSeen → List ℕ
-held_line k =
-    if held_count k == 0 then [] else codes "held " ++ decimal (held_count k) ++ codes "\n"
-
--- the same, spelled so
+-- how many blocks are held at the end, if any, spelled so
 abbrev pub held_line_as : Spelling → HoldingsSeen → List ℕ
 held_line_as spelled k =
     if held_count k == 0 then [] else spelled (still_held_row (held_count k))
 
--- blocks that cannot be proved yet are held, and what can be settled is told, in these lines
-abbrev pub telling_by_pieces : (ℕ → List Said → List ℕ) → (HoldingsSeen → List ℕ)
-    → (Ending → List ℕ) → Teller HoldingsSeen (List Said)
-telling_by_pieces lines rest ending = record {
+-- blocks that cannot be proved yet are held, and what can be settled is told, spelled so
+abbrev pub by_pieces_as : Spelling → Teller HoldingsSeen (List Said)
+by_pieces_as spelled = record {
   tells = TellsByPieces;
-  lines = lines;
+  lines = all_lines_as spelled;
   refuses = any_refuses;
   lacks_memory = any_lacks;
-  rest = rest;
+  rest = held_line_as spelled;
   has_rest = λ k. not (held_count k == 0);
-  ending = ending;
+  ending = λ e. spelled (ending_row e);
   stays = λ f S S' k k' told is. is.1;
 }
 
 -- the same as text
 abbrev pub by_pieces : Teller HoldingsSeen (List Said)
-by_pieces = telling_by_pieces all_lines held_line ending_line_of
-
--- the same, spelled so
-abbrev pub by_pieces_as : Spelling → Teller HoldingsSeen (List Said)
-by_pieces_as spelled =
-    telling_by_pieces (all_lines_as spelled) (held_line_as spelled) (λ e. spelled (ending_row e))
+by_pieces = by_pieces_as text_of
 
 -- ---- what calls do
 
@@ -137,7 +125,7 @@ by_pieces_as spelled =
 abbrev pub SaysAll : {A E : Type 0} → Spelling → ℕ → List Said → SinkSeen → SinkSeen → Outcome
     → Outcome → Result A E → Type 0
 SaysAll spelled n told out out' o o' (Ok u) = Sent out out' (all_lines_as spelled n told)
-    × IsNoted (by_pieces_as spelled) o told o'
+    × IsOutcomeAfter (by_pieces_as spelled) o told o'
 SaysAll spelled n told out out' o o' (Err e) = Broke out out' (all_lines_as spelled n told)
 
 -- the entries of a message were told, all of them or until their lines broke off

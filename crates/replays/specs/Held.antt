@@ -11,7 +11,7 @@ use Rattle.holdings.specs.declared.holding.Hold.{Hold}
 use Rattle.holdings.specs.declared.holding.Hold.TheVariants as hold
 use Rattle.holdings.specs.declared.piece_range.Pieces.{Pieces}
 use Rattle.holdings.specs.declared.run.Run.{Run}
-use Rattle.holdings.specs.Holding.{IsHeldBy}
+use Rattle.holdings.specs.Holding.{IsBlockHeldBy}
 use Rattle.holdings.specs.Holdings.{HoldingsSeen}
 use Rattle.holdings.specs.Next.{AreUnsettled, LacksMemoryNext, SettlesNext}
 use Rattle.replays.specs.declared.said.Said.{Said}
@@ -54,7 +54,7 @@ IsSaidOf S v bytes n m k (said.Entry v' m' r) k' = (v' ≡ v) × (m' ≡ m)
     × (slice_get v.refusals m ≡ Some r) × (r ≢ Some block_refusal.Unproved) × (k' ≡ k)
 IsSaidOf S v bytes n m k (said.Unproved v' m' h file) k' = (v' ≡ v) × (m' ≡ m)
     × (slice_get v.refusals m ≡ Some (Some block_refusal.Unproved))
-    × IsHeldBy k S n (v.first + m) (block bytes m) h k' × IsDroppedFrom S v.file h file
+    × IsBlockHeldBy k S n (v.first + m) (block bytes m) h k' × IsDroppedFrom S v.file h file
 IsSaidOf S v bytes n m k other k' = ⊥
 
 -- what is told of the entries from m on, one after the other
@@ -73,10 +73,6 @@ pub record ArePiecesOf (S : SessionSeen) (v : BlocksSeen) (n : ℕ) (p : Pieces)
   pub is_tree : slice_get (roots S) n ≡ Some tree
   pub from_is : p.from ≡ v.first - v.first % 2 ^ piece_span S.torrent.piece_length tree.length
   pub end_is : p.end ≡ v.first + length v.refusals
-
--- all pieces of tree n
-abbrev pub all_pieces : ℕ → Pieces
-all_pieces n = record { tree = n; from = 0; end = 2 ^ 64 - 1 }
 
 -- a session, what is held, and which pieces are still to be looked at
 pub record Work : Type 0 where

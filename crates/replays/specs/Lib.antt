@@ -5,7 +5,6 @@ pub mod Held
 pub mod Outcome
 pub mod ProvedLines
 pub mod Replay
-pub mod ReplayLines
 pub mod ReplayRows
 pub mod SaidLines
 pub mod Telling

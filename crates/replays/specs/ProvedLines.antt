@@ -28,8 +28,8 @@ abbrev pub FrameTold : Type 0
 FrameTold = Handled (List Said)
 
 -- this was told of a frame
-abbrev pub IsTold : Said → FrameTold → Type 0
-IsTold s h = (k : ℕ) × (slice_get h.told k ≡ Some s)
+abbrev pub IsToldOfFrame : Said → FrameTold → Type 0
+IsToldOfFrame s h = (k : ℕ) × (slice_get h.told k ≡ Some s)
 
 -- blocks of a file are proved
 abbrev pub proved_of : ℕ → Run → Said
@@ -50,7 +50,7 @@ pub record HoldsBlock (S : SessionSeen) (h : FrameTold) (n b : ℕ) (bytes : Lis
   pub unproved : slice_get blocks.refusals entry ≡ Some (Some block_refusal.Unproved)
   pub dropped : Option Run
   pub dropped_from : ℕ
-  pub held : IsTold (held_of blocks entry dropped dropped_from) h
+  pub held : IsToldOfFrame (held_of blocks entry dropped dropped_from) h
   pub tree_is : tree_of S blocks.file ≡ Some n
   pub block_is : b ≡ blocks.first + entry
   pub bytes_are : bytes ≡ block message entry
@@ -79,7 +79,7 @@ pub record HaveCome (frames : List FrameTold) (i : ℕ) (S : SessionSeen) (file 
 -- all blocks that are told to be proved of one of these frames have come by then
 abbrev pub AllProvedCame : List FrameTold → SessionSeen → Type 0
 AllProvedCame frames S = (i : ℕ) (h : FrameTold) → slice_get frames i ≡ Some h
-    → (file : ℕ) (run : Run) → IsTold (proved_of file run) h → HaveCome frames i S file run
+    → (file : ℕ) (run : Run) → IsToldOfFrame (proved_of file run) h → HaveCome frames i S file run
 
 -- of the frames of a replay by pieces that began with nothing held, however their lines are
 -- written: each block that is told to be proved of one has come by then, and what came last is the

@@ -27,25 +27,30 @@ use Rattle.replays.specs.declared.said.Said.TheVariants as said
 
 -- the line of frame n, whose message has this verdict; a message of blocks has one for each of them
 -- instead
-abbrev pub verdict_row : ℕ → Verdict → Row
-verdict_row n (verdict.Stored count) = stored_row n count
-verdict_row n (verdict.HashRefused r) =
+abbrev pub message_verdict_row : ℕ → Verdict → Row
+message_verdict_row n (verdict.Stored count) = stored_row n count
+message_verdict_row n (verdict.HashRefused r) =
     refused_row n (codes "H") (hash_refusal_number r) (hash_refusal_name r) []
-verdict_row n (verdict.Blocks v) = row [] []
-verdict_row n (verdict.BlockRefused r) =
+message_verdict_row n (verdict.Blocks v) = row [] []
+message_verdict_row n (verdict.BlockRefused r) =
     refused_row n (codes "P") (block_refusal_number r) (block_refusal_name r) []
-verdict_row n verdict.Answered = frame_row (codes "answered") n []
-verdict_row n verdict.Rejected = frame_row (codes "rejected") n []
-verdict_row n verdict.RejectNoted = frame_row (codes "reject noted") n []
-verdict_row n verdict.KeepAlive = frame_row (codes "keep-alive") n []
-verdict_row n (verdict.Skipped id) = skipped_row n id
-verdict_row n verdict.Noted = frame_row (codes "sent request") n []
-verdict_row n verdict.Sent = frame_row (codes "sent") n []
+message_verdict_row n verdict.Answered = frame_row (codes "answered") n []
+message_verdict_row n verdict.Rejected = frame_row (codes "rejected") n []
+message_verdict_row n verdict.RejectNoted = frame_row (codes "reject noted") n []
+message_verdict_row n verdict.KeepAlive = frame_row (codes "keep-alive") n []
+message_verdict_row n (verdict.Skipped id) = skipped_row n id
+message_verdict_row n verdict.Noted = frame_row (codes "sent request") n []
+message_verdict_row n verdict.Sent = frame_row (codes "sent") n []
 
 -- the line of frame n
 abbrev pub report_row : ℕ → FrameReport → Row
-report_row n (frame_report.Verdict v) = verdict_row n v
+report_row n (frame_report.Verdict v) = message_verdict_row n v
 report_row n (frame_report.BadFrame id len) = bad_frame_row n id len
+
+-- one line says all of it: it is no message of blocks
+abbrev pub IsOneLine : FrameReport → Type 0
+IsOneLine (frame_report.Verdict (verdict.Blocks v)) = ⊥
+IsOneLine t = Unit {0}
 
 -- the line in frame n of entry m, refused by this number and name, with its place if there are
 -- several
@@ -55,16 +60,16 @@ refused_entry_row n v m why called =
     (if length v.refusals == 1 then [] else block_items v.file (v.first + m))
 
 -- the line in frame n of entry m
-abbrev pub entry_row : ℕ → BlocksSeen → ℕ → Option BlockRefusal → Row
-entry_row n v m None = verified_row n v.file (v.first + m)
-entry_row n v m (Some r) =
+abbrev pub frame_entry_row : ℕ → BlocksSeen → ℕ → Option BlockRefusal → Row
+frame_entry_row n v m None = verified_row n v.file (v.first + m)
+frame_entry_row n v m (Some r) =
     refused_entry_row n v m (block_refusal_number r) (block_refusal_name r)
 
 -- the lines of these entries of a message, from number m on
 unfoldable pub entry_lines_as : Spelling → ℕ → BlocksSeen → ℕ → List (Option BlockRefusal) → List ℕ
 entry_lines_as spelled n v m [] = []
 entry_lines_as spelled n v m (r ∷ rs) =
-    spelled (entry_row n v m r) ++ entry_lines_as spelled n v (m + 1) rs
+    spelled (frame_entry_row n v m r) ++ entry_lines_as spelled n v (m + 1) rs
 
 -- the lines of frame n, which has this report: one, and for a message of blocks one for each
 unfoldable pub lines_as : Spelling → ℕ → FrameReport → List ℕ
@@ -90,14 +95,14 @@ hold_lines_as spelled n v m (hold.Held None) file = spelled (held_row n v.file (
 hold_lines_as spelled n v m (hold.Held (Some run)) file =
     spelled (dropped_row n file run.first run.last) ++ spelled (held_row n v.file (v.first + m))
 hold_lines_as spelled n v m hold.Known file =
-    spelled (entry_row n v m (Some block_refusal.Unproved))
+    spelled (frame_entry_row n v m (Some block_refusal.Unproved))
 hold_lines_as spelled n v m hold.NoMemory file =
     spelled (refused_entry_row n v m 5 (codes "NoMemory"))
 
 -- the lines of one thing that is told of frame n
 abbrev pub said_lines_as : Spelling → ℕ → Said → List ℕ
 said_lines_as spelled n (said.Report d) = lines_as spelled n d
-said_lines_as spelled n (said.Entry v m r) = spelled (entry_row n v m r)
+said_lines_as spelled n (said.Entry v m r) = spelled (frame_entry_row n v m r)
 said_lines_as spelled n (said.Unproved v m h file) = hold_lines_as spelled n v m h file
 said_lines_as spelled n (said.Settling file e) = spelled (settled_row n file e)
 said_lines_as spelled n said.Lacking = spelled (lacks_row n)

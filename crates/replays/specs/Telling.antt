@@ -11,7 +11,7 @@ use Rattle.replays.specs.declared.report.Ending.{Ending}
 use Rattle.replays.specs.declared.report.Outcome.{Outcome}
 use Rattle.replays.specs.Outcome.{is_fault, is_refusal, is_no_memory}
 use Rattle.lines.specs.Rows.{Spelling}
-use Rattle.replays.specs.ReplayLines.{ending_line_of, lines_of}
+use Rattle.lines.specs.Texts.{text_of}
 use Rattle.replays.specs.ReplayRows.{ending_row, lines_as}
 
 -- how frames are told, by one who keeps something beside the session
@@ -43,24 +43,19 @@ outcome_of T told kept last = record {
   fault = is_fault last;
 }
 
--- the session's report is told in these lines, and nothing is kept
-abbrev pub telling_plainly : (ℕ → FrameReport → List ℕ) → (Ending → List ℕ)
-    → Teller (Unit {0}) FrameReport
-telling_plainly lines ending = record {
+-- the session's report is told in its lines, spelled so, and nothing is kept
+abbrev pub plain_as : Spelling → Teller (Unit {0}) FrameReport
+plain_as spelled = record {
   tells = λ whole f d S k told S' k'. (told ≡ d) × (S' ≡ S);
-  lines = lines;
+  lines = lines_as spelled;
   refuses = is_refusal;
   lacks_memory = is_no_memory;
   rest = λ k. [];
   has_rest = λ k. false;
-  ending = ending;
+  ending = λ e. spelled (ending_row e);
   stays = λ f S S' k k' told is. is.1;
 }
 
 -- the same as text
 abbrev pub plain : Teller (Unit {0}) FrameReport
-plain = telling_plainly lines_of ending_line_of
-
--- the same, spelled so
-abbrev pub plain_as : Spelling → Teller (Unit {0}) FrameReport
-plain_as spelled = telling_plainly (lines_as spelled) (λ e. spelled (ending_row e))
+plain = plain_as text_of

@@ -34,7 +34,7 @@ pub record BeginsNext {Kept Told : Type 0} (T : Teller Kept Told) (cuts : Bool)
   pub step : Begins T cuts form x directed (unanswered frame report told) x'
 
 -- the outcome after this was told
-pub record IsNoted {Kept Told : Type 0} (T : Teller Kept Told) (old : Outcome) (told : Told)
+pub record IsOutcomeAfter {Kept Told : Type 0} (T : Teller Kept Told) (old : Outcome) (told : Told)
     (new : Outcome) : Type 0 where
   pub refused : new.refused ≡ (old.refused || T.refuses told)
   pub no_memory : new.no_memory ≡ (old.no_memory || T.lacks_memory told)
@@ -46,7 +46,7 @@ abbrev pub TellsFrame : {Kept Told A E : Type 0} → Teller Kept Told → ℕ �
     → Result A E → Type 0
 TellsFrame {Kept} {Told} T n f d x x' out out' o o' (Ok u) = (told : Told)
     × T.tells true f d x.0 x.1 told x'.0 x'.1 × Sent out out' (T.lines n told)
-    × IsNoted T o told o'
+    × IsOutcomeAfter T o told o'
 TellsFrame {Kept} {Told} T n f d x x' out out' o o' (Err e) = (told : Told) × (whole : Bool)
     × T.tells whole f d x.0 x.1 told x'.0 x'.1 × Broke out out' (T.lines n told)
 
@@ -64,7 +64,7 @@ abbrev pub NextReply : {Kept Told : Type 0} → Teller Kept Told → Bool → �
 NextReply {Kept} {Told} T cuts n known known' old new o o' (Ok r) =
     (form : Form) × (known' ≡ Some form) × (told : Told)
     × RespondsNext T cuts known form old.source new.source old.state new.state told r
-    × Sent old.report new.report (T.lines (n + 1) told) × IsNoted T o told o'
+    × Sent old.report new.report (T.lines (n + 1) told) × IsOutcomeAfter T o told o'
 NextReply T cuts n known known' old new o o' (Err (stop.Ended e)) =
     FindsEnding known old.source new.source e × (new.state ≡ old.state)
     × (new.report ≡ old.report) × (o' ≡ o)

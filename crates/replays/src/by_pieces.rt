@@ -1,8 +1,9 @@
 //! How frames are told if the blocks that cannot be proved yet are held.
 ghost use Rattle.std.specs.Prelude.{◌≡◌, ◌<◌, ℕ, List, IfSome, IfNone, None, Some, length};
+ghost use Rattle.holdings.specs.Holdings.{all_pieces};
 ghost use Rattle.opening.specs.Trees.{IsTreeWithRoot};
 ghost use Rattle.replays.specs.ByPieces.{SaysHashes, SaysRun, asked_in, by_pieces_as, bytes_in};
-ghost use Rattle.replays.specs.Held.{ArePiecesOf, IsFirstWith, IsRunOf, all_pieces};
+ghost use Rattle.replays.specs.Held.{ArePiecesOf, IsFirstWith, IsRunOf};
 ghost use Rattle.replays.specs.TellingOf.{TellsFrame};
 ghost use Rattle.wire.specs.declared.message.Ask.{Ask as AskSeen};
 

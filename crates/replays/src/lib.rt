@@ -15,6 +15,6 @@ mod said;
 mod settlings;
 mod telling;
 
-pub use replaying::{replay, replay_as, replay_onto};
-pub use replaying_pieces::{replay_pieces, replay_pieces_onto};
+pub use replaying::{replay, replay_onto};
+pub use replaying_pieces::replay_pieces;
 pub use report::Outcome;

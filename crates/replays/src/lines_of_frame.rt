@@ -2,8 +2,7 @@
 ghost use Rattle.std.specs.Prelude.{◌≡◌, ◌<◌, [], None, length};
 ghost use Rattle.benc.specs.Device.{Wrote};
 ghost use Rattle.lines.specs.Table.{refused_row, row_of};
-ghost use Rattle.replays.specs.ReplayLines.{IsOneLine};
-ghost use Rattle.replays.specs.ReplayRows.{entry_lines_as, entry_row, lines_as, refused_entry_row, report_row, verdict_row};
+ghost use Rattle.replays.specs.ReplayRows.{IsOneLine, entry_lines_as, frame_entry_row, lines_as, message_verdict_row, refused_entry_row, report_row};
 
 use crate::report::FrameReport;
 use benc::DeviceFault;
@@ -45,7 +44,7 @@ fn line_of_frame(number: u64, frame: &FrameReport) -> Line<'static>
 
 fn line_of_verdict(number: u64, verdict: &Verdict) -> Line<'static>
     requires { IsOneLine (FrameReport.Verdict verdict.now) }
-    ensures { row_of result ≡ verdict_row number verdict.now }
+    ensures { row_of result ≡ message_verdict_row number verdict.now }
 {
     match verdict {
         Verdict::Stored(count) => Line::Stored {
@@ -110,7 +109,7 @@ pub(crate) fn line_of_entry(
     refusal: Option<BlockRefusal>,
 ) -> Line<'static>
     requires { entry < length blocks.now.refusals }
-    ensures { row_of result ≡ entry_row number blocks.now entry refusal }
+    ensures { row_of result ≡ frame_entry_row number blocks.now entry refusal }
 {
     match refusal {
         None => line_of_verified(number, blocks, entry),
@@ -120,7 +119,7 @@ pub(crate) fn line_of_entry(
 
 fn line_of_verified(number: u64, blocks: &Blocks, entry: usize) -> Line<'static>
     requires { entry < length blocks.now.refusals }
-    ensures { row_of result ≡ entry_row number blocks.now entry None }
+    ensures { row_of result ≡ frame_entry_row number blocks.now entry None }
 {
     let (file, block) = blocks.place(entry);
     Line::Verified {

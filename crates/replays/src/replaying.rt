@@ -5,7 +5,7 @@ ghost use Rattle.replays.specs.Replay.{IsCutReport, IsReport, replay_seen};
 ghost use Rattle.replays.specs.Telling.{plain, plain_as};
 ghost use Rattle.replays.specs.TellingOf.{NextReply};
 ghost use Rattle.wire.specs.Reader.{HasRoom, IsOpen, KeepsSource};
-ghost use Rattle.wire.specs.RecordReader.{form_of, frame_reader, source_of};
+ghost use Rattle.wire.specs.RecordReader.{form_of, frame_reader, record_source_of};
 
 use crate::answering::{Answering, Unwanted};
 use crate::ending::end_replay;
@@ -64,45 +64,11 @@ pub fn replay<N: NodeMap, R: Source, W: Sink, A: Sink>(
     }
 }
 
-/// The same, but with `cuts` each message is handled exactly as `without_padding` of the crate
+/// Does what `replay` does, onto anything that takes lines, spelled as it spells them: as texts, or
+/// as JSON objects. With `cuts` each message is handled exactly as `without_padding` of the crate
 /// `padded` has it: the zeros behind the end of a file, with which a client makes its last block a
 /// whole one, are cut away. Bytes behind the end that are not all zeros stay, and so the message is
 /// refused.
-pub fn replay_as<N: NodeMap, R: Source, W: Sink, A: Sink>(
-    alloc: Global,
-    session: &mut Session<'_, N>,
-    source: &mut R,
-    report: &mut W,
-    answers: Option<&mut A>,
-    cuts: bool,
-) -> Result<Outcome, WriteFault>
-    ensures report { IfOk result (IsReport plain
-        (replay_seen cuts (R.seen source.old) session.old tt (W.seen report.old)
-        (sink_before A.seen answers.entry))
-        (replay_seen cuts (R.seen source.new) session.new tt (W.seen report.new)
-        (sink_after A.seen answers.exit))) }
-    ensures cut_report { OnErr result (IsCutReport plain
-        (replay_seen cuts (R.seen source.old) session.old tt (W.seen report.old)
-        (sink_before A.seen answers.entry))
-        (replay_seen cuts (R.seen source.new) session.new tt (W.seen report.new)
-        (sink_after A.seen answers.exit))) }
-{
-    let mut reader = RecordReader::new(alloc, source);
-    match answers {
-        Some(out) => replay_reader(session, &mut Plain, &mut reader, report, out, cuts),
-        None => replay_reader(
-            session,
-            &mut Plain,
-            &mut reader,
-            report,
-            &mut Unwanted,
-            cuts,
-        ),
-    }
-}
-
-/// The same as `replay_as`, but the lines go to anything that takes lines, spelled as it spells
-/// them: as texts, or as JSON objects.
 pub fn replay_onto<N: NodeMap, R: Source, L: LineSink, A: Sink>(
     alloc: Global,
     session: &mut Session<'_, N>,
@@ -149,14 +115,14 @@ pub(crate) fn replay_reader<N: NodeMap, K: Telling, R: Source, L: LineSink, B: A
     requires fresh { form_of reader.old ≡ None }
     ensures source { KeepsSource (frame_reader reader.old) (frame_reader reader.new) }
     ensures report { IfOk result (IsReport (K.teller L.spelled)
-        (replay_seen cuts (R.seen (source_of reader.old)) session.old (K.kept keeper.old)
+        (replay_seen cuts (R.seen (record_source_of reader.old)) session.old (K.kept keeper.old)
         (L.seen report.old) (B.seen answers.old))
-        (replay_seen cuts (R.seen (source_of reader.new)) session.new (K.kept keeper.new)
+        (replay_seen cuts (R.seen (record_source_of reader.new)) session.new (K.kept keeper.new)
         (L.seen report.new) (B.seen answers.new))) }
     ensures cut_report { OnErr result (IsCutReport (K.teller L.spelled)
-        (replay_seen cuts (R.seen (source_of reader.old)) session.old (K.kept keeper.old)
+        (replay_seen cuts (R.seen (record_source_of reader.old)) session.old (K.kept keeper.old)
         (L.seen report.old) (B.seen answers.old))
-        (replay_seen cuts (R.seen (source_of reader.new)) session.new (K.kept keeper.new)
+        (replay_seen cuts (R.seen (record_source_of reader.new)) session.new (K.kept keeper.new)
         (L.seen report.new) (B.seen answers.new))) }
 {
     match reader.reserve() {
@@ -179,14 +145,14 @@ fn replay_frames<N: NodeMap, K: Telling, R: Source, L: LineSink, B: Answering>(
     requires room { HasRoom (frame_reader reader.old) }
     ensures source { KeepsSource (frame_reader reader.old) (frame_reader reader.new) }
     ensures report { IfOk result (IsReport (K.teller L.spelled)
-        (replay_seen cuts (R.seen (source_of reader.old)) session.old (K.kept keeper.old)
+        (replay_seen cuts (R.seen (record_source_of reader.old)) session.old (K.kept keeper.old)
         (L.seen report.old) (B.seen answers.old))
-        (replay_seen cuts (R.seen (source_of reader.new)) session.new (K.kept keeper.new)
+        (replay_seen cuts (R.seen (record_source_of reader.new)) session.new (K.kept keeper.new)
         (L.seen report.new) (B.seen answers.new))) }
     ensures cut_report { OnErr result (IsCutReport (K.teller L.spelled)
-        (replay_seen cuts (R.seen (source_of reader.old)) session.old (K.kept keeper.old)
+        (replay_seen cuts (R.seen (record_source_of reader.old)) session.old (K.kept keeper.old)
         (L.seen report.old) (B.seen answers.old))
-        (replay_seen cuts (R.seen (source_of reader.new)) session.new (K.kept keeper.new)
+        (replay_seen cuts (R.seen (record_source_of reader.new)) session.new (K.kept keeper.new)
         (L.seen report.new) (B.seen answers.new))) }
 {
     let mut outcome = Outcome::default();
@@ -224,13 +190,13 @@ fn next_reply<N: NodeMap, K: Telling, R: Source, L: LineSink>(
 ) -> Result<Reply, Stop>
     requires open { IsOpen (frame_reader reader.old) }
     requires room { HasRoom (frame_reader reader.old) }
-    requires count { number + (R.seen (source_of reader.old)).limit < 2 ^ 64 }
+    requires count { number + (R.seen (record_source_of reader.old)).limit < 2 ^ 64 }
     ensures source { KeepsSource (frame_reader reader.old) (frame_reader reader.new) }
     ensures next { NextReply (K.teller L.spelled) cuts number
         (form_of reader.old) (form_of reader.new)
-        (replay_seen cuts (R.seen (source_of reader.old)) session.old (K.kept keeper.old)
+        (replay_seen cuts (R.seen (record_source_of reader.old)) session.old (K.kept keeper.old)
         (L.seen report.old) None)
-        (replay_seen cuts (R.seen (source_of reader.new)) session.new (K.kept keeper.new)
+        (replay_seen cuts (R.seen (record_source_of reader.new)) session.new (K.kept keeper.new)
         (L.seen report.new) None) outcome.old outcome.new result }
     ensures open { OnOk result (IsOpen (frame_reader reader.new)) }
     ensures room { HasRoom (frame_reader reader.new) }

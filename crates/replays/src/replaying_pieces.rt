@@ -1,7 +1,7 @@
 //! The replay of a record over a session beside which blocks are held that cannot be proved yet.
 ghost use Rattle.std.specs.Prelude.{IfOk, OnErr};
 ghost use Rattle.replays.specs.Answering.{sink_after, sink_before};
-ghost use Rattle.replays.specs.ByPieces.{by_pieces, by_pieces_as};
+ghost use Rattle.replays.specs.ByPieces.{by_pieces_as};
 ghost use Rattle.replays.specs.Replay.{IsCutReport, IsReport, replay_seen};
 
 use crate::answering::Unwanted;
@@ -14,7 +14,7 @@ use session::{NodeMap, Session};
 use std::alloc::Global;
 use wire::RecordReader;
 
-/// Replays a record as `replay_as` does, but a block whose leaf is not known is held: `held` stands
+/// Replays a record as `replay_onto` does, but holds a block whose leaf is not known: `held` stands
 /// in place of its refusal. As soon as all blocks of a piece are held or known, and its node is
 /// known, they are tried as its leaves. What became of held blocks is told after the line or lines
 /// of the frame that made it possible: `proved`, with the first and the last block of each run that
@@ -25,37 +25,8 @@ use wire::RecordReader;
 ///
 /// `false`, `dropped` and what is still held count as refusals. What is held takes no memory; if a
 /// piece that is to be tried is refused memory, the line is `refused P5 NoMemory`, and what is held
-/// stays as it was. All else is as for `replay_as`.
-pub fn replay_pieces<N: NodeMap, R: Source, W: Sink, A: Sink>(
-    alloc: Global,
-    session: &mut Session<'_, N>,
-    holdings: &mut Holdings,
-    source: &mut R,
-    report: &mut W,
-    answers: Option<&mut A>,
-    cuts: bool,
-) -> Result<Outcome, WriteFault>
-    ensures report { IfOk result (IsReport by_pieces
-        (replay_seen cuts (R.seen source.old) session.old holdings.old (W.seen report.old)
-        (sink_before A.seen answers.entry))
-        (replay_seen cuts (R.seen source.new) session.new holdings.new (W.seen report.new)
-        (sink_after A.seen answers.exit))) }
-    ensures cut_report { OnErr result (IsCutReport by_pieces
-        (replay_seen cuts (R.seen source.old) session.old holdings.old (W.seen report.old)
-        (sink_before A.seen answers.entry))
-        (replay_seen cuts (R.seen source.new) session.new holdings.new (W.seen report.new)
-        (sink_after A.seen answers.exit))) }
-{
-    let mut reader = RecordReader::new(alloc, source);
-    match answers {
-        Some(out) => replay_reader(session, holdings, &mut reader, report, out, cuts),
-        None => replay_reader(session, holdings, &mut reader, report, &mut Unwanted, cuts),
-    }
-}
-
-/// The same, but the lines go to anything that takes lines, spelled as it spells them: as texts, or
-/// as JSON objects.
-pub fn replay_pieces_onto<N: NodeMap, R: Source, L: LineSink, A: Sink>(
+/// stays as it was. All else is as for `replay_onto`.
+pub fn replay_pieces<N: NodeMap, R: Source, L: LineSink, A: Sink>(
     alloc: Global,
     session: &mut Session<'_, N>,
     holdings: &mut Holdings,

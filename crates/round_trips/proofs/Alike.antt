@@ -9,6 +9,7 @@ use Rattle.std.specs.declared.cmp.Ordering.TheVariants.{Less, Greater}
 use Rattle.std.proofs.lemmas.Bool.{ltb-true}
 use Rattle.benc.specs.Value.{Bencode, Items, Pairs, dict, int, item, list, no_items, no_pairs, pair, text}
 use Rattle.chains.specs.Chain.{Chain}
+use Rattle.chains.proofs.Chains.{Chain-each}
 use Rattle.drafts.proofs.Ordering.{less_greater}
 use Rattle.drafts.specs.Adding.{IsWith, with_layer}
 use Rattle.drafts.specs.Outline.{Outline, OutlineFile, OutlineLayer, empty_outline}
@@ -216,11 +217,9 @@ same_more path c d e d' e' one other same =
 
 same_all : (d e d' e' : Outline) (ps : List (List (List ℕ))) (cs : List (List ℕ)) → Chain DraftAdds d ps cs d' → Chain DraftAdds e ps cs e' → AreSame d e
     → AreSame d' e'
-same_all d e d' e' [] [] one other same = subst (λ x. AreSame x e') (sym one) (subst (λ y. AreSame d y) (sym other) same)
-same_all d e d' e' [] (c ∷ cs) one other same = absurd one
-same_all d e d' e' (p ∷ ps) [] one other same = absurd one
-same_all d e d' e' (p ∷ ps) (c ∷ cs) one other same =
-    same_all one.0 other.0 d' e' ps cs one.2 other.2 (same_more p c d e one.0 other.0 one.1 other.1 same)
+same_all d e d' e' ps cs one = Chain-each DraftAdds (λ a ps cs b. (g : Outline) → Chain DraftAdds g ps cs e' → AreSame a g → AreSame b e')
+    (λ a g other. subst (λ h. AreSame a h) (sym other))
+    (λ a p c mid ps cs b step rest later g other same. later other.0 other.2 (same_more p c a g mid other.0 step other.1 same)) d ps cs d' one e
 
 pub alike_write_alike : (name : List ℕ) (p : ℕ) (hybrid : Bool) (ps : List (List (List ℕ))) (cs : List (List ℕ)) (d e : Outline)
     → Chain DraftAdds (empty_outline name p hybrid) ps cs d → Chain DraftAdds (empty_outline name p hybrid) ps cs e → value_of d ≡ value_of e

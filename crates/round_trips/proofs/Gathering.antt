@@ -3,16 +3,18 @@ use Rattle.std.proofs.Common.{◌≡◌, ◌≢◌, ℕ, suc, ◌<◌, ◌≤◌
 use Rattle.std.proofs.Common.{subst, ◌∙◌, arith}
 use Rattle.std.specs.Prelude.{nat_lt}
 use Rattle.chains.specs.Chain.{Chain}
+use Rattle.chains.proofs.Chains.{Chain-each}
 use Rattle.drafts.specs.Outline.{IsOutline, Outline, OutlineFile}
 use Rattle.drafts.specs.Written.{torrent_of}
 use Rattle.std.proofs.lemmas.Bool.{cases_lt}
 use Rattle.opening.specs.Refusals.{max_torrent}
+use Rattle.folders.specs.Shelf.{KnownPaths}
 use Rattle.folders.specs.Verdicts.{Agrees}
 use Rattle.gathering.specs.Gathered.{DraftAdds, IsDraftFile}
 use Rattle.gathering.specs.Gathering.{AreContentsUnder}
 use Rattle.round_trips.proofs.Made.{AreMade, Made, put_made}
 use Rattle.round_trips.proofs.Good.{good_folder}
-use Rattle.round_trips.specs.RoundTrip.{ChecksGood, IsGatheredFrom, KnownPaths, KnowsEach}
+use Rattle.round_trips.specs.RoundTrip.{ChecksGood, IsGatheredFrom, KnowsEach}
 
 -- what a shelf is known to hold, if anything is known
 known_is : (said : Option (Option (List ℕ))) (c : List ℕ) → Agrees said (Some c) → said ≢ None → said ≡ Some (Some c)
@@ -53,12 +55,10 @@ one_more p hybrid under d e path c adds said so =
 all_made : (p : ℕ) (hybrid : Bool) (under : KnownPaths) (d e : Outline) (paths : List (List (List ℕ))) (cs : List (List ℕ)) → Chain DraftAdds d paths cs e
     → AreContentsUnder under paths cs → KnowsEach under paths
     → AreMadeIn p hybrid under d → AreMadeIn p hybrid under e
-all_made p hybrid under d e [] [] chain are said so = subst (AreMadeIn p hybrid under) (sym chain) so
-all_made p hybrid under d e [] (c ∷ cs) chain are said so = absurd chain
-all_made p hybrid under d e (q ∷ paths) [] chain are said so = absurd chain
-all_made p hybrid under d e (q ∷ paths) (c ∷ cs) chain are said so =
-    all_made p hybrid under chain.0 e paths cs chain.2 are.1 (λ n r at. said (suc n) r at)
-    (one_more p hybrid under d chain.0 q c chain.1 (known_is (under q) c are.0 (said 0 q refl)) so)
+all_made p hybrid under d e paths cs chain = Chain-each DraftAdds
+    (λ a ps cs b. AreContentsUnder under ps cs → KnowsEach under ps → AreMadeIn p hybrid under a → AreMadeIn p hybrid under b) (λ a are said so. so)
+    (λ a q c mid ps cs b adds rest later are said so. later are.1 (λ n r at. said (suc n) r at)
+    (one_more p hybrid under a mid q c adds (known_is (under q) c are.0 (said 0 q refl)) so)) d paths cs e chain
 
 pub checks_good : (under : KnownPaths) (d : Outline) → IsOutline d → IsGatheredFrom under d → ChecksGood (torrent_of d) under
 checks_good under d o from files v1 are_true readable =

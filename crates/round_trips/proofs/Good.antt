@@ -89,8 +89,8 @@ module _ (d : Outline) (cs : List (List ℕ)) (under : List (List ℕ) → Optio
               t.tree,
               ap (option_and_then (slice_get (torrent_of d).trees)) number ∙ t.there,
               record {
-                length_is = sym size ∙ x.length_is ∙ sym t.length_is;
-                root_is = sym (x.made.root_is content_some) ∙ sym t.root_is;
+                same_length = sym size ∙ x.length_is ∙ sym t.length_is;
+                same_root = sym (x.made.root_is content_some) ∙ sym t.root_is;
               },
             );
       }

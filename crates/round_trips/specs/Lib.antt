@@ -1,3 +1,5 @@
 -- What contracts of round trips cite.
 pub mod Alike
+pub mod ChangingPlaces
+pub mod Listings
 pub mod RoundTrip

@@ -5,6 +5,7 @@ use Rattle.drafts.specs.Finishing.{finish_rows}
 use Rattle.drafts.specs.Outline.{Outline, empty_outline}
 use Rattle.drafts.specs.Written.{torrent_of, value_of}
 use Rattle.filetree.specs.Tests.{NoneHolds}
+use Rattle.folders.specs.Shelf.{KnownPaths}
 use Rattle.folders.specs.Verdicts.{IsTrueOfFolder, is_yes, unreadable_count}
 use Rattle.folders.specs.declared.report.FileVerdict.{FileVerdict}
 use Rattle.folders.specs.declared.report.V1Verdict.{V1Verdict}
@@ -12,10 +13,6 @@ use Rattle.gathering.specs.Gathered.{Gathered}
 use Rattle.gathering.specs.Gathering.{AreContentsUnder}
 use Rattle.opening.specs.Describes.{Describes}
 use Rattle.opening.specs.Description.{Description}
-
--- what is known of a shelf's paths: nothing, that no file is there, or a file's bytes
-abbrev pub KnownPaths : Type 0
-KnownPaths = List (List ℕ) → Option (Option (List ℕ))
 
 -- what stands at each of these paths is known
 abbrev pub KnowsEach : KnownPaths → List (List (List ℕ)) → Type 0

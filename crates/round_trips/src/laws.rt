@@ -1,6 +1,8 @@
 //! The laws of what is gathered, and of the whole round trip.
 
 ghost use Rattle.round_trips.specs.Alike.{AlikeWriteAlike};
+ghost use Rattle.round_trips.specs.ChangingPlaces.{AddsChangePlaces};
+ghost use Rattle.round_trips.specs.Listings.{SortedListingsAreOne};
 ghost use Rattle.round_trips.specs.RoundTrip.{RoundTrips};
 
 use drafts::Draft;
@@ -21,4 +23,16 @@ pub fn gathered_checks_good(draft: &Draft)
 /// each was made: by reading the files in one go, or of what was hashed in parts.
 pub fn alike_write_alike()
     ensures { AlikeWriteAlike }
+{}
+
+/// Two lists of all that a shelf lists, each path once and in the order of the file tree, are one:
+/// what is hashed in parts has the paths that `gather` reads.
+pub fn sorted_listings_are_one()
+    ensures { SortedListingsAreOne }
+{}
+
+/// Two files that are added to a draft one after the other may change places: it is the same draft,
+/// unless both are longer than a piece and have one root, and different layers over it.
+pub fn adds_change_places()
+    ensures { AddsChangePlaces }
 {}

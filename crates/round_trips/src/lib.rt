@@ -3,4 +3,6 @@
 
 mod laws;
 
-pub use laws::{alike_write_alike, gathered_checks_good};
+pub use laws::{
+    adds_change_places, alike_write_alike, gathered_checks_good, sorted_listings_are_one,
+};

@@ -14,7 +14,7 @@ use Rattle.hashtree.proofs.Comparing.{length-layer_of}
 use Rattle.hashtree.proofs.Complete.{length-complete_nodes}
 use Rattle.opening.specs.Description.{TreeEntry}
 use Rattle.partial_tree.specs.Grown.{GrownTree}
-use Rattle.seeding.specs.Leaves.{EndsWithTree, HadFitting, HasRefused, IsFedLeaves, IsFull, Pushes, ReadsLeaves}
+use Rattle.seeding.specs.Leaves.{EndsWithTree, HadFitting, HaveLeavesRefused, IsFedLeaves, IsFull, Pushes, ReadsLeaves}
 use Rattle.seeding.specs.declared.leaves.Leaves.{Leaves}
 
 -- what holds of each error holds of the one that is answered
@@ -27,7 +27,7 @@ complete-length : (content : List ℕ) → length (complete_nodes content 0) ≡
 complete-length content = length-complete_nodes content 0 ∙ div-one ((length content - 1) / 16384)
 
 -- where memory was never refused, all leaves are kept
-pub kept-leaves : {N : Type 0} (l : Leaves N) (content : List ℕ) → IsFedLeaves l content → (HasRefused l → ⊥)
+pub kept-leaves : {N : Type 0} (l : Leaves N) (content : List ℕ) → IsFedLeaves l content → (HaveLeavesRefused l → ⊥)
     → l.tree.leaves ≡ complete_nodes content 0
 kept-leaves l content at works = elim at.leaves_are [
   | inl refused ↦ absurd (works refused)
@@ -37,7 +37,7 @@ kept-leaves l content at works = elim at.leaves_are [
 -- the next leaf is one of the file's
 pub leaf-fits : {N : Type 0} (l : Leaves N) (content more : List ℕ) (leaf : Option (List ℕ)) → IsFedLeaves l content
     → complete_nodes more 0 ≡ complete_nodes content 0 ++ option_to_list leaf → length more ≤ l.tree.length
-    → OnSome leaf (HasRefused l ⊎ (length l.tree.leaves < block_count l.tree.length))
+    → OnSome leaf (HaveLeavesRefused l ⊎ (length l.tree.leaves < block_count l.tree.length))
 leaf-fits l content more None at completed fits = tt
 leaf-fits l content more (Some x) at completed fits =
     let count : length (complete_nodes more 0) ≡ (length more - 1) / 16384 = complete-length more in
@@ -53,7 +53,7 @@ leaf-fits l content more (Some x) at completed fits =
 -- one leaf more, or none
 pub kept-leaf : {N : Type 0} (l q : Leaves N) (mid : RootBuilder) (content more : List ℕ) (leaf : Option (List ℕ)) → IsFedLeaves l content → IsFed mid more
     → complete_nodes more 0 ≡ complete_nodes content 0 ++ option_to_list leaf
-    → q.builder ≡ mid → HasRefused q ⊎ ((HasRefused l → ⊥) × (q.tree.leaves ≡ l.tree.leaves ++ option_to_list leaf)) → IsFedLeaves q more
+    → q.builder ≡ mid → HaveLeavesRefused q ⊎ ((HaveLeavesRefused l → ⊥) × (q.tree.leaves ≡ l.tree.leaves ++ option_to_list leaf)) → IsFedLeaves q more
 kept-leaf l q mid content more leaf at fed completed builder kept = record {
   fed = subst (λ b. IsFed b more) (sym builder) fed;
   leaves_are = elim kept [
@@ -67,7 +67,7 @@ kept-leaf l q mid content more leaf at fed completed builder kept = record {
 pub keeps-part : {N : Type 0} (l q : Leaves N) (mid : RootBuilder) (part : List ℕ) (leaf : Option (List ℕ)) → Feeds l.builder part mid
     → ((file : List ℕ) → IsFed l.builder file → complete_nodes (file ++ part) 0 ≡ complete_nodes file 0 ++ option_to_list leaf)
     → q.builder ≡ mid → q.tree.length ≡ l.tree.length
-    → HasRefused q ⊎ ((HasRefused l → ⊥) × (q.tree.leaves ≡ l.tree.leaves ++ option_to_list leaf)) → Pushes l part q
+    → HaveLeavesRefused q ⊎ ((HaveLeavesRefused l → ⊥) × (q.tree.leaves ≡ l.tree.leaves ++ option_to_list leaf)) → Pushes l part q
 keeps-part l q mid part leaf feeds completes builder same kept = record {
   same_length = same;
   fed = λ file at. kept-leaf l q mid file (file ++ part) leaf at (feeds.fed file at.fed) (completes file at.fed) builder kept;
@@ -82,7 +82,7 @@ length-leaves content =
     length-layer_of content (length content) 0 refl (omega arith) ∙ div-one (n + 0) ∙ none_more
 
 -- the last leaf is one of the file's
-pub last-fits : {N : Type 0} (l : Leaves N) (content : List ℕ) (last : Option (List ℕ)) (leaf : List ℕ) → IsFull l content → (HasRefused l → ⊥)
+pub last-fits : {N : Type 0} (l : Leaves N) (content : List ℕ) (last : Option (List ℕ)) (leaf : List ℕ) → IsFull l content → (HaveLeavesRefused l → ⊥)
     → complete_nodes content 0 ++ option_to_list last ≡ layer_of content 0 → last ≡ Some leaf → length l.tree.leaves < block_count l.tree.length
 last-fits l content last leaf full works nodes is =
     let all : length (layer_of content 0) ≡ block_count (length content) = length-leaves content in
@@ -94,12 +94,12 @@ last-fits l content last leaf full works nodes is =
     omega (arith, all, one, had, same)
 
 -- with the last leaf the file's leaves are all there
-pub all-leaves : {N : Type 0} (l : Leaves N) (t : GrownTree) (content : List ℕ) (last : Option (List ℕ)) → IsFull l content → (HasRefused l → ⊥)
+pub all-leaves : {N : Type 0} (l : Leaves N) (t : GrownTree) (content : List ℕ) (last : Option (List ℕ)) → IsFull l content → (HaveLeavesRefused l → ⊥)
     → complete_nodes content 0 ++ option_to_list last ≡ layer_of content 0 → t.leaves ≡ l.tree.leaves ++ option_to_list last
     → t.leaves ≡ layer_of content 0
 all-leaves l t content last full works nodes is = is ∙ ap (λ xs. xs ++ option_to_list last) (kept-leaves l content full.fed works) ∙ nodes
 
-pub all-there : {N : Type 0} (l : Leaves N) (t : GrownTree) (content : List ℕ) (last : Option (List ℕ)) → IsFull l content → (HasRefused l → ⊥)
+pub all-there : {N : Type 0} (l : Leaves N) (t : GrownTree) (content : List ℕ) (last : Option (List ℕ)) → IsFull l content → (HaveLeavesRefused l → ⊥)
     → complete_nodes content 0 ++ option_to_list last ≡ layer_of content 0 → t.leaves ≡ l.tree.leaves ++ option_to_list last
     → t.length ≡ l.tree.length
     → length t.leaves ≡ block_count t.length
@@ -121,7 +121,7 @@ module _ {N : Type 0} (e : TreeEntry) (len : ℕ) (of : len ≡ e.length) (sourc
   fitting same = (
     read.bytes,
     λ known is. all_given source source' read.bytes known read.gave read.ended is,
-    record { length_is = read.count_is ∙ of; root_is = sym (same read.bytes full) },
+    record { same_length = read.count_is ∙ of; same_root = sym (same read.bytes full) },
   )
 
   pub found : (t : Option GrownTree) → ((content : List ℕ) → IsFull after content → EndsWithTree after e.root content t)
@@ -130,11 +130,11 @@ module _ {N : Type 0} (e : TreeEntry) (len : ℕ) (of : len ≡ e.length) (sourc
       let end = ends read.bytes full in (
         read.bytes,
         λ known is. all_given source source' read.bytes known read.gave read.ended is,
-        record { length_is = read.count_is ∙ of; root_is = sym end.0 },
+        record { same_length = read.count_is ∙ of; same_root = sym end.0 },
         end.2,
       )
   found None ends = (
     read.bytes,
     λ known is. all_given source source' read.bytes known read.gave read.ended is,
-    λ fits. ends read.bytes full (sym fits.root_is),
+    λ fits. ends read.bytes full (sym fits.same_root),
   )

@@ -4,17 +4,17 @@ use Rattle.std.proofs.Common.{sym, ap, subst, arith}
 use Rattle.std.proofs.lemmas.Option.{same_Some}
 use Rattle.benc.specs.Device.{SourceSeen}
 use Rattle.benc.specs.declared.device.DeviceFault.{DeviceFault}
+use Rattle.hashtree.specs.Tree.{Fits}
 use Rattle.opening.specs.Description.{FileEntry, TreeEntry}
 use Rattle.node_maps.specs.Digest.{Hash}
-use Rattle.folders.specs.Folder.{FitsTree}
 use Rattle.folders.specs.Shelf.{more}
 use Rattle.folders.specs.Visits.{Opened}
 use Rattle.folders.specs.declared.shelf.Shelf.{Ghosts}
 use Rattle.folders.proofs.Visiting.{handed_as}
 use Rattle.session.specs.Session.{SessionSeen}
-use Rattle.seeding.specs.Giving.{FillsByTree, FillsHeld, FindsHeld, HasStated, LacksMemory}
+use Rattle.seeding.specs.Giving.{FillsByTree, FillsHeld, FindsHeld, HasStated, LacksMemoryForLeaves}
 use Rattle.seeding.specs.Leaves.{IsReadToSeed}
-use Rattle.seeding.specs.Seeding.{Finds, FindsContent, LooksByTree, LooksInto, OpensToSeed, SeedsFile, SeedsTree, StopsAtFile, shelf_and_session}
+use Rattle.seeding.specs.Seeding.{FindsContent, FindsLeaves, LooksByTree, LooksInto, OpensToSeed, SeedsFile, SeedsTree, StopsAtFile, shelf_and_session}
 
 -- ---- what was found
 
@@ -26,14 +26,14 @@ held_length known len None faults finds = tt
 
 -- what is found of a tree's leaves
 finds_leaves : (known : Option (Option (List ℕ))) (e : TreeEntry) (len : ℕ) (content : Option (List ℕ)) (found : Option (List Hash)) (faults : ℕ)
-    → e.length ≡ len → FindsContent known len content faults → FindsHeld e content found → Finds known e found faults
+    → e.length ≡ len → FindsContent known len content faults → FindsHeld e content found → FindsLeaves known e found faults
 finds_leaves known e len (Some bytes) (Some leaves) faults same (quiet, agrees, long) (fits, are) = (quiet, bytes, agrees, fits, are)
 finds_leaves known e len (Some bytes) None faults same (quiet, agrees, long) not =
-    inr (quiet, Some bytes, agrees, λ b is fits. not (subst (FitsTree e) (sym (same_Some bytes b is)) fits))
+    inr (quiet, Some bytes, agrees, λ b is fits. not (subst (λ c. Fits c e.length e.root) (sym (same_Some bytes b is)) fits))
 finds_leaves known e len None (Some leaves) faults same finds held = absurd held
 finds_leaves known e len None None faults same (inl one) held = inl one
 finds_leaves known e len None None faults same (inr (quiet, content, agrees, other)) held =
-    inr (quiet, content, agrees, λ b is fits. other b is (fits.length_is ∙ same))
+    inr (quiet, content, agrees, λ b is fits. other b is (fits.same_length ∙ same))
 
 module _ {S F : Type 0} (shelf : Ghosts S F) (seen : F → SourceSeen) where
   -- a content that was read to its end was read no further than a byte past its length
@@ -84,7 +84,7 @@ module _ {S F : Type 0} (shelf : Ghosts S F) (seen : F → SourceSeen) where
 
   -- memory was refused for it
   pub stops_held : (s s' : S) (K K' : SessionSeen) (f : FileEntry) (content : Option (List ℕ)) → LooksByTree shelf seen s f f.tree content s'
-      → LacksMemory K f content K' → StopsAtFile shelf seen (shelf_and_session s K) f (shelf_and_session s' K')
+      → LacksMemoryForLeaves K f content K' → StopsAtFile shelf seen (shelf_and_session s K) f (shelf_and_session s' K')
   stops_held s s' K K' f content looks lacks =
       let (bytes, is, fits) = lacks.fits in
       let into = subst (λ c. LooksInto shelf seen s f c s') is (subst (λ t. LooksByTree shelf seen s f t content s') lacks.number_is looks) in

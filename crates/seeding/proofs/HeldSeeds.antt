@@ -11,9 +11,9 @@ use Rattle.hashtree.specs.Tree.{block_count}
 use Rattle.opening.specs.Description.{FileEntry}
 use Rattle.session.specs.Session.{SessionSeen}
 use Rattle.lines.specs.declared.out_fault.OutFault.TheVariants as fault
-use Rattle.seeding.specs.Giving.{FillsByTree, HasBlocks, HasStated, LacksMemory}
+use Rattle.seeding.specs.Giving.{FillsByTree, HasHeldBlocks, HasStated, LacksMemoryForLeaves}
 use Rattle.seeding.specs.Seeding.{SeedStep, SeedsFiles, StopsAtFile, shelf_and_session}
-use Rattle.seeding.specs.Together.{HoldsFrom, IsHeldAs, IsHeldFrom, SeedsNext, StandsHashed, StopsNext, left}
+use Rattle.seeding.specs.Together.{HoldsFrom, IsHeldAs, IsHeldFrom, SeedsNext, StandsHashed, StopsNext, held_left}
 use Rattle.seeding.specs.declared.ahead.Ahead.{Ahead}
 use Rattle.seeding.specs.declared.ahead.Held.{Held}
 use Rattle.seeding.specs.declared.ahead.Held.TheVariants as held
@@ -33,7 +33,7 @@ on_err_then P Q (Err e) holds more = more holds
 
 -- the blocks of what is held are in the window
 pub has_blocks : (w : Window) (h : Held) (content : Option (List ℕ)) (len : ℕ) → IsHeldAs (StandsHashed w) h content → HasStated len content
-    → HasBlocks h len
+    → HasHeldBlocks h len
 has_blocks w held.Nothing content len is long = tt
 has_blocks w (held.Whole first) None len is long = absurd is
 has_blocks w (held.Whole first) (Some bytes) len is long = omega (arith, is.stands.has.within, w.within, ap block_count long)
@@ -41,8 +41,8 @@ has_blocks w (held.Whole first) (Some bytes) len is long = omega (arith, is.stan
 module _ {S F : Type 0} (shelf : Ghosts S F) (seen : F → SourceSeen) (files : List FileEntry) (n : ℕ) (f : FileEntry) (there : slice_get files n ≡ Some f)
     (K K' : SessionSeen) (s s' : S) where
   -- ---- the next file is held
-  module _ (blocks : Window) (one : Held) (after : Ahead) (few : length (left after) < 64)
-      (next : IsNextHeld shelf seen files (StandsHashed blocks) n s f one (left after) s') where
+  module _ (blocks : Window) (one : Held) (after : Ahead) (few : length (held_left after) < 64)
+      (next : IsNextHeld shelf seen files (StandsHashed blocks) n s f one (held_left after) s') where
     -- what is left is held
     abbrev pub rest_held : HeldFiles
     rest_held = record { files = after; blocks = blocks }
@@ -57,21 +57,21 @@ module _ {S F : Type 0} (shelf : Ghosts S F) (seen : F → SourceSeen) (files : 
       file_is = there;
       after = next.after;
       step = seeds_held shelf seen s next.after K K' f f.tree next.content seeded next.looks.looks fills;
-      behind = looks_behind shelf seen files (StandsHashed blocks) n f next.after s' (left after) few (inr next.looks.small) next.rest;
+      behind = looks_behind shelf seen files (StandsHashed blocks) n f next.after s' (held_left after) few (inr next.looks.small) next.rest;
       held = next.rest;
     }
 
-    pub stops_next : LacksMemory K f next.content K' → StopsNext shelf seen files n (shelf_and_session s K) (shelf_and_session s' K')
+    pub stops_next : LacksMemoryForLeaves K f next.content K' → StopsNext shelf seen files n (shelf_and_session s K) (shelf_and_session s' K')
     stops_next lacks = record {
       file = f;
       file_is = there;
       after = next.after;
       stops = stops_held shelf seen s next.after K K' f next.content next.looks.looks lacks;
-      behind = looks_behind shelf seen files (StandsHashed blocks) n f next.after s' (left after) few (inr next.looks.small) next.rest;
+      behind = looks_behind shelf seen files (StandsHashed blocks) n f next.after s' (held_left after) few (inr next.looks.small) next.rest;
     }
 
   -- ---- nothing is held
-  module _ (h : HeldFiles) (none : left h.files ≡ []) (before : S) (same : before ≡ s) where
+  module _ (h : HeldFiles) (none : held_left h.files ≡ []) (before : S) (same : before ≡ s) where
     pub seeds_alone : (seeded : Bool) → SeedStep shelf seen (shelf_and_session before K) f seeded (shelf_and_session s' K')
         → SeedsNext shelf seen files n (shelf_and_session s K) seeded h (shelf_and_session s' K')
     seeds_alone seeded step = record {
@@ -105,7 +105,7 @@ module _ {S F : Type 0} (shelf : Ghosts S F) (seen : F → SourceSeen) (line : F
     pub first : InSeed shelf seen line old (shelf_and_session mid new.1) report report' files n
     pub held : IsHeldFrom shelf seen files n mid h new.0
 
-  pub ahead_none : (old : S × SessionSeen) (report : SinkSeen) (files : List FileEntry) (h : HeldFiles) → left h.files ≡ []
+  pub ahead_none : (old : S × SessionSeen) (report : SinkSeen) (files : List FileEntry) (h : HeldFiles) → held_left h.files ≡ []
       → InSeedAhead old old report report files 0 h
   ahead_none old report files h none = record {
     mid = old.0;

@@ -1,17 +1,17 @@
 -- Small files that are visited one after the other, before a session is given any of them.
 use Rattle.std.proofs.Common.{◌≡◌, ◌⊎◌, ◌∙◌, ℕ, suc, zero, ◌+◌, ◌-◌, ◌<◌, ◌≤◌, inl, inr, List, [], ◌∷◌, ◌++◌, length, take, drop, slice_get, Option, Some, None}
 use Rattle.std.proofs.Common.{refl, sym, ap, subst, arith, take-take}
-use Rattle.std.proofs.lemmas.List.{drop-take, drop_all, get_or-drop, length-drop, length_push, nil_from_length}
-use Rattle.std.proofs.lemmas.Option.{get_or_from_slice_get, same_Some, slice_get_within}
+use Rattle.std.proofs.lemmas.List.{drop-take, drop_all, length_push, nil_from_length}
 use Rattle.benc.specs.Device.{SourceSeen}
 use Rattle.block_windows.specs.Files.{IsHashed, bytes_at}
 use Rattle.block_windows.specs.declared.files.Window.{Window}
 use Rattle.chains.specs.Chain.{Chain}
-use Rattle.chains.proofs.Chains.{Chain-next}
+use Rattle.chains.proofs.Cases.{drop_item}
+use Rattle.chains.proofs.Chains.{Chain-from}
 use Rattle.folders.specs.declared.shelf.Shelf.{Ghosts}
 use Rattle.opening.specs.Description.{FileEntry}
-use Rattle.seeding.specs.Seeding.{IsSmall, LooksAhead, LooksBehind}
-use Rattle.seeding.specs.Together.{AreHeldAs, HoldsFrom, IsHeldAs, KeepsFiles, Stands, StandsHashed}
+use Rattle.seeding.specs.Seeding.{IsSmallFile, LooksAhead, LooksBehind}
+use Rattle.seeding.specs.Together.{AreHeldAs, HoldsFrom, IsHeldAs, KeepsWindowFiles, Stands, StandsHashed}
 use Rattle.seeding.specs.declared.ahead.Held.{Held}
 use Rattle.seeding.specs.declared.ahead.Held.TheVariants as held
 
@@ -29,7 +29,7 @@ same_bytes used start size room room' same le = within room' ∙ ap (λ r. take 
         sym (ap (λ k. take size (drop start (take k r))) (sym split) ∙ ap (take size) (drop-take start m r)
         ∙ take-take size m (drop start r) (omega (arith, le)))
 
-pub stands_later : (w w' : Window) (room room' : List ℕ) (used used' : ℕ) → KeepsFiles w w' → take used room' ≡ take used room → used ≤ used'
+pub stands_later : (w w' : Window) (room room' : List ℕ) (used used' : ℕ) → KeepsWindowFiles w w' → take used room' ≡ take used room → used ≤ used'
     → (first : ℕ) (bytes : List ℕ) → Stands w room used first bytes → Stands w' room' used' first bytes
 stands_later w w' room room' used used' keeps same le first bytes at = record {
   start = at.start;
@@ -66,14 +66,6 @@ are_many P [] (d ∷ cs) at = absurd at
 are_many P (g ∷ hs) [] at = absurd at
 are_many P (g ∷ hs) (d ∷ cs) (first, rest) = ap suc (are_many P hs cs rest)
 
--- an item, and what follows it
-drop_item : {A : Type 0} (xs : List A) (n : ℕ) (x : A) → slice_get xs n ≡ Some x → drop n xs ≡ x ∷ drop (n + 1) xs
-drop_item [] n x is = (let no : ⊥ = cc in absurd no)
-drop_item (y ∷ xs) zero x is = ap (λ z. z ∷ xs) (same_Some y x is)
-drop_item (y ∷ xs) (suc n) x is =
-    let e : suc n + 1 ≡ suc (n + 1) = omega arith in
-    drop_item xs n x is ∙ ap (λ k. x ∷ drop k (y ∷ xs)) (sym e)
-
 take_nothing : {A : Type 0} (n : ℕ) (xs : List A) → xs ≡ [] → take n xs ≡ []
 take_nothing zero xs none = refl
 take_nothing (suc n) [] none = refl
@@ -91,14 +83,10 @@ module _ {S F : Type 0} (shelf : Ghosts S F) (seen : F → SourceSeen) (files : 
       → slice_get files (from + length hs) ≡ Some f → LooksAhead shelf seen mid f c s' → IsHeldAs Q h c
       → HoldsFrom shelf seen Q files from s (hs ++ h ∷ []) s'
   holds_more P Q from s mid s' hs f h c later so_far there looks is =
-      let inside : from + length hs < length files = slice_get_within files (from + length hs) f there in
-      let step = subst (λ g. LooksAhead shelf seen mid g c s')
-      (sym (get_or-drop from files (length hs) f ∙ get_or_from_slice_get files (from + length hs) f f there)) looks in
       record {
         contents = so_far.contents ++ c ∷ [];
         run = subst (λ k. Chain (LooksAhead shelf seen) s (take k (drop from files)) (so_far.contents ++ c ∷ []) s') (sym (length_push hs h))
-            (Chain-next (LooksAhead shelf seen) s mid s' (drop from files) (length hs) so_far.contents f c
-            (omega (arith, inside, length-drop from files)) so_far.run step);
+            (Chain-from (LooksAhead shelf seen) s mid s' files from (length hs) so_far.contents f c there so_far.run looks);
         are = are_more Q hs so_far.contents h c (are_later P Q later hs so_far.contents so_far.are) is;
       }
 
@@ -111,7 +99,7 @@ module _ {S F : Type 0} (shelf : Ghosts S F) (seen : F → SourceSeen) (files : 
   }
 
   -- the blocks of the window are hashed
-  pub holds_hashed : (w w' : Window) (room : List ℕ) (used from : ℕ) (s s' : S) (hs : List Held) → used ≤ length room → KeepsFiles w w' → IsHashed w' room
+  pub holds_hashed : (w w' : Window) (room : List ℕ) (used from : ℕ) (s s' : S) (hs : List Held) → used ≤ length room → KeepsWindowFiles w w' → IsHashed w' room
       → HoldsFrom shelf seen (Stands w room used) files from s hs s' → HoldsFrom shelf seen (StandsHashed w') files from s hs s'
   holds_hashed w w' room used from s s' hs le keeps hashed =
       holds_later (Stands w room used) (StandsHashed w') from s s' hs (λ first bytes at. record {
@@ -162,7 +150,7 @@ module _ {S F : Type 0} (shelf : Ghosts S F) (seen : F → SourceSeen) (files : 
         (subst (λ fs. Chain (LooksAhead shelf seen) s fs holds.contents s') (take_nothing (length hs) (drop n files) (drop_all n files all)) holds.run)
 
     -- and those behind it
-    pub looks_behind : (n : ℕ) (f : FileEntry) (s s' : S) (hs : List Held) → length hs < 64 → (hs ≡ []) ⊎ IsSmall f
+    pub looks_behind : (n : ℕ) (f : FileEntry) (s s' : S) (hs : List Held) → length hs < 64 → (hs ≡ []) ⊎ IsSmallFile f
         → HoldsFrom shelf seen P files (n + 1) s hs s' → LooksBehind shelf seen files n f s s'
     looks_behind n f s s' hs few small holds =
         let many = are_many P hs holds.contents holds.are in

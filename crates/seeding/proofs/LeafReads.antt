@@ -2,13 +2,13 @@
 use Rattle.std.proofs.Common.{◌≡◌, inl, inr, ℕ, Bool, true, false, List, Option, Some, None, option_map, Result, Ok, Err, IfOk, IfSome, OnErr, is_some}
 use Rattle.std.proofs.Common.{refl, sym, ◌∙◌, ap, subst, arith}
 use Rattle.benc.specs.Device.{SourceSeen, one_more}
+use Rattle.hashtree.specs.Tree.{Fits}
 use Rattle.opening.specs.Description.{TreeEntry}
 use Rattle.node_maps.specs.Digest.{Hash}
 use Rattle.std.proofs.lemmas.Option.{same_Some}
-use Rattle.folders.specs.Folder.{FitsTree}
 use Rattle.folders.specs.Shelf.{IsFound, more}
 use Rattle.partial_tree.specs.Grown.{GrownTree}
-use Rattle.seeding.specs.Seeding.{Finds, HasFitting, OpensToFind, OpensToSeed}
+use Rattle.seeding.specs.Seeding.{FindsLeaves, HasFitting, OpensToFind, OpensToSeed}
 use Rattle.folders.specs.TakeAll.{ReadAll, TookAll}
 use Rattle.folders.specs.declared.taking.ReadFault.{ReadFault}
 use Rattle.folders.specs.declared.taking.ReadFault.TheVariants as fault
@@ -23,11 +23,11 @@ pub other_length : {T : Type 0} (e : TreeEntry) (len : ℕ) (took : T → List �
     → len ≡ e.length → ReadAll took source source' len before after r → (r ≡ Some len → ⊥) → ReadsLeaves e source.left None
 other_length e len took source source' before after None of read other =
     let longer = longer_content source.left source'.left read.0 read.1.given in
-    (longer.0, longer.2, λ fits. omega (arith, longer.1, read.2, fits.length_is, of))
+    (longer.0, longer.2, λ fits. omega (arith, longer.1, read.2, fits.same_length, of))
 other_length e len took source source' before after (Some count) of read other = (
   read.bytes,
   λ known is. all_given source source' read.bytes known read.gave read.ended is,
-  λ fits. other (ap Some (sym read.count_is ∙ fits.length_is ∙ sym of)),
+  λ fits. other (ap Some (sym read.count_is ∙ fits.same_length ∙ sym of)),
 )
 
 -- ---- how far it was read
@@ -48,14 +48,14 @@ read_stopped len source source' r e f is same holds = subst (ReadsSoFar len sour
 -- a file was opened, read without a fault, and handed back
 pub finds_read : (said : Option (Option (List ℕ))) (left : Option (List ℕ)) (e : TreeEntry) (found : Option (List Hash)) (old mid new own own' : ℕ)
     → IsFound said (Some left) → ReadsLeaves e left found → mid ≡ old → own ≡ 0 → own' ≡ own → new ≡ more mid own'
-    → (n : ℕ) × (new ≡ more old n) × Finds said e found n
+    → (n : ℕ) × (new ≡ more old n) × FindsLeaves said e found n
 finds_read said left e (Some leaves) old mid new own own' at (bytes, is, fits, are) same fresh quiet counted =
     (0, counted ∙ ap (more mid) (quiet ∙ fresh) ∙ same, (refl, bytes, agrees_opened said left bytes at is, fits, are))
 finds_read said left e None old mid new own own' at (bytes, is, not) same fresh quiet counted = (
   0,
   counted ∙ ap (more mid) (quiet ∙ fresh)
       ∙ same,
-  inr (refl, Some bytes, agrees_opened said left bytes at is, λ b known fits. not (subst (FitsTree e) (sym (same_Some bytes b known)) fits)),
+  inr (refl, Some bytes, agrees_opened said left bytes at is, λ b known fits. not (subst (λ c. Fits c e.length e.root) (sym (same_Some bytes b known)) fits)),
 )
 
 -- ---- a visit
@@ -77,7 +77,7 @@ module _ {S F : Type 0} (shelf : Ghosts S F) (seen : F → SourceSeen) (e : Tree
 
   pub visit_finds : (r : Result (Option GrownTree) ReadFault) → ReadsFound shelf seen (ReadsTree e) s path r s'
       → IfOk (found_of r) (λ found. (n : ℕ) × (shelf.faults s' ≡ more (shelf.faults s) n)
-      × Finds ((shelf.contents s).under path) e (option_map (λ t. t.leaves) found) n)
+      × FindsLeaves ((shelf.contents s).under path) e (option_map (λ t. t.leaves) found) n)
   visit_finds (Ok found) v =
       finds_read ((shelf.contents s).under path) (seen v.file).left e (option_map (λ t. t.leaves) found) (shelf.faults s) (shelf.faults s) (shelf.faults s')
       (seen v.file).faults (seen v.handed.read).faults v.found v.handed.reading.read refl v.fresh v.handed.reading.counts v.counted

@@ -1,20 +1,19 @@
 -- Seeding, file by file.
-use Rattle.std.proofs.Common.{◌≡◌, ℕ, suc, ◌+◌, ◌<◌, ◌≤◌, ◌++◌, Bool, true, false, List, [], ◌∷◌, length, take, Option, Some, None, refl, sym, ap, ◌∙◌, subst}
+use Rattle.std.proofs.Common.{◌≡◌, ℕ, ◌+◌, ◌≤◌, ◌++◌, Bool, true, false, List, [], ◌∷◌, length, take, Option, Some, None, refl, sym, ap, ◌∙◌, subst}
 use Rattle.std.proofs.Common.{append_assoc, arith}
 use Rattle.std.specs.Prelude.{slice_get}
 use Rattle.std.proofs.lemmas.List.{append-nil, length_push, length-take-le}
-use Rattle.std.proofs.lemmas.Option.{slice_get_within, get_or_from_slice_get}
-use Rattle.std.proofs.Math.Seq.{take-suc}
+use Rattle.std.proofs.lemmas.Option.{slice_get_within}
 use Rattle.folders.specs.declared.shelf.Shelf.{Ghosts}
 use Rattle.benc.specs.Device.{SourceSeen, SinkSeen, Sent}
 use Rattle.benc.proofs.Out.{Sent-append}
-use Rattle.chains.proofs.Chains.{Chain-next}
-use Rattle.lines.specs.Texts.{items_text, text_of}
+use Rattle.chains.proofs.Cases.{taken_more}
+use Rattle.chains.proofs.Chains.{Chain-item}
 use Rattle.opening.specs.Description.{FileEntry, TreeEntry}
 use Rattle.node_maps.specs.Digest.{Hash}
 use Rattle.folders.specs.Shelf.{more}
 use Rattle.session.specs.Session.{SessionSeen}
-use Rattle.seeding.specs.Seeding.{Fills, Finds, HasFitting, OpensToSeed, SeedStep, SeedsAll, SeedsTree, StopsAtFile, seed_line, seed_line_as, seed_lines}
+use Rattle.seeding.specs.Seeding.{FillsLeaves, FindsLeaves, HasFitting, OpensToSeed, SeedStep, SeedsAll, SeedsTree, StopsAtFile, seed_lines}
 use Rattle.seeding.specs.Seeding.{shelf_and_session}
 
 -- ---- lines
@@ -28,26 +27,17 @@ lines_more line (g ∷ fs) (c ∷ said) f b same =
     let rest : length said ≡ length fs = omega arith in
     ap (λ t. line g c ++ t) (lines_more line fs said f b rest) ∙ sym (append_assoc (line g c) (seed_lines line fs said) (line f b))
 
--- the line of a file as text is its row as it is printed
-line_is : (f : FileEntry) (seeded : Bool) → seed_line_as text_of f seeded ≡ seed_line f seeded
-unfolding items_text
-line_is f true = refl
-line_is f false = refl
-
-pub lines_are : seed_line_as text_of ≡ seed_line
-lines_are = λ i f seeded. line_is f seeded i
-
 -- ---- one file
 
 module _ {S F : Type 0} (shelf : Ghosts S F) (seen : F → SourceSeen) where
   -- what was found of a file's leaves, and with how many faults
   abbrev pub Found : S → FileEntry → TreeEntry → Option (List Hash) → S → Type 0
-  Found s f e leaves s' = (k : ℕ) × (shelf.faults s' ≡ more (shelf.faults s) k) × Finds ((shelf.contents s).under f.path) e leaves k
+  Found s f e leaves s' = (k : ℕ) × (shelf.faults s' ≡ more (shelf.faults s) k) × FindsLeaves ((shelf.contents s).under f.path) e leaves k
 
   -- a file's leaves were found
   pub seeds_filled : (seeded : Bool) (s s' : S) (K K' : SessionSeen) (f : FileEntry) (n : ℕ) (e : TreeEntry) (leaves : List Hash)
       → slice_get K.torrent.trees n ≡ Some e → e.length ≡ f.length → OpensToSeed shelf seen s f.path e.length true s' → Found s f e (Some leaves) s'
-      → shelf.contents s' ≡ shelf.contents s → Fills K n (Some leaves) seeded K'
+      → shelf.contents s' ≡ shelf.contents s → FillsLeaves K n (Some leaves) seeded K'
       → SeedsTree shelf seen (shelf_and_session s K) f n seeded (shelf_and_session s' K')
   seeds_filled seeded s s' K K' f n e leaves tree same visited found stays fills = record {
     tree = e;
@@ -107,17 +97,13 @@ module _ {S F : Type 0} (shelf : Ghosts S F) (seen : F → SourceSeen) where
       → slice_get files n ≡ Some f → InSeed line old mid report between files n → SeedStep shelf seen mid f seeded new
       → Sent between report' (line f seeded) → InSeed line old new report report' files (n + 1)
   in_seed_more line old mid new report between report' files n f seeded there so_far step went =
-      let inside : n < length files = slice_get_within files n f there in
-      let at = get_or_from_slice_get files n f f there in
-      let few : n ≤ length files = omega arith in
+      let few : n ≤ length files = omega (arith, slice_get_within files n f there) in
       let same : length so_far.each ≡ length (take n files) = so_far.count ∙ sym (length-take-le n files few) in
-      let next : take (n + 1) files ≡ take n files ++ f ∷ [] = (let e : n + 1 ≡ suc n = omega arith in ap (λ k. take k files) e) ∙ take-suc files n f inside
-      ∙ ap (λ g. take n files ++ g ∷ []) at in
+      let next : take (n + 1) files ≡ take n files ++ f ∷ [] = taken_more files n f there in
       record {
         each = so_far.each ++ seeded ∷ [];
         count = length_push so_far.each seeded ∙ ap (λ k. k + 1) so_far.count;
-        run = Chain-next (SeedStep shelf seen) old mid new files n so_far.each f seeded inside so_far.run
-            (subst (λ h. SeedStep shelf seen mid h seeded new) (sym at) step);
+        run = Chain-item (SeedStep shelf seen) old mid new files n so_far.each f seeded there so_far.run step;
         sent = subst (Sent report report')
             (sym (ap (λ fs. seed_lines line fs (so_far.each ++ seeded ∷ [])) next ∙ lines_more line (take n files) so_far.each f seeded same))
             (Sent-append report between report' (seed_lines line (take n files) so_far.each) (line f seeded) so_far.sent went);

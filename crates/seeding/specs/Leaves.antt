@@ -5,10 +5,9 @@ use Rattle.std.specs.declared.alloc.AllocError.{AllocError}
 use Rattle.benc.specs.Device.{SourceSeen}
 use Rattle.hashtree.specs.Complete.{complete_nodes}
 use Rattle.hashtree.specs.RootBuilder.{IsFed}
-use Rattle.hashtree.specs.Tree.{layer_of, root_of}
+use Rattle.hashtree.specs.Tree.{Fits, layer_of, root_of}
 use Rattle.opening.specs.Description.{TreeEntry}
 use Rattle.node_maps.specs.Digest.{Hash}
-use Rattle.folders.specs.Folder.{FitsTree}
 use Rattle.folders.specs.TakeAll.{CountsReading, IsReadWithin}
 use Rattle.folders.specs.Verdicts.{Agrees}
 use Rattle.folders.specs.declared.taking.ReadFault.{ReadFault}
@@ -17,14 +16,14 @@ use Rattle.partial_tree.specs.Grown.{GrownTree}
 use Rattle.seeding.specs.declared.leaves.Leaves.{Leaves}
 
 -- memory was refused for a leaf, and no further leaf is kept
-abbrev pub HasRefused : {N : Type 0} → Leaves N → Type 0
-HasRefused l = l.is_refused ≡ true
+abbrev pub HaveLeavesRefused : {N : Type 0} → Leaves N → Type 0
+HaveLeavesRefused l = l.is_refused ≡ true
 
 -- this content was given, and the tree has the leaves of its blocks that are complete, unless
 -- memory was refused
 pub record IsFedLeaves {N : Type 0} (l : Leaves N) (content : List ℕ) : Type 0 where
   pub fed : IsFed l.builder content
-  pub leaves_are : HasRefused l ⊎ (l.tree.leaves ≡ complete_nodes content 0)
+  pub leaves_are : HaveLeavesRefused l ⊎ (l.tree.leaves ≡ complete_nodes content 0)
 
 -- these further bytes were given
 pub record Pushes {N : Type 0} (old : Leaves N) (bytes : List ℕ) (new : Leaves N) : Type 0 where
@@ -55,12 +54,13 @@ EndsWithTree l root content None = root ≢ root_of content
 -- tree, and else nothing
 abbrev pub ReadsLeaves : TreeEntry → Option (List ℕ) → Option (List Hash) → Type 0
 ReadsLeaves e left (Some leaves) =
-    (bytes : List ℕ) × Agrees left bytes × FitsTree e bytes × (leaves ≡ layer_of bytes 0)
-ReadsLeaves e left None = (bytes : List ℕ) × Agrees left bytes × ¬ FitsTree e bytes
+    (bytes : List ℕ) × Agrees left bytes × Fits bytes e.length e.root
+    × (leaves ≡ layer_of bytes 0)
+ReadsLeaves e left None = (bytes : List ℕ) × Agrees left bytes × ¬ Fits bytes e.length e.root
 
 -- a source that had this to give has a content that fits the tree
 abbrev pub HadFitting : TreeEntry → Option (List ℕ) → Type 0
-HadFitting e left = (bytes : List ℕ) × Agrees left bytes × FitsTree e bytes
+HadFitting e left = (bytes : List ℕ) × Agrees left bytes × Fits bytes e.length e.root
 
 -- how much was read of an opened file of a stated length: all of it and nothing after it, if the
 -- content fits; else a byte past that length at most

@@ -1,18 +1,17 @@
 -- What seeding a session from a shelf does: to each file of its torrent once, in order. `shelf`
 -- stands for what the shelf's type says of its shelves, and `seen` for what its files say.
-use Rattle.std.specs.Prelude.{◌≡◌, ◌≢◌, ◌⊎◌, ℕ, ◌+◌, ◌<◌, ◌≤◌, ◌++◌, Bool, true, false, List, [], ◌∷◌, length, take, drop, slice_get, codes}
+use Rattle.std.specs.Prelude.{◌≡◌, ◌≢◌, ◌⊎◌, ℕ, ◌+◌, ◌<◌, ◌≤◌, ◌++◌, Bool, true, false, List, [], ◌∷◌, length, take, drop, slice_get}
 use Rattle.std.specs.Prelude.{Option, Some, None, is_some, Result, Ok, Err}
 use Rattle.benc.specs.Device.{SourceSeen, SinkSeen, Sent, Broke, SentAndFlushed}
 use Rattle.benc.specs.declared.device.DeviceFault.{DeviceFault}
 use Rattle.chains.specs.Chain.{Chain}
-use Rattle.hashtree.specs.Tree.{layer_of}
+use Rattle.hashtree.specs.Tree.{Fits, layer_of}
 use Rattle.printing.specs.Cut.{Unflushed}
-use Rattle.printing.specs.Text.{path_text}
 use Rattle.lines.specs.Rows.{Row, Spelling}
 use Rattle.lines.specs.Table.{not_seeded_row, seeded_row}
+use Rattle.lines.specs.Texts.{text_of}
 use Rattle.opening.specs.Description.{FileEntry, TreeEntry}
 use Rattle.node_maps.specs.Digest.{Hash}
-use Rattle.folders.specs.Folder.{FitsTree}
 use Rattle.folders.specs.Shelf.{more}
 use Rattle.folders.specs.Verdicts.{Agrees}
 use Rattle.folders.specs.Visits.{Opened}
@@ -28,14 +27,15 @@ use Rattle.lines.specs.declared.out_fault.OutFault.TheVariants as fault
 
 -- what stands at a path does not fit the tree: nothing, or other bytes
 abbrev pub DoesNotFit : TreeEntry → Option (List ℕ) → Type 0
-DoesNotFit e content = (bytes : List ℕ) → content ≡ Some bytes → ¬ FitsTree e bytes
+DoesNotFit e content = (bytes : List ℕ) → content ≡ Some bytes → ¬ Fits bytes e.length e.root
 
 -- What was found at a path of which this is known, with this many faults: the leaves of a
 -- content that fits the tree; or a content that does not, or a fault.
-abbrev pub Finds : Option (Option (List ℕ)) → TreeEntry → Option (List Hash) → ℕ → Type 0
-Finds known e (Some leaves) faults = (faults ≡ 0) × (bytes : List ℕ) × Agrees known (Some bytes)
-    × FitsTree e bytes × (leaves ≡ layer_of bytes 0)
-Finds known e None faults = (faults ≡ 1)
+abbrev pub FindsLeaves : Option (Option (List ℕ)) → TreeEntry → Option (List Hash) → ℕ → Type 0
+FindsLeaves known e (Some leaves) faults =
+    (faults ≡ 0) × (bytes : List ℕ) × Agrees known (Some bytes)
+    × Fits bytes e.length e.root × (leaves ≡ layer_of bytes 0)
+FindsLeaves known e None faults = (faults ≡ 1)
     ⊎ ((faults ≡ 0) × (content : Option (List ℕ)) × Agrees known content × DoesNotFit e content)
 
 -- this is no content of that length
@@ -53,30 +53,21 @@ FindsContent known len None faults = (faults ≡ 1)
 
 -- what stands at a path of which this is known fits the tree
 abbrev pub HasFitting : Option (Option (List ℕ)) → TreeEntry → Type 0
-HasFitting known e = (bytes : List ℕ) × Agrees known (Some bytes) × FitsTree e bytes
+HasFitting known e = (bytes : List ℕ) × Agrees known (Some bytes) × Fits bytes e.length e.root
 
 -- ---- the session
 
 -- The leaves of tree n were filled in, or they were refused, and not out of memory; a file whose
 -- leaves were not found is not seeded.
-abbrev pub Fills : SessionSeen → ℕ → Option (List Hash) → Bool → SessionSeen → Type 0
-Fills S n (Some leaves) true S' = (count : ℕ) × IsFilled S n 0 leaves count S'
-Fills S n (Some leaves) false S' =
+abbrev pub FillsLeaves : SessionSeen → ℕ → Option (List Hash) → Bool → SessionSeen → Type 0
+FillsLeaves S n (Some leaves) true S' = (count : ℕ) × IsFilled S n 0 leaves count S'
+FillsLeaves S n (Some leaves) false S' =
     (r : HashRefusal) × (r ≢ NoMemory) × IsFillRefused S n 0 leaves r × (S' ≡ S)
-Fills S n None seeded S' = (seeded ≡ false) × (S' ≡ S)
+FillsLeaves S n None seeded S' = (seeded ≡ false) × (S' ≡ S)
 
 -- ---- lines
 
--- what the line of a file begins with
-abbrev pub seed_words : Bool → List ℕ
-seed_words true = codes "seeded "
-seed_words false = codes "not seeded "
-
 -- the line of a file
-abbrev pub seed_line : FileEntry → Bool → List ℕ
-seed_line f seeded = seed_words seeded ++ (path_text f.path ++ codes "\n")
-
--- the same as a row of the table of lines
 abbrev pub seed_row : FileEntry → Bool → Row
 seed_row f true = seeded_row f.path
 seed_row f false = not_seeded_row f.path
@@ -92,8 +83,8 @@ seed_lines line (f ∷ fs) [] = []
 seed_lines line (f ∷ fs) (this ∷ seeded) = line f this ++ seed_lines line fs seeded
 
 -- a file is small: it has at most eight blocks
-abbrev pub IsSmall : FileEntry → Type 0
-IsSmall f = f.length ≤ 131072
+abbrev pub IsSmallFile : FileEntry → Type 0
+IsSmallFile f = f.length ≤ 131072
 
 -- a shelf and a session
 abbrev pub shelf_and_session : {S : Type 0} → S → SessionSeen → S × SessionSeen
@@ -123,9 +114,9 @@ module _ {S F : Type 0} (shelf : Ghosts S F) (seen : F → SourceSeen) where
     pub visited : OpensToSeed old.0 f.path f.length (is_some found) new.0
     pub faults_in_it : ℕ
     pub counted : shelf.faults new.0 ≡ more (shelf.faults old.0) faults_in_it
-    pub finds : Finds ((shelf.contents old.0).under f.path) tree found faults_in_it
+    pub finds : FindsLeaves ((shelf.contents old.0).under f.path) tree found faults_in_it
     pub stays : shelf.contents new.0 ≡ shelf.contents old.0
-    pub fills : Fills old.1 n found seeded new.1
+    pub fills : FillsLeaves old.1 n found seeded new.1
 
   -- the same by the file's tree; an empty file has none: it is not seeded, and not opened
   abbrev pub SeedsFile : S × SessionSeen → FileEntry → Option ℕ → Bool → S × SessionSeen → Type 0
@@ -168,7 +159,7 @@ module _ {S F : Type 0} (shelf : Ghosts S F) (seen : F → SourceSeen) where
 
   -- the same of a small file
   pub record LooksAhead (s : S) (f : FileEntry) (content : Option (List ℕ)) (s' : S) : Type 0 where
-    pub small : IsSmall f
+    pub small : IsSmallFile f
     pub looks : LooksByTree s f f.tree content s'
 
   -- The files that are read together with this one, which has this number, were read too: small
@@ -177,7 +168,7 @@ module _ {S F : Type 0} (shelf : Ghosts S F) (seen : F → SourceSeen) where
     where
       pub contents : List (Option (List ℕ))
       pub few : length contents < 64
-      pub small : (contents ≡ []) ⊎ IsSmall f
+      pub small : (contents ≡ []) ⊎ IsSmallFile f
       pub run : Chain LooksAhead s (take (length contents) (drop (number + 1) files)) contents s'
 
   -- ---- all files
@@ -261,4 +252,4 @@ module _ {S F : Type 0} (shelf : Ghosts S F) (seen : F → SourceSeen) where
   -- what `seed` did, by its answer
   abbrev pub Seeds : S × SessionSeen → S × SessionSeen → SinkSeen → SinkSeen
       → Result (Unit {0}) SeedFault → Type 0
-  Seeds old new report report' r = SeedsAs seed_line old new report report' r
+  Seeds old new report report' r = SeedsAs (seed_line_as text_of) old new report report' r

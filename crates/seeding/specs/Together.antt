@@ -1,10 +1,11 @@
 -- Small files that are visited one after the other, before a session is given any of them.
-use Rattle.std.specs.Prelude.{◌≡◌, ℕ, ◌+◌, ◌≤◌, ⊤, Bool, List, [], ◌∷◌, length, take, drop, slice_get, Option, Some, None}
+use Rattle.std.specs.Prelude.{◌≡◌, ℕ, ◌+◌, ◌<◌, ◌≤◌, ⊤, Bool, List, [], ◌∷◌, length, take, drop, slice_get, Option, Some, None}
 use Rattle.benc.specs.Device.{SourceSeen}
-use Rattle.block_windows.specs.Files.{HasFile, IsHashed, bytes_at}
+use Rattle.block_windows.specs.Files.{HasFile, IsHashed, block_total, bytes_at}
 use Rattle.block_windows.specs.declared.files.Window.{Window}
 use Rattle.chains.specs.Chain.{Chain}
 use Rattle.folders.specs.declared.shelf.Shelf.{Ghosts}
+use Rattle.hashtree.specs.Tree.{block_count}
 use Rattle.opening.specs.Description.{FileEntry}
 use Rattle.seeding.specs.Seeding.{LooksAhead, LooksBehind, SeedStep, StopsAtFile, shelf_and_session}
 use Rattle.seeding.specs.declared.ahead.Ahead.{Ahead}
@@ -14,12 +15,20 @@ use Rattle.seeding.specs.declared.together.HeldFiles.{HeldFiles}
 use Rattle.session.specs.Session.{SessionSeen}
 
 -- what is held of the files that are left
-abbrev pub left : Ahead → List Held
-left a = drop a.next (take a.count a.held)
+abbrev pub held_left : Ahead → List Held
+held_left a = drop a.next (take a.count a.held)
+
+-- there is room for one more file of this length: it is one of 64 and has eight blocks at most, its
+-- blocks have places in the window, and behind the bytes that are used a room has its bytes and one
+pub record HasRoomAhead (h : HeldFiles) (size used room : ℕ) : Type 0 where
+  pub few : h.files.count < 64
+  pub small : size ≤ 131072
+  pub blocks : block_total h.blocks + block_count size ≤ 64
+  pub bytes : used + size < room
 
 -- the files in a window stay there
-abbrev pub KeepsFiles : Window → Window → Type 0
-KeepsFiles old new = (first start size : ℕ) → HasFile old first start size
+abbrev pub KeepsWindowFiles : Window → Window → Type 0
+KeepsWindowFiles old new = (first start size : ℕ) → HasFile old first start size
     → HasFile new first start size
 
 -- these bytes stand in the first bytes of a room, this many, and in the window from this block on
@@ -61,7 +70,7 @@ module _ {S F : Type 0} (shelf : Ghosts S F) (seen : F → SourceSeen) where
   -- the same of files whose blocks are hashed
   abbrev pub IsHeldFrom : List FileEntry → ℕ → S → HeldFiles → S → Type 0
   IsHeldFrom files from s h s' =
-      HoldsFrom shelf seen (StandsHashed h.blocks) files from s (left h.files) s'
+      HoldsFrom shelf seen (StandsHashed h.blocks) files from s (held_left h.files) s'
 
   -- the file with this number was seeded, or not; those that are read together with it were read,
   -- and this is held of them

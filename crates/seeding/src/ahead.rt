@@ -1,5 +1,5 @@
 //! What is held of the files that come next.
-ghost use Rattle.std.specs.Prelude.{◌≡◌, ◌+◌, ◌<◌, ◌≤◌, ◌∷◌, ◌++◌, [], IfSome, IsNone, IsTrue, length};
+ghost use Rattle.std.specs.Prelude.{◌≡◌, ◌↔◌, ◌+◌, ◌<◌, ◌≤◌, ◌∷◌, ◌++◌, [], IfSome, IsNone, IsTrue, length};
 
 /// How many files are read together at most.
 pub(crate) const MOST: usize = 64;
@@ -24,11 +24,11 @@ pub(crate) struct Ahead {
 }
 
 impl Ahead {
-    ghost use Rattle.seeding.specs.Together.{left};
+    ghost use Rattle.seeding.specs.Together.{held_left};
 
     /// Nothing is held of any file.
     pub(crate) fn none() -> Ahead
-        ensures none { left result ≡ [] }
+        ensures none { held_left result ≡ [] }
         ensures count { result.count ≡ 0 }
     {
         Ahead {
@@ -40,23 +40,23 @@ impl Ahead {
 
     /// Whether nothing is held of any file.
     pub(crate) fn is_empty(&self) -> bool
-        ensures { IsTrue result → left self.now ≡ [] }
+        ensures { IsTrue result → held_left self.now ≡ [] }
     {
         self.next == self.count
     }
 
     /// Whether there is room for one more file.
     pub(crate) fn has_room(&self) -> bool
-        ensures { IsTrue result → self.now.count < 64 }
+        ensures { IsTrue result ↔ (self.now.count < 64) }
     {
         self.count < MOST
     }
 
     /// What is held of the next file; `None` if no file is left.
     pub(crate) fn take(&mut self) -> Option<Held>
-        ensures some { IfSome result (λ h. left self.old ≡ h ∷ left self.new) }
-        ensures none { IsNone result → (left self.new ≡ []) × (left self.old ≡ []) }
-        ensures few { length (left self.new) < 64 }
+        ensures some { IfSome result (λ h. held_left self.old ≡ h ∷ held_left self.new) }
+        ensures none { IsNone result → (held_left self.new ≡ []) × (held_left self.old ≡ []) }
+        ensures few { length (held_left self.new) < 64 }
     {
         if self.next == self.count {
             return None;
@@ -70,7 +70,7 @@ impl Ahead {
     pub(crate) fn push(&mut self, held: Held)
         requires { self.old.count < 64 }
         ensures count { self.new.count ≡ self.old.count + 1 }
-        ensures last { left self.new ≡ left self.old ++ held ∷ [] }
+        ensures last { held_left self.new ≡ held_left self.old ++ held ∷ [] }
     {
         self.held[self.count] = held;
         self.count += 1;

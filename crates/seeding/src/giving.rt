@@ -4,8 +4,8 @@ ghost use Rattle.folders.specs.Verdicts.{IsFileOf};
 ghost use Rattle.hashtree.specs.Tree.{block_count, layer_of, node};
 ghost use Rattle.node_maps.specs.Digest.{Hash as Digest};
 ghost use Rattle.opening.specs.Seen.{file_entry, tree_entry};
-ghost use Rattle.seeding.specs.Giving.{FillsByTree, FindsHeld, HasBlocks, HasStated, HoldsFitting, LacksMemory};
-ghost use Rattle.seeding.specs.Seeding.{Fills};
+ghost use Rattle.seeding.specs.Giving.{FillsByTree, FindsHeld, HasHeldBlocks, HasStated, HoldsFitting, LacksMemoryForLeaves};
+ghost use Rattle.seeding.specs.Seeding.{FillsLeaves};
 ghost use Rattle.seeding.specs.Together.{IsHeldAs, StandsHashed};
 
 use crate::ahead::Held;
@@ -37,7 +37,7 @@ pub(crate) fn seed_held<N: NodeMap>(
         → FillsByTree session.old (file_entry file.now) file.now.tree content seeded session.new) }
     ensures no_memory { OnErr result ((content : Option (List ℕ))
         → IsHeldAs (StandsHashed blocks.now) held content → HasStated file.now.length content
-        → LacksMemory session.old (file_entry file.now) content session.new) }
+        → LacksMemoryForLeaves session.old (file_entry file.now) content session.new) }
     ensures torrent { session.new.torrent ≡ session.old.torrent }
 {
     let torrent = session.torrent();
@@ -62,11 +62,11 @@ fn seed_tree_held<N: NodeMap>(
 ) -> Result<bool, NoMemory>
     requires tree { slice_get session.old.torrent.trees number ≡ Some (tree_entry tree.now) }
     requires bounds { (0 < tree.now.length) × (tree.now.length ≤ 2 ^ 46) }
-    requires within { HasBlocks held tree.now.length }
+    requires within { HasHeldBlocks held tree.now.length }
     ensures seeds { IfOk result (λ seeded. (content : Option (List ℕ))
         → IsHeldAs (StandsHashed blocks.now) held content → HasStated tree.now.length content
         → (found : Option (List Digest)) × FindsHeld (tree_entry tree.now) content found
-        × Fills session.old number found seeded session.new) }
+        × FillsLeaves session.old number found seeded session.new) }
     ensures no_memory { OnErr result ((session.new ≡ session.old) × ((content : Option (List ℕ))
         → IsHeldAs (StandsHashed blocks.now) held content → HasStated tree.now.length content
         → HoldsFitting (tree_entry tree.now) content)) }
@@ -86,7 +86,7 @@ fn find_held<N: NodeMap>(
     blocks: &Window,
 ) -> Result<Option<GrownTree<N>>, NoMemory>
     requires bounds { (0 < tree.now.length) × (tree.now.length ≤ 2 ^ 46) }
-    requires within { HasBlocks held tree.now.length }
+    requires within { HasHeldBlocks held tree.now.length }
     ensures found { IfOk result (λ grown. (content : Option (List ℕ))
         → IsHeldAs (StandsHashed blocks.now) held content → HasStated tree.now.length content
         → FindsHeld (tree_entry tree.now) content (option_map (λ t. t.leaves) grown)) }

@@ -5,7 +5,7 @@ ghost use Rattle.hashtree.specs.Tree.{block_count, root_of};
 ghost use Rattle.opening.specs.Seen.{tree_entry};
 ghost use Rattle.folders.specs.TakeAll.{CountsReading};
 ghost use Rattle.folders.specs.declared.taking.ReadFault.TheVariants as fault;
-ghost use Rattle.seeding.specs.Leaves.{EndsWithTree, HadFitting, HasRefused, IsFedLeaves, IsFull, ReadsLeaves, ReadsSoFar};
+ghost use Rattle.seeding.specs.Leaves.{EndsWithTree, HadFitting, HaveLeavesRefused, IsFedLeaves, IsFull, ReadsLeaves, ReadsSoFar};
 
 use benc::Source;
 use folders::{Consumer, FileReader, ReadFault, take_all};
@@ -65,11 +65,11 @@ impl<N: NodeMap> Leaves<N> {
 
     // Gives the tree its next leaf, if a block is complete and no memory was refused.
     fn keep(&mut self, leaf: Option<Hash>)
-        requires room { OnSome leaf (HasRefused self.old
+        requires room { OnSome leaf (HaveLeavesRefused self.old
             ⊎ (length self.old.tree.leaves < block_count self.old.tree.length)) }
         ensures builder { self.new.builder ≡ self.old.builder }
         ensures length { self.new.tree.length ≡ self.old.tree.length }
-        ensures kept { HasRefused self.new ⊎ ((HasRefused self.old → ⊥)
+        ensures kept { HaveLeavesRefused self.new ⊎ ((HaveLeavesRefused self.old → ⊥)
             × (self.new.tree.leaves ≡ self.old.tree.leaves ++ option_to_list leaf)) }
     {
         if let Some(leaf) = leaf {

@@ -9,4 +9,4 @@ mod seeding;
 mod together;
 
 pub use lines::OutFault as SeedFault;
-pub use seeding::{seed, seed_onto, seed_onto_at_pace};
+pub use seeding::{seed, seed_onto};

@@ -6,7 +6,7 @@ ghost use Rattle.opening.specs.Seen.{file_entry, tree_entry};
 ghost use Rattle.folders.specs.Shelf.{more};
 ghost use Rattle.folders.specs.Verdicts.{IsFileOf};
 ghost use Rattle.seeding.specs.Leaves.{found_of};
-ghost use Rattle.seeding.specs.Seeding.{Fills, Finds, HasFitting, OpensToFind, SeedStep, Seeds, SeedsAs, SeedsFiles, SeedsTree, StopsAtFile, seed_line_as, shelf_and_session};
+ghost use Rattle.seeding.specs.Seeding.{FillsLeaves, FindsLeaves, HasFitting, OpensToFind, SeedStep, Seeds, SeedsAs, SeedsFiles, SeedsTree, StopsAtFile, seed_line_as, shelf_and_session};
 ghost use Rattle.seeding.specs.Together.{IsHeldFrom, SeedsNext, StopsNext};
 
 use crate::giving::seed_held;
@@ -50,35 +50,17 @@ pub fn seed<N: NodeMap, S: Shelf, W: Sink>(
         (shelf_and_session shelf.old session.old) (shelf_and_session shelf.new session.new)
         (W.seen report.old) (W.seen report.new) result }
 {
-    seed_onto(alloc, session, shelf, report)
+    seed_onto(alloc, session, shelf, &mut Unhurried, report)
 }
 
-/// The same, but the lines go to anything that takes lines, spelled as it spells them: as texts, or
-/// as JSON objects.
-///
-/// # Errors
-///
-/// As for `seed`.
-pub fn seed_onto<N: NodeMap, S: Shelf, L: LineSink>(
-    alloc: Global,
-    session: &mut Session<'_, N>,
-    shelf: &mut S,
-    report: &mut L,
-) -> Result<(), SeedFault>
-    ensures { SeedsAs S.Shelf S.File.seen (seed_line_as L.spelled)
-        (shelf_and_session shelf.old session.old) (shelf_and_session shelf.new session.new)
-        (L.seen report.old) (L.seen report.new) result }
-{
-    seed_onto_at_pace(alloc, session, shelf, &mut Unhurried, report)
-}
-
-/// The same, but fewer files are read together if the pace says that the lines that wait are due.
+/// Does what `seed` does, onto anything that takes lines, spelled as it spells them: as texts or as
+/// JSON objects. Fewer files are read together if the pace says that the lines that wait are due.
 /// What is said does not depend on it.
 ///
 /// # Errors
 ///
 /// As for `seed`.
-pub fn seed_onto_at_pace<N: NodeMap, S: Shelf, P: Pace, L: LineSink>(
+pub fn seed_onto<N: NodeMap, S: Shelf, P: Pace, L: LineSink>(
     alloc: Global,
     session: &mut Session<'_, N>,
     shelf: &mut S,
@@ -250,7 +232,7 @@ fn find_tree<N: NodeMap, S: Shelf>(
         shelf.new result }
     ensures found { IfOk result (λ grown. (n : ℕ)
         × (S.faults shelf.new ≡ more (S.faults shelf.old) n)
-        × Finds ((S.contents shelf.old).under file.now.path) (tree_entry tree.now)
+        × FindsLeaves ((S.contents shelf.old).under file.now.path) (tree_entry tree.now)
         (option_map (λ t. t.leaves) grown) n) }
     ensures length { IfOk result (λ grown. IfSome grown (λ t. t.length ≡ tree.now.length)) }
     ensures no_memory { OnErr result ((S.faults shelf.new ≡ S.faults shelf.old)
@@ -285,7 +267,7 @@ pub(crate) fn take_over<N: NodeMap>(
     requires inside { tree < length session.old.torrent.trees }
     requires length { (e : TreeEntry) → slice_get session.old.torrent.trees tree ≡ Some e
         → grown.length ≡ e.length }
-    ensures fills { Fills session.old tree (Some grown.leaves) result session.new }
+    ensures fills { FillsLeaves session.old tree (Some grown.leaves) result session.new }
     ensures torrent { session.new.torrent ≡ session.old.torrent }
 {
     session.adopt(tree, grown).is_ok()

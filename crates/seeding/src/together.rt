@@ -1,14 +1,14 @@
 //! Small files that are visited one after the other, before a session is given any of them.
-ghost use Rattle.std.specs.Prelude.{◌≡◌, ℕ, ◌+◌, ◌<◌, ◌≤◌, [], IsTrue, List, Option, length, take};
+ghost use Rattle.std.specs.Prelude.{◌≡◌, ◌↔◌, ℕ, ◌+◌, ◌<◌, ◌≤◌, [], IsTrue, List, Option, length, take};
 ghost use Rattle.block_windows.specs.Files.{IsWithin, block_total};
 ghost use Rattle.hashtree.specs.Tree.{block_count};
 ghost use Rattle.opening.specs.Seen.{file_entry};
 ghost use Rattle.seeding.specs.Seeding.{LooksAhead};
-ghost use Rattle.seeding.specs.Together.{HoldsFrom, IsHeldAs, KeepsFiles, Stands, StandsHashed, left};
+ghost use Rattle.seeding.specs.Together.{HasRoomAhead, HoldsFrom, IsHeldAs, KeepsWindowFiles, Stands, StandsHashed, held_left};
 
 use crate::ahead::{Ahead, Held, MOST};
 use crate::held::hold_file;
-use block_windows::{WINDOW, Window};
+use block_windows::Window;
 use folders::{Pace, Shelf};
 use opening::{File, Torrent};
 
@@ -28,7 +28,7 @@ pub(crate) struct HeldFiles {
 impl HeldFiles {
     /// Of no file.
     pub(crate) fn none() -> HeldFiles
-        ensures none { left result.files ≡ [] }
+        ensures none { held_left result.files ≡ [] }
         ensures within { (bytes : ℕ) → IsWithin result.blocks bytes }
     {
         HeldFiles {
@@ -39,15 +39,11 @@ impl HeldFiles {
 
     // Whether there is room for one more file of this length, if `used` bytes of the room are used.
     fn has_room(&self, length: u64, used: usize, room: usize) -> bool
-        ensures count { IsTrue result → self.now.files.count < 64 }
-        ensures small { IsTrue result → length ≤ 131072 }
-        ensures blocks { IsTrue result
-            → block_total self.now.blocks + block_count length ≤ 64 }
-        ensures bytes { IsTrue result → used + length < room }
+        ensures { IsTrue result ↔ HasRoomAhead self.now length used room }
     {
         self.files.has_room()
             && length <= SMALL
-            && self.blocks.blocks() as u64 + length.div_ceil(BLOCK) <= WINDOW as u64
+            && self.blocks.has_room(length as usize)
             && used < room
             && length < (room - used) as u64
     }
@@ -64,7 +60,7 @@ pub(crate) fn look_ahead<S: Shelf, P: Pace>(
 ) -> HeldFiles
     requires { from ≤ length torrent.now.files }
     ensures { HoldsFrom S.Shelf S.File.seen (StandsHashed result.blocks) torrent.now.files from
-        shelf.old (left result.files) shelf.new }
+        shelf.old (held_left result.files) shelf.new }
 {
     let mut held = hold_files(shelf, torrent, from, room, pace);
     held.blocks.hash(room);
@@ -84,7 +80,7 @@ fn hold_files<S: Shelf, P: Pace>(
     requires from { from ≤ length torrent.now.files }
     ensures holds { (used : ℕ) × (used ≤ length room.new.items) × HoldsFrom S.Shelf S.File.seen
         (Stands result.blocks room.new.items used) torrent.now.files from
-        shelf.old (left result.files) shelf.new }
+        shelf.old (held_left result.files) shelf.new }
     ensures within { IsWithin result.blocks (length room.new.items) }
 {
     let entries = torrent.files();
@@ -118,7 +114,7 @@ fn hold_in<S: Shelf>(
     ensures looks { (content : Option (List ℕ)) × LooksAhead S.Shelf S.File.seen shelf.old
         (file_entry file.now) content shelf.new × IsHeldAs
         (Stands blocks.new room.new.items (at + file.now.length)) result content }
-    ensures keeps { KeepsFiles blocks.old blocks.new }
+    ensures keeps { KeepsWindowFiles blocks.old blocks.new }
     ensures kept { take at room.new.items ≡ take at room.old.items }
     ensures length { length room.new.items ≡ length room.old.items }
     ensures within { (bytes : ℕ) → IsWithin blocks.old bytes → at + file.now.length ≤ bytes

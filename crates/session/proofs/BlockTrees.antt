@@ -6,7 +6,9 @@ use Rattle.hashtree.specs.Tree.{block_count}
 use Rattle.opening.specs.Description.{Description, FileEntry}
 use Rattle.opening.specs.Sound.{IsSound}
 use Rattle.partial_tree.specs.Kept.{KeptTree, IsGoodTree}
-use Rattle.session.specs.Layouts.{AreKept, HasBlock, SessionSeen}
+use Rattle.session.specs.Asks.{AskSet}
+use Rattle.session.specs.BlockTree.{HasBlockTree}
+use Rattle.session.specs.Layouts.{AreKept, HasBlock, SessionSeen, seen}
 use Rattle.session.proofs.SessionCalls.{has_tree}
 use Rattle.session.proofs.Sessions.{found_at, good_at, same_length, tree_for}
 
@@ -32,28 +34,28 @@ pub some_tree : (d : Description) → IsSound d → (file block : ℕ) → HasBl
 some_tree d sound file block has tree is =
     subst (λ (o : Option ℕ). IsSome o) (sym (is has.0 has.1 ∙ (has_tree d sound file block has.0 has.1 has.2).1)) refl
 
-module _ (d : Description) (ts : List KeptTree) (kept : AreKept d ts) (sound : IsSound d) (file block : ℕ) (has : HasBlock d file block) (tree : Option ℕ)
-    (is : IsTreeOf d file tree) (number : ℕ) (numbered : tree ≡ Some number) where
+-- the tree with a block, in what is kept of a session
+module _ (o : AskSet) (d : Description) (ts : List KeptTree) (kept : AreKept d ts) (v : SessionSeen) (is : seen d o ts ≡ v) (file block number : ℕ)
+    (at : HasBlockTree v.torrent file block number) where
+  pub has_tree_there : HasBlockTree d file block number
+  has_tree_there = subst (λ (s : SessionSeen). HasBlockTree s.torrent file block number) (sym is) at
+
   -- it is among the trees
-  pub tree_within : number < length ts
-  tree_within =
-      let x = tree_for d ts kept sound file number has.0 has.1 (sym (is has.0 has.1) ∙ numbered) in
+  pub kept_within : number < length ts
+  kept_within =
+      let e = has_tree_there in
+      let x = tree_for d ts kept e.sound file number e.entry e.there e.number_is in
       slice_get_within ts number x.0 x.1
 
-  pub tree_in_torrent : number < length d.trees
-  tree_in_torrent =
-      let e = (sound.files file has.0 has.1).tree_there number (sym (is has.0 has.1) ∙ numbered) in
-      slice_get_within d.trees number e.0 e.1
-
-  pub in_tree : (a : KeptTree) → a ≡ get_or ts number a → IsInTree d ts file block number a
-  in_tree a found =
-      let of_file : (has.0).tree ≡ Some number = sym (is has.0 has.1) ∙ numbered in
-      let at : slice_get ts number ≡ Some a = found_at ts number a tree_within found in
+  pub kept_tree : (a : KeptTree) → a ≡ get_or ts number a → IsInTree d ts file block number a
+  kept_tree a found =
+      let e = has_tree_there in
+      let at = found_at ts number a kept_within found in
       record {
-        entry = has.0;
-        there = has.1;
-        number_is = of_file;
+        entry = e.entry;
+        there = e.there;
+        number_is = e.number_is;
         tree_is = at;
-        inside = subst (λ n. block < block_count n) (sym (same_length d ts kept sound file number has.0 a has.1 of_file at)) has.2;
+        inside = subst (λ n. block < block_count n) (sym (same_length d ts kept e.sound file number e.entry a e.there e.number_is at)) e.low;
         good = good_at d ts kept number a at;
       }

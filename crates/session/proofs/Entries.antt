@@ -1,6 +1,6 @@
 -- The blocks of a piece message, one after the other: what each keeps, and what it says.
 use Rattle.std.proofs.Common.{◌≡◌, ◌≢◌, ◌⊎◌, ℕ, zero, suc, ◌+◌, ◌-◌, ◌*◌, ◌<◌, min, true, List, [], ◌∷◌, ◌++◌, length, get_or, Option, Some, None, inl, inr}
-use Rattle.std.proofs.Common.{refl, sym, ap, ap₂, ◌∙◌, subst, subst₂, arith, length-append}
+use Rattle.std.proofs.Common.{refl, sym, ap, ap₂, ◌∙◌, subst, subst₂, arith, length-append, take}
 use Rattle.std.specs.Prelude.{slice_get}
 use Rattle.std.specs.FinSet as leaves
 use Rattle.std.proofs.lemmas.Option.{same_Some, none-some, slice_get_within, slice_get-get_or}
@@ -19,6 +19,7 @@ use Rattle.partial_tree.specs.declared.refusal.BlockRefusal.TheVariants.{BadPlac
 use Rattle.tree_laws.proofs.Keeping.{marked-known}
 use Rattle.tree_laws.proofs.Headline.{block-size, leaf_or_collision, block_or_collision}
 use Rattle.chains.specs.Chain.{Chain}
+use Rattle.chains.proofs.Chains.{Chain-same, Chain-within, StepAt, step_at}
 use Rattle.session.specs.Blocks.{BlocksSeen, Cut, cuts}
 use Rattle.session.specs.Layouts.{SessionSeen, roots, tree_of}
 use Rattle.session.specs.Session.{TreeState, IsTree, HasClosedTrees, IsInFile, IsMarkedBlock, BlockStep, AreTaken, IsFileBlock, AreBlocks}
@@ -76,6 +77,9 @@ pub record Later (S' : SessionSeen) (n : ℕ) (tree : TreeRoot) (s : TreeState) 
   pub later : TreeState
   pub later_is : IsTree S' n tree later
   pub known : later.known ≡ s.known
+
+abbrev pub AreLater : SessionSeen → SessionSeen → Type 0
+AreLater S S' = (n : ℕ) (tree : TreeRoot) (s : TreeState) → IsTree S n tree s → Later S' n tree s
 
 pub step-known : (file : ℕ) (S : SessionSeen) (c : Cut) (r : Option BlockRefusal) (S' : SessionSeen) → BlockStep file S c r S'
     → (n : ℕ) (tree : TreeRoot) (s : TreeState) → IsTree S n tree s → Later S' n tree s
@@ -144,7 +148,8 @@ says-block S closed_trees file c n tree s of' at says = record {
 }
 
 -- the true block of a known leaf is not refused, or a collision is named
-module _ (S : SessionSeen) (closed_trees : HasClosedTrees S) (file b : ℕ) (bytes : List ℕ) (p : IsInFile S file b) (f : List ℕ) (fits : Fits f p.tree)
+module _ (S : SessionSeen) (closed_trees : HasClosedTrees S) (file b : ℕ) (bytes : List ℕ) (p : IsInFile S file b)
+    (f : List ℕ) (fits : Fits f p.tree.length p.tree.root)
     (is_block : bytes ≡ block f b)
     (known : IsKnown (look p.state.known) 0 b) where
   has_size : HasBlockSize p.tree.length b bytes
@@ -176,41 +181,33 @@ says-taken S closed_trees file c n tree s (Some r) of' at says = λ p f fits is_
 module _ (file : ℕ) where
   pub chain-closed : (S : SessionSeen) (cs : List Cut) (rs : List (Option BlockRefusal)) (S' : SessionSeen) → HasClosedTrees S
       → Chain (BlockStep file) S cs rs S' → HasClosedTrees S'
-  chain-closed S [] [] S' closed_trees e = subst HasClosedTrees (sym e) closed_trees
-  chain-closed S [] (r ∷ rs) S' closed_trees e = absurd e
-  chain-closed S (c ∷ cs) [] S' closed_trees e = absurd e
-  chain-closed S (c ∷ cs) (r ∷ rs) S' closed_trees (M, step, rest) = chain-closed M cs rs S' (step-closed file S c r M closed_trees step) rest
+  chain-closed S cs rs S' closed_trees run =
+      Chain-within (BlockStep file) (λ A B. HasClosedTrees A → HasClosedTrees B) (λ A closed. closed) (λ A B C first next closed. next (first closed))
+      (λ A c r B step closed. step-closed file A c r B closed step) S cs rs S' run closed_trees
 
   pub chain-torrent : (S : SessionSeen) (cs : List Cut) (rs : List (Option BlockRefusal)) (S' : SessionSeen) → Chain (BlockStep file) S cs rs S'
       → S'.torrent ≡ S.torrent
-  chain-torrent S [] [] S' e = ap (λ U. U.torrent) e
-  chain-torrent S [] (r ∷ rs) S' e = absurd e
-  chain-torrent S (c ∷ cs) [] S' e = absurd e
-  chain-torrent S (c ∷ cs) (r ∷ rs) S' (M, step, rest) = chain-torrent M cs rs S' rest ∙ step-torrent file S c r M step
+  chain-torrent = Chain-same (BlockStep file) (λ (A : SessionSeen). A.torrent) (step-torrent file)
 
-  pub chain-known : (S : SessionSeen) (cs : List Cut) (rs : List (Option BlockRefusal)) (S' : SessionSeen) → Chain (BlockStep file) S cs rs S'
-      → (n : ℕ) (tree : TreeRoot) (s : TreeState) → IsTree S n tree s → Later S' n tree s
-  chain-known S [] [] S' e n tree s at = record { later = s; later_is = subst (λ U. IsTree U n tree s) (sym e) at; known = refl }
-  chain-known S [] (r ∷ rs) S' e n tree s at = absurd e
-  chain-known S (c ∷ cs) [] S' e n tree s at = absurd e
-  chain-known S (c ∷ cs) (r ∷ rs) S' (M, step, rest) n tree s at =
-      let a : Later M n tree s = step-known file S c r M step n tree s at in
-      let b : Later S' n tree a.later = chain-known M cs rs S' rest n tree a.later a.later_is in
-      record { later = b.later; later_is = b.later_is; known = b.known ∙ a.known }
+  pub chain-known : (S : SessionSeen) (cs : List Cut) (rs : List (Option BlockRefusal)) (S' : SessionSeen) → Chain (BlockStep file) S cs rs S' → AreLater S S'
+  chain-known = Chain-within (BlockStep file) AreLater (λ A n tree s at. record { later = s; later_is = at; known = refl })
+      (λ A B C first next n tree s at.
+      let a : Later B n tree s = first n tree s at in
+      let b : Later C n tree a.later = next n tree a.later a.later_is in
+      record { later = b.later; later_is = b.later_is; known = b.known ∙ a.known })
+      (step-known file)
 
   -- each says what holds of the state before them all
   pub chain-says : (S : SessionSeen) (cs : List Cut) (rs : List (Option BlockRefusal)) (S' : SessionSeen) → Chain (BlockStep file) S cs rs S'
       → (n : ℕ) (tree : TreeRoot) (s : TreeState) → tree_of S file ≡ Some n → IsTree S n tree s
       → (m : ℕ) (c : Cut) (r : Option BlockRefusal) → slice_get cs m ≡ Some c → slice_get rs m ≡ Some r → Says tree s.known c r
-  chain-says S [] [] S' e n tree s of' at m c r is stated = absurd (none-some c is)
-  chain-says S [] (x ∷ rs) S' e n tree s of' at m c r is stated = absurd e
-  chain-says S (d ∷ cs) [] S' e n tree s of' at m c r is stated = absurd e
-  chain-says S (d ∷ cs) (x ∷ rs) S' (M, step, rest) n tree s of' at zero c r is stated =
-      subst₂ (λ y z. Says tree s.known y z) (same_Some d c is) (same_Some x r stated) (step-says file S d x M step n tree s of' at)
-  chain-says S (d ∷ cs) (x ∷ rs) S' (M, step, rest) n tree s of' at (suc m) c r is stated =
-      let a : Later M n tree s = step-known file S d x M step n tree s at in
-      let of_later : tree_of M file ≡ Some n = ap (λ t. tree_of (record M { torrent = t }) file) (step-torrent file S d x M step) ∙ of' in
-      subst (λ (K : Known). Says tree K c r) a.known (chain-says M cs rs S' rest n tree a.later of_later a.later_is m c r is stated)
+  chain-says S cs rs S' run n tree s of' at m c r is stated =
+      let here : StepAt (BlockStep file) S cs rs m c r S' = step_at (BlockStep file) S cs rs m c r S' is stated run in
+      let M : SessionSeen = here.from in
+      let a : Later M n tree s = chain-known S (take m cs) (take m rs) M here.before n tree s at in
+      let same : M.torrent ≡ S.torrent = chain-torrent S (take m cs) (take m rs) M here.before in
+      let of_later : tree_of M file ≡ Some n = ap (λ t. tree_of (record M { torrent = t }) file) same ∙ of' in
+      subst (λ (K : Known). Says tree K c r) a.known (step-says file M c r here.to here.step n tree a.later of_later a.later_is)
 
 -- ---- the cuts of a message
 

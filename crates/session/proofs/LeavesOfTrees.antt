@@ -42,12 +42,12 @@ module _ (d : Description) (ts : List KeptTree) (kept : AreKept d ts) (o : AskSe
       after = b.state;
       is_tree = tree_at d ts kept o n a at;
       row = subst (λ j. IsLeafRow a.length first j (length leaves)) span row;
-      taken = subst (λ j. TakesRow first j leaves a.state.known c b.state.known) span taken;
+      taken = subst (λ j. TakesRow a.length first j leaves a.state.known c b.state.known) span taken;
       marks_stay = ap (λ (t : KeptTree). t.state.marked) rest;
       state_after = ap (with_trees d o) (map-set state_of ts n b);
     }
 
-    pub leaves_refused : (b : KeptTree) (r : Result ℕ PieceRefusal) → IfErr r (λ x. RowRefuses (look a.state.known) first k leaves x × (b ≡ a))
+    pub leaves_refused : (b : KeptTree) (r : Result ℕ PieceRefusal) → IfErr r (λ x. RowRefuses a.length (look a.state.known) first k leaves x × (b ≡ a))
         → IfErr r (λ x. AreLeavesRefused (seen d o ts) n first leaves x × (seen d o (set ts n b) ≡ seen d o ts))
     leaves_refused b (Ok c) refused = tt
     leaves_refused b (Err x) refused = (
@@ -55,13 +55,13 @@ module _ (d : Description) (ts : List KeptTree) (kept : AreKept d ts) (o : AskSe
         tree = info_of a;
         before = a.state;
         is_tree = tree_at d ts kept o n a at;
-        refuses = subst (λ j. RowRefuses (look a.state.known) first j leaves x) span refused.0;
+        refuses = subst (λ j. RowRefuses a.length (look a.state.known) first j leaves x) span refused.0;
       },
       ap (with_trees d o) (state_stays ts n a b at refused.1),
     )
 
 -- a tree stays good after leaves, whether they were taken or refused
 pub good_after_leaves : (a b : KeptTree) (first k : ℕ) (leaves : List Hash) (r : Result ℕ PieceRefusal) → IsGoodTree b
-    → IfOk r (λ c. TreeTakesRow a first k leaves c b) → IfErr r (λ x. RowRefuses (look a.state.known) first k leaves x × (b ≡ a)) → StaysGood a b
+    → IfOk r (λ c. TreeTakesRow a first k leaves c b) → IfErr r (λ x. RowRefuses a.length (look a.state.known) first k leaves x × (b ≡ a)) → StaysGood a b
 good_after_leaves a b first k leaves (Ok c) good taken refused = (ap info_of taken.1, good)
 good_after_leaves a b first k leaves (Err x) good taken refused = (ap info_of refused.1, good)

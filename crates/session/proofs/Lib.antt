@@ -2,9 +2,11 @@ pub use Rattle.chains.proofs.Chains
 pub mod States
 pub mod Entries
 pub mod MessageBlocks
+pub mod OneTree
 pub mod Runs
 pub mod Rounds
 pub mod RoundRuns
+pub mod EndLaws
 pub mod OneGap
 pub mod Sessions
 pub mod SessionCalls
@@ -20,7 +22,6 @@ pub mod OtherAsks
 pub mod NotedSteps
 pub mod NotedRounds
 pub mod LeafPaths
-pub mod OneTree
 pub mod PieceRows
 pub mod TakenPieces
 pub mod TruePieces

@@ -1,5 +1,5 @@
 -- Steps of a session that notes what it asks for.
-use Rattle.std.proofs.Common.{◌≡◌, ℕ, ◌+◌, Bool, true, false, not, ◌&&◌, ◌||◌, List, [], ◌∷◌, Option, Some, None, Result, Ok, Err, inl, inr, refl, sym, ap, ap₂}
+use Rattle.std.proofs.Common.{◌≡◌, ℕ, ◌+◌, Bool, true, false, not, ◌&&◌, ◌||◌, List, Option, Some, None, Result, inl, inr, refl, sym, ap, ap₂}
 use Rattle.std.proofs.Common.{◌∙◌, subst, arith}
 use Rattle.std.specs.Prelude.{slice_get}
 use Rattle.std.specs.Ordering.{eq_by_cmp}
@@ -20,39 +20,35 @@ use Rattle.partial_tree.specs.TreeRoot.{TreeRoot}
 use Rattle.partial_tree.proofs.ClaimValues.{first_of_two, second_of_two}
 use Rattle.partial_tree.proofs.Claimed.{base-claims}
 use Rattle.partial_tree.proofs.Powers.{spans-some}
-use Rattle.chains.specs.Chain.{Chain}
 use Rattle.chains.proofs.Cases.{some_or_none}
+use Rattle.chains.proofs.Chains.{Chain-same}
 use Rattle.session.specs.declared.verdict.Verdict.{Verdict}
 use Rattle.session.specs.declared.verdict.Verdict.TheVariants as verdict
 use Rattle.session.specs.Asks.{AskSet, ask_cmp}
 use Rattle.session.specs.Blocks.{Cut}
 use Rattle.session.specs.Layouts.{roots}
-use Rattle.session.specs.Session.{SessionSeen, TreeState, IsTree, HasClosedTrees, IsStored, IsHashRefused, BlockStep, HasDistinctRoots, HasHashes, Step}
+use Rattle.session.specs.Session.{SessionSeen, IsTree, HasClosedTrees, IsStored, IsHashRefused, BlockStep, HasDistinctRoots, HasHashes, Step}
 use Rattle.session.specs.SafeStep.{KeepsKnown}
-use Rattle.session.specs.Noted.{IsOpenAsk, without_ask, IsAnswerStored, IsAnswerRefused, StepIn, StepOut, NotedStep, IsTrueNotedVerdict}
-use Rattle.session.specs.Noted.{TakesWhatIsTrueAndAsked, IsBaseKnown, ClosesOneGapIfAsked, OpensOnlyOurs, KeepsOpen, IsSafeNotedStep}
+use Rattle.session.specs.Noted.{IsOpenAsk, without_ask, asking, IsAnswerStored, IsAnswerRefused, StepIn, StepOut, NotedStep}
+use Rattle.session.specs.Noted.{IsAwaited, IsBaseKnown, OpensOnlyOurs, KeepsOpen, IsSafeNotedStep}
 use Rattle.session.specs.Wanted.{HasOneGapFewer, WantedClosesOneGap}
 use Rattle.session.proofs.States.{set-write}
 use Rattle.session.proofs.OpenAsks.{ask_total, same_ask}
-use Rattle.session.specs.NotedLaws.{asking}
-use Rattle.session.proofs.OtherAsks.{tree_asking, closed_asking}
-use Rattle.session.proofs.Runs.{Effect, unchanged, stored, taken, effect, Learns, step-closed, step-learns, effect-torrent, verdict-true}
+use Rattle.session.proofs.OtherAsks.{tree_asking, keeps_asking, closed_asking}
+use Rattle.session.proofs.Runs.{Effect, unchanged, stored, taken, effect, step-closed, effect-keeps, effect-torrent}
 use Rattle.session.proofs.SafeSteps.{safe_step}
 
 -- ---- a step of the trees leaves the open asks
 
-blocks-asks : (file : ℕ) (S : SessionSeen) (cs : List Cut) (rs : List (Option BlockRefusal)) (S' : SessionSeen) → Chain (BlockStep file) S cs rs S'
-    → S'.asks ≡ S.asks
-blocks-asks file S [] [] S' e = ap (λ U. U.asks) e
-blocks-asks file S [] (r ∷ rs) S' e = absurd e
-blocks-asks file S (c ∷ cs) [] S' e = absurd e
-blocks-asks file S (c ∷ cs) (None ∷ rs) S' (M, step, rest) = blocks-asks file M cs rs S' rest ∙ ap (λ U. U.asks) step.state_after
-blocks-asks file S (c ∷ cs) (Some r ∷ rs) S' (M, step, rest) = blocks-asks file M cs rs S' rest ∙ ap (λ U. U.asks) step.1
+block-asks : (file : ℕ) (S : SessionSeen) (c : Cut) (r : Option BlockRefusal) (S' : SessionSeen) → BlockStep file S c r S' → S'.asks ≡ S.asks
+block-asks file S c None S' h = ap (λ U. U.asks) h.state_after
+block-asks file S c (Some r) S' h = ap (λ U. U.asks) h.1
 
 effect-asks : (S : SessionSeen) (m : Message) (S' : SessionSeen) → Effect S m S' → S'.asks ≡ S.asks
 effect-asks S m S' (unchanged e) = ap (λ U. U.asks) e
 effect-asks S m S' (stored ask hashes c has h) = ap (λ U. U.asks) h.state_after
-effect-asks S m S' (taken index begin bytes v h) = blocks-asks v.file S _ v.refusals S' h.each
+effect-asks S m S' (taken index begin bytes v h) =
+    Chain-same (BlockStep v.file) (λ (A : SessionSeen). A.asks) (block-asks v.file) S _ v.refusals S' h.each
 
 pub step-asks : (S : SessionSeen) (m : Message) (v : Verdict) (S' : SessionSeen) → Step S m v S' → S'.asks ≡ S.asks
 step-asks S m v S' step = effect-asks S m S' (effect S m v S' step)
@@ -103,11 +99,8 @@ noted_effect S (Out, m) v S' h = unchanged (out_effect S m v S' h)
 
 -- ---- so it keeps the trees closed, and what is known
 
-pub noted-learns : (S : SessionSeen) (x : Directed Message) (v : Verdict) (S' : SessionSeen) → NotedStep S x v S' → (n : ℕ) (tree : TreeRoot) (s : TreeState)
-    → IsTree S n tree s → Learns S S' n tree s
-noted-learns S x v S' step n tree s at =
-    let a : Learns S (asking S.asks S') n tree s = step-learns S x.1 (asking S.asks S') (noted_effect S x v S' step) n tree s at in
-    record { later = a.later; later_is = tree_asking S'.asks (asking S.asks S') n tree a.later a.later_is; keeps = a.keeps }
+pub noted-keeps : (S : SessionSeen) (x : Directed Message) (v : Verdict) (S' : SessionSeen) → NotedStep S x v S' → KeepsKnown S S'
+noted-keeps S x v S' step = keeps_asking S'.asks S (asking S.asks S') (effect-keeps S x.1 (asking S.asks S') (noted_effect S x v S' step))
 
 pub noted-closed : (S : SessionSeen) (x : Directed Message) (v : Verdict) (S' : SessionSeen) → HasClosedTrees S → HasHashes x.1 → NotedStep S x v S'
     → HasClosedTrees S'
@@ -117,22 +110,11 @@ noted-closed S x v S' closed_trees all step = closed_asking S'.asks (asking S.as
 pub noted-torrent : (S : SessionSeen) (x : Directed Message) (v : Verdict) (S' : SessionSeen) → NotedStep S x v S' → S'.torrent ≡ S.torrent
 noted-torrent S x v S' step = effect-torrent S x.1 (asking S.asks S') (noted_effect S x v S' step)
 
-pub learns-keeps : (S S' : SessionSeen) → ((n : ℕ) (tree : TreeRoot) (s : TreeState) → IsTree S n tree s → Learns S S' n tree s) → KeepsKnown S S'
-learns-keeps S S' learns n tree s at = let a : Learns S S' n tree s = learns n tree s at in (a.later, a.later_is, a.keeps)
+-- ---- so what came in and is awaited makes a safe step, but for the open asks
 
--- ---- what a verdict promises
-
-noted-true : (S : SessionSeen) (x : Directed Message) (v : Verdict) (S' : SessionSeen) → HasClosedTrees S → NotedStep S x v S' → IsTrueNotedVerdict S x v
-noted-true S (In, message.Piece index begin bytes) v S' closed_trees h = verdict-true S (message.Piece index begin bytes) v S' closed_trees h
-noted-true S (In, m) v S' closed_trees h = tt
-noted-true S (Out, m) v S' closed_trees h = tt
-
-noted-takes : (S : SessionSeen) (x : Directed Message) (v : Verdict) (S' : SessionSeen) → HasClosedTrees S → HasDistinctRoots S → NotedStep S x v S'
-    → TakesWhatIsTrueAndAsked S x v
-noted-takes S (In, message.Hashes ask hashes) v S' closed_trees distinct h = λ was.
-    (safe_step S closed_trees distinct (message.Hashes ask hashes) v (asking S.asks S') (in_hashes S ask hashes v S' was h)).takes_what_is_true
-noted-takes S (In, m) v S' closed_trees distinct h = (safe_step S closed_trees distinct m v S' h).takes_what_is_true
-noted-takes S (Out, m) v S' closed_trees distinct h = tt
+awaited-step : (S : SessionSeen) (m : Message) (v : Verdict) (S' : SessionSeen) → StepIn S m v S' → IsAwaited S m → Step S m v (asking S.asks S')
+awaited-step S (message.Hashes ask hashes) v S' h awaited = in_hashes S ask hashes v S' awaited h
+awaited-step S m v S' h awaited = subst (Step S m v) (same_asking S S' (step-asks S m v S' h)) h
 
 -- the trees are the same whatever asks are open
 pub one_gap-asking : (o : AskSet) (S S' : SessionSeen) (n : ℕ) (tree : TreeRoot) (K : PartialTree)
@@ -145,18 +127,6 @@ closes-asking o S ask hashes r S' closes n f w = elim (closes n f w) [
   | inl fewer ↦ inl (one_gap-asking o S S' n w.tree (look w.state.known) fewer)
   | inr other ↦ inr other
 ]
-
-noted-closes : (S : SessionSeen) (x : Directed Message) (v : Verdict) (S' : SessionSeen) → HasClosedTrees S → HasDistinctRoots S
-    → NotedStep S x v S' → ClosesOneGapIfAsked S x v S'
-noted-closes S (In, message.Hashes ask hashes) (verdict.Stored c) S' closed_trees distinct h = λ was.
-    closes-asking S'.asks S ask hashes.now (Ok c) (asking S.asks S') (safe_step S closed_trees distinct (message.Hashes ask hashes)
-    (verdict.Stored c) (asking S.asks S') (in_hashes S ask hashes (verdict.Stored c) S' was h)).closes_one_gap
-noted-closes S (In, message.Hashes ask hashes) (verdict.HashRefused r) S' closed_trees distinct h = λ was.
-    closes-asking S'.asks S ask hashes.now (Err r) (asking S.asks S') (safe_step S closed_trees distinct (message.Hashes ask hashes)
-    (verdict.HashRefused r) (asking S.asks S') (in_hashes S ask hashes (verdict.HashRefused r) S' was h)).closes_one_gap
-noted-closes S (In, message.Hashes ask hashes) v S' closed_trees distinct h = absurd h
-noted-closes S (In, m) v S' closed_trees distinct h = tt
-noted-closes S (Out, m) v S' closed_trees distinct h = tt
 
 -- ---- open asks
 
@@ -257,10 +227,9 @@ pub safe_noted_step : (S : SessionSeen) → HasClosedTrees S → HasDistinctRoot
     → IsSafeNotedStep S x v S'
 safe_noted_step S closed_trees distinct x v S' step = record {
   allowed = step;
-  verified_is_the_block = noted-true S x v S' closed_trees step;
-  keeps_known = learns-keeps S S' (noted-learns S x v S' step);
-  takes_what_is_true = noted-takes S x v S' closed_trees distinct step;
-  closes_one_gap = noted-closes S x v S' closed_trees distinct step;
+  known_stays = noted-keeps S x v S' step;
+  is_safe = λ m is awaited.
+      safe_step S closed_trees distinct m v (asking S.asks S') (awaited-step S m v S' (subst (λ (y : Directed Message). NotedStep S y v S') is step) awaited);
   opens_only_ours = noted-opens S x v S' step;
   keeps_open = noted-open S x v S' step;
 }

@@ -12,8 +12,7 @@ use Rattle.partial_tree.specs.Gaps.{want_ask}
 use Rattle.tree_laws.proofs.Wanted.{true_answer-accepted}
 use Rattle.session.specs.Session.{SessionSeen, HasClosedTrees, HasDistinctRoots, IsStored, IsHashRefused}
 use Rattle.session.specs.Wanted.{IsWantedAnswer, HasOneGapFewer, WantedClosesOneGap}
-use Rattle.session.proofs.Rounds.{want-tall, stored-one_fewer, only-memory}
-use Rattle.session.proofs.RoundRuns.{wanted-is}
+use Rattle.session.proofs.Rounds.{wanted-is, want-tall, stored-one_fewer, only-memory}
 
 module _ (S : SessionSeen) (closed_trees : HasClosedTrees S) (distinct : HasDistinctRoots S) (ask : Ask) (hashes : List Hash) (S' : SessionSeen)
     (n : ℕ) (f : List ℕ) (w : IsWantedAnswer S n f ask hashes) where

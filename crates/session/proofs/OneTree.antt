@@ -25,6 +25,16 @@ tree-after S n tree before after S' at is = record {
   state_is = ap (λ U. slice_get U.trees n) is ∙ set-write S.trees n after before at.state_is;
 }
 
+-- what is known stays known if nothing changes, and through one state after the other
+pub keeps-same : (S S' : SessionSeen) → S' ≡ S → KeepsKnown S S'
+keeps-same S S' e n tree s at = (s, subst (λ U. IsTree U n tree s) (sym e) at, λ l i v k. k)
+
+pub keeps-then : (S M S' : SessionSeen) → KeepsKnown S M → KeepsKnown M S' → KeepsKnown S S'
+keeps-then S M S' first next n tree s at =
+    let (mid, mid_is, a) = first n tree s at in
+    let (later, later_is, b) = next n tree mid mid_is in
+    (later, later_is, λ l i v k. b l i v (a l i v k))
+
 -- if it keeps what it knows, so does the session
 pub one-keeps : (S : SessionSeen) (n : ℕ) (before after : TreeState) (S' : SessionSeen) → slice_get S.trees n ≡ Some before
     → S' ≡ record S { trees = set S.trees n after } → Keeps (look before.known) (look after.known) → KeepsKnown S S'
@@ -57,6 +67,6 @@ gaps-after S S' keeps n tree s at =
 -- a layer keeps what is known
 pub fill-keeps : (S : SessionSeen) (n layer : ℕ) (hashes : List Hash) (S' : SessionSeen) (r : Result ℕ HashRefusal)
     → IfOk r (λ c. IsFilled S n layer hashes c S') → IfErr r (λ x. IsFillRefused S n layer hashes x × (S' ≡ S)) → KeepsKnown S S'
-fill-keeps S n layer hashes S' (Err x) filled refused = λ k tree s at. (s, subst (λ U. IsTree U k tree s) (sym refused.1) at, λ l i v known. known)
+fill-keeps S n layer hashes S' (Err x) filled refused = keeps-same S S' refused.1
 fill-keeps S n layer hashes S' (Ok c) h refused = one-keeps S n h.before h.after S' h.is_tree.state_is h.state_after
     (λ l i v known. h.taken.1.joined_is l i ∙ joined-keeps (look h.before.known) (fill_claims h.tree.length layer hashes) l i v known)

@@ -17,7 +17,7 @@ use Rattle.partial_tree.specs.TreeRoot.{TreeRoot}
 use Rattle.session.specs.Asks.{AskSet}
 use Rattle.session.specs.Session.{SessionSeen, TreeState, IsTree, HasClosedTrees, IsAsked, IsAnswered, IsStored, IsHashRefused, IsInFile, BlockStep, AreTaken}
 use Rattle.session.specs.Session.{AreRefused, Step}
-use Rattle.session.specs.NotedLaws.{asking}
+use Rattle.session.specs.Noted.{asking}
 use Rattle.session.specs.SafeStep.{KeepsKnown}
 
 abbrev pub asked_asking : (o : AskSet) (S : SessionSeen) (ask : Ask) → IsAsked S ask → IsAsked (asking o S) ask

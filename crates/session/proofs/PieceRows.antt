@@ -21,7 +21,7 @@ use Rattle.node_maps.specs.Known.{Known, look}
 use Rattle.node_maps.specs.Places.{IsKnown}
 use Rattle.partial_tree.specs.Claims.{HasNew, IsMismatch}
 use Rattle.partial_tree.specs.Kept.{KeptTree, info_of, IsGoodTree}
-use Rattle.partial_tree.specs.LeafRows.{row_claims, TakesRow, mark_run}
+use Rattle.partial_tree.specs.LeafRows.{row_claims, row_joins, TakesRow, mark_run}
 use Rattle.partial_tree.specs.LeafPieces.{leaves_in, TreeTakesPiece, TreeRefusesPiece}
 use Rattle.partial_tree.specs.declared.refusal.PieceRefusal.{PieceRefusal}
 use Rattle.partial_tree.specs.declared.refusal.PieceRefusal.TheVariants.{BadPlace, BadSize, Unproved, BadPiece, NoMemory}
@@ -94,8 +94,9 @@ module _ (d : Description) (ts : List KeptTree) (kept : AreKept d ts) (o : AskSe
     row = subst (λ n. IsPieceRow a.length first n (length bytes)) span_here row;
     count = ok.count;
     after = next.state;
-    taken = subst (λ n. TakesRow first n (leaves_in bytes) a.state.known ok.count next.state.known) span_here
-        (subst (λ (m : Known). TakesRow first k (leaves_in bytes) a.state.known ok.count m) (sym (ap (λ (t : KeptTree). t.state.known) ok.marks)) ok.joins.0);
+    taken = subst (λ n. TakesRow a.length first n (leaves_in bytes) a.state.known ok.count next.state.known) span_here
+        (subst (λ (m : Known). TakesRow a.length first k (leaves_in bytes) a.state.known ok.count m)
+        (sym (ap (λ (t : KeptTree). t.state.known) ok.marks)) ok.joins.0);
     marks = ap (λ (t : KeptTree). t.state.marked) ok.marks ∙ ap (λ (t : KeptTree). mark_run t.state.marked first (block_count (length bytes))) ok.joins.1;
     state_after = ap (with_trees d o) (map-set state_of ts tr next);
   }
@@ -121,7 +122,7 @@ module _ (d : Description) (ts : List KeptTree) (kept : AreKept d ts) (o : AskSe
     (
       size_here,
       subst (λ n. IsKnown (look a.state.known) n (first / 2 ^ n)) span_here h.0,
-      subst (λ n. HasNew (look a.state.known) (row_claims first n (leaves_in bytes))) span_here h.1,
+      subst (λ n. HasNew (look a.state.known) (row_joins a.length first n (leaves_in bytes))) span_here h.1,
     ),
   )
   refused_here BadPlace h = absurd h

@@ -1,15 +1,14 @@
 -- A round: whatever the messages before it did, the true answer to what was wanted leaves fewer gaps.
-use Rattle.std.proofs.Common.{◌≡◌, ◌≢◌, ◌⊎◌, ℕ, ◌+◌, ◌^◌, ◌<◌, ◌≤◌, List, map, None, inl, inr, refl, sym, ap, ap₂, ◌∙◌, subst, subst₂, arith, Bor}
+use Rattle.std.proofs.Common.{◌≡◌, ◌≢◌, ◌⊎◌, ℕ, ◌+◌, ◌*◌, ◌^◌, ◌<◌, ◌≤◌, List, map, Option, Some, None, cond, is_none, inl, inr, refl, sym, ap, ap₂, ◌∙◌}
+use Rattle.std.proofs.Common.{subst, subst₂, arith, Bor}
 use Rattle.std.specs.Prelude.{slice_get}
-use Rattle.std.specs.List.{All}
 use Rattle.std.proofs.lemmas.Option.{same_Some, none-some}
 use Rattle.std.proofs.lemmas.Bool.{cases_lt}
-use Rattle.partial_tree.specs.TreeRoot.{TreeRoot, Fits}
-use Rattle.node_maps.specs.Places.{tree_height, PartialTree}
+use Rattle.partial_tree.specs.TreeRoot.{TreeRoot}
+use Rattle.node_maps.specs.Places.{tree_height, PartialTree, IsKnown}
 use Rattle.wire.specs.declared.message.Ask.{Ask}
 use Rattle.partial_tree.specs.declared.refusal.HashRefusal.{HashRefusal}
 use Rattle.partial_tree.specs.declared.refusal.HashRefusal.TheVariants.{UnknownRoot, BadRange, BadCount, BadPad, Unanchored, Mismatch, NoMemory, Unasked}
-use Rattle.wire.specs.declared.message.Message.{Message}
 use Rattle.wire.specs.declared.message.Message.TheVariants as message
 use Rattle.session.specs.declared.verdict.Verdict.{Verdict}
 use Rattle.session.specs.declared.verdict.Verdict.TheVariants as verdict
@@ -17,19 +16,34 @@ use Rattle.node_maps.specs.Digest.{Hash}
 use Rattle.hashtree.specs.Tree.{block_count}
 use Rattle.partial_tree.specs.Closed.{Keeps, IsClosed, Collision, whole}
 use Rattle.partial_tree.specs.Claims.{claims, joined, Refuses, IsAccepted, answer_of}
-use Rattle.partial_tree.specs.Gaps.{gaps, want_ask}
+use Rattle.partial_tree.specs.Gaps.{gaps, want_ask, want_of}
 use Rattle.node_maps.specs.Known.{look}
-use Rattle.session.specs.Session.{HasHashes, SessionSeen, TreeState, IsTree, HasClosedTrees, IsAsked, IsStored, IsHashRefused, HasDistinctRoots, HasFewerGaps}
+use Rattle.session.specs.Session.{SessionSeen, TreeState, IsTree, HasClosedTrees, IsAsked, IsStored, IsHashRefused, HasDistinctRoots, HasFewerGaps}
 use Rattle.session.specs.Session.{Step}
 use Rattle.opening.specs.Description.{Description}
 use Rattle.session.specs.Layouts.{roots, root_of_entry}
-use Rattle.session.specs.Wanted.{HasOneGapFewer}
-use Rattle.chains.specs.Chain.{Chain}
+use Rattle.session.specs.Wanted.{HasOneGapFewer, IsWantedAnswer}
+use Rattle.session.specs.Rounds.{IsLater, Collides}
 use Rattle.hashtree.proofs.Heights.{height_enough}
 use Rattle.partial_tree.proofs.Joining.{accepted-no_fault}
 use Rattle.tree_laws.proofs.Wanted.{true_answer-accepted, want-fewer, want-one_fewer}
-use Rattle.session.proofs.Runs.{Learns, run-true, run-learns, run-torrent}
+use Rattle.chains.proofs.Cases.{some_or_none}
+use Rattle.session.proofs.Runs.{step-keeps}
 use Rattle.session.proofs.States.{set-write}
+
+-- ---- what is wanted
+
+pub wanted-none : (t : TreeRoot) (K : PartialTree) (b : ℕ) → IsKnown K 0 b → want_of t K b ≡ None
+wanted-none t K b (v, known) = ap (λ (o : Option Hash). cond (is_none o) (Some (want_ask t b)) None) known
+
+pub wanted-some : (t : TreeRoot) (K : PartialTree) (b : ℕ) → K 0 b ≡ None → want_of t K b ≡ Some (want_ask t b)
+wanted-some t K b none = ap (λ (o : Option Hash). cond (is_none o) (Some (want_ask t b)) None) none
+
+pub wanted-is : (t : TreeRoot) (K : PartialTree) (b : ℕ) (ask : Ask) → want_of t K b ≡ Some ask → (K 0 b ≡ None) × (ask ≡ want_ask t b)
+wanted-is t K b ask e = elim (some_or_none (K 0 b)) [
+  | inl known ↦ absurd (none-some ask (sym (wanted-none t K b known) ∙ e))
+  | inr none ↦ (none, same_Some ask (want_ask t b) (sym e ∙ wanted-some t K b none))
+]
 
 -- a leaf that is not known is not the root
 pub want-tall : (t : TreeRoot) (K : PartialTree) (b : ℕ) → IsClosed t K → b < block_count t.length → K 0 b ≡ None → 1 ≤ tree_height t.length
@@ -114,24 +128,43 @@ module _ (n : ℕ) (tree : TreeRoot) (b : ℕ) (in' : b < block_count tree.lengt
       absurd (memory (ap verdict.HashRefused (only-memory S S' distinct s at tall keeps none hs.now ok r h.0)))
   answer-fewer S S' distinct s at tall keeps none hs ok v memory h = absurd h
 
--- a run of messages that ends with the true answer, not refused out of memory, leaves fewer gaps, or a collision is named
-pub round : (S : SessionSeen) → HasDistinctRoots S → (ms : List Message) (vs : List Verdict) (S₁ S₂ : SessionSeen) (n : ℕ) (tree : TreeRoot) (s : TreeState)
-    (b : ℕ) (f : List ℕ)
-    → HasClosedTrees S → All HasHashes ms → Chain Step S ms vs S₁ → IsTree S n tree s → (in' : b < block_count tree.length) → look s.known 0 b ≡ None
-    → Fits f tree
-    → (hs : Bor (List Hash)) → hs.now ≡ answer_of (tree_height tree.length) (whole f) (want_ask tree b)
-    → (v : Verdict) → v ≢ verdict.HashRefused NoMemory → Step S₁ (message.Hashes (want_ask tree b) hs) v S₂
-    → HasFewerGaps S₂ n tree (look s.known) ⊎ ((s₁ : TreeState) × IsTree S₁ n tree s₁ × Collision (whole f) (look s₁.known))
-round S distinct ms vs S₁ S₂ n tree s b f closed_trees all run at in' none fits hs stated v memory step =
-    let learnt : Learns S S₁ n tree s = run-learns S ms vs S₁ run n tree s at in
-    let closed : IsClosed tree (look s.known) = closed_trees.closed n tree s at in
-    let closed₁ : IsClosed tree (look learnt.later.known) = (run-true S ms vs S₁ closed_trees all run).1.closed n tree learnt.later learnt.later_is in
-    let distinct₁ : HasDistinctRoots S₁ = λ i k x y p q e. distinct i k x y
-    (ap (λ (d : Description). slice_get (map root_of_entry d.trees) i) (sym (run-torrent S ms vs S₁ run)) ∙ p)
-    (ap (λ (d : Description). slice_get (map root_of_entry d.trees) k) (sym (run-torrent S ms vs S₁ run)) ∙ q) e in
-    let tall : 1 ≤ tree_height tree.length = want-tall tree (look s.known) b closed in' none in
-    elim (true_answer-accepted tree b tall in' (look learnt.later.known) f closed₁ fits) [
-      | inr collision ↦ inr (learnt.later, learnt.later_is, collision)
-      | inl ok ↦ inl (answer-fewer n tree b in' (look s.known) S₁ S₂ distinct₁ learnt.later learnt.later_is tall learnt.keeps none hs
-          (subst (IsAccepted tree.length (look learnt.later.known) (want_ask tree b)) (sym stated) ok) v memory step)
+pub collision-keeps : (J K L : PartialTree) → Keeps K L → Collision J K → Collision J L
+collision-keeps J K L keeps c = record {
+  layer = c.layer;
+  index = c.index;
+  J_left = c.J_left;
+  J_right = c.J_right;
+  K_left = c.K_left;
+  K_right = c.K_right;
+  J_left_known = c.J_left_known;
+  J_right_known = c.J_right_known;
+  K_left_known = keeps c.layer (2 * c.index) c.K_left c.K_left_known;
+  K_right_known = keeps c.layer (2 * c.index + 1) c.K_right c.K_right_known;
+  differ = c.differ;
+  one_digest = c.one_digest;
+}
+
+-- the roots stay distinct, since the torrent stays
+pub later-distinct : (S M : SessionSeen) → M.torrent ≡ S.torrent → HasDistinctRoots S → HasDistinctRoots M
+later-distinct S M same distinct = λ i k x y p q e. distinct i k x y
+    (ap (λ (d : Description). slice_get (map root_of_entry d.trees) i) (sym same) ∙ p)
+    (ap (λ (d : Description). slice_get (map root_of_entry d.trees) k) (sym same) ∙ q) e
+
+-- the true answer to what was wanted of an earlier session leaves fewer gaps than that had, if memory is not refused for it, or a collision is named
+pub answered-fewer : (S N S' : SessionSeen) → HasClosedTrees S → IsLater S N → (n : ℕ) (f : List ℕ) (ask : Ask) (answer : Bor (List Hash))
+    → (w : IsWantedAnswer S n f ask answer.now) → (v : Verdict) → v ≢ verdict.HashRefused NoMemory → Step N (message.Hashes ask answer) v S'
+    → HasFewerGaps S' n w.tree (look w.state.known) ⊎ Collides S' n f
+answered-fewer S N S' closed_trees later n f ask answer w v memory step =
+    let (none, is) = wanted-is w.tree (look w.state.known) w.block ask w.wanted in
+    let tall : 1 ≤ tree_height w.tree.length = want-tall w.tree (look w.state.known) w.block (closed_trees.closed n w.tree w.state w.is_tree) w.inside none in
+    let (now, now_is, keeps) = later.keeps n w.tree w.state w.is_tree in
+    let stated : answer.now ≡ answer_of (tree_height w.tree.length) (whole f) (want_ask w.tree w.block) =
+    w.is_answer ∙ ap (answer_of (tree_height w.tree.length) (whole f)) is in
+    elim (true_answer-accepted w.tree w.block tall w.inside (look now.known) f (later.closed.closed n w.tree now now_is) w.fits) [
+      | inr collision ↦
+          let (last, last_is, kept) = step-keeps N (message.Hashes ask answer) v S' step n w.tree now now_is in
+          inr (w.tree, last, last_is, collision-keeps (whole f) (look now.known) (look last.known) kept collision)
+      | inl ok ↦ inl (answer-fewer n w.tree w.block w.inside (look w.state.known) N S' later.distinct now now_is tall keeps none answer
+          (subst (IsAccepted w.tree.length (look now.known) (want_ask w.tree w.block)) (sym stated) ok) v memory
+          (subst (λ a. Step N (message.Hashes a answer) v S') is step))
     ]

@@ -1,12 +1,10 @@
 -- Runs of a session: its trees stay closed, nothing is lost, and each verified block is the file's.
-use Rattle.std.proofs.Common.{◌≡◌, ℕ, List, [], ◌∷◌, length, Some, inl, inr, sym, ap, ap₂, ◌∙◌, subst, subst₂}
+use Rattle.std.proofs.Common.{◌≡◌, ℕ, List, length, Some, inl, inr, refl, sym, ap, ◌∙◌, subst, subst₂}
 use Rattle.std.specs.Prelude.{slice_get}
 use Rattle.std.specs.List.{All}
 use Rattle.std.specs.FinSet as leaves
 use Rattle.std.proofs.lemmas.Option.{same_Some}
 use Rattle.std.proofs.lemmas.List.{length-set}
-use Rattle.std.proofs.lemmas.Bool.{cases_eq}
-use Rattle.std.proofs.lemmas.List.Elements.{All-head, All-tail}
 use Rattle.partial_tree.specs.TreeRoot.{TreeRoot}
 use Rattle.wire.specs.declared.message.Ask.{Ask}
 use Rattle.wire.specs.declared.message.Message.{Message}
@@ -14,17 +12,20 @@ use Rattle.wire.specs.declared.message.Message.TheVariants as message
 use Rattle.session.specs.declared.verdict.Verdict.{Verdict}
 use Rattle.session.specs.declared.verdict.Verdict.TheVariants as verdict
 use Rattle.node_maps.specs.Digest.{Hash, IsHash}
-use Rattle.partial_tree.specs.Closed.{Keeps, IsClosed}
+use Rattle.partial_tree.specs.Closed.{IsClosed}
 use Rattle.partial_tree.specs.Claims.{claims, joined}
 use Rattle.node_maps.specs.Known.{Known, look}
-use Rattle.session.specs.Session.{SessionSeen, TreeState, IsTree, HasClosedTrees, IsStored, AreTaken, Step, IsTrueVerdict, IsTrueStep, HasHashes}
+use Rattle.session.specs.Session.{SessionSeen, TreeState, HasClosedTrees, IsStored, AreTaken, Step, IsTrueVerdict, IsTrueStep, HasHashes}
 use Rattle.session.specs.Blocks.{BlocksSeen}
 use Rattle.session.specs.Layouts.{roots}
 use Rattle.chains.specs.Chain.{Chain}
 use Rattle.partial_tree.proofs.Joining.{joined-closed, joined-keeps}
 use Rattle.partial_tree.proofs.Keeping.{closed-same}
-use Rattle.session.proofs.States.{set-read, set-write, set-other}
-use Rattle.session.proofs.Entries.{Later, chain-closed, chain-torrent, chain-known, taken-blocks}
+use Rattle.session.proofs.States.{set-read}
+use Rattle.session.specs.SafeStep.{KeepsKnown}
+use Rattle.chains.proofs.Chains.{Chain-kept, Chain-same, Chain-weaker, Chain-with, Chain-within}
+use Rattle.session.proofs.OneTree.{one-keeps, keeps-same, keeps-then}
+use Rattle.session.proofs.Entries.{Later, AreLater, chain-closed, chain-torrent, chain-known, taken-blocks}
 
 -- what a step does to the state
 pub data Effect (S : SessionSeen) (m : Message) (S' : SessionSeen) : Type 0 where
@@ -85,76 +86,33 @@ module _ (S : SessionSeen) (closed_trees : HasClosedTrees S) where
     ];
   }
 
--- ---- whole runs
+-- ---- steps
 
--- what one state knows of each tree the other knows too
-pub record Learns (S S' : SessionSeen) (n : ℕ) (tree : TreeRoot) (s : TreeState) : Type 0 where
-  pub later : TreeState
-  pub later_is : IsTree S' n tree later
-  pub keeps : Keeps (look s.known) (look later.known)
+-- a tree that knows what it knew keeps it
+pub later-keeps : (S S' : SessionSeen) → AreLater S S' → KeepsKnown S S'
+later-keeps S S' later n tree s at =
+    let a : Later S' n tree s = later n tree s at in
+    (a.later, a.later_is, λ l i v e. ap (λ (K : Known). look K l i) a.known ∙ e)
 
 pub step-closed : (S : SessionSeen) (m : Message) (S' : SessionSeen) → HasClosedTrees S → HasHashes m → Effect S m S' → HasClosedTrees S'
 step-closed S m S' closed_trees all (unchanged e) = subst HasClosedTrees (sym e) closed_trees
 step-closed S m S' closed_trees all (stored ask hashes c has h) = closed-stored S closed_trees ask hashes c S' (has all) h
 step-closed S m S' closed_trees all (taken index begin bytes v h) = chain-closed v.file S _ v.refusals S' closed_trees h.each
 
-pub step-learns : (S : SessionSeen) (m : Message) (S' : SessionSeen) → Effect S m S' → (n : ℕ) (tree : TreeRoot) (s : TreeState) → IsTree S n tree s
-    → Learns S S' n tree s
-step-learns S m S' (unchanged e) n tree s at = record {
-  later = s;
-  later_is = subst (λ U. IsTree U n tree s) (sym e) at;
-  keeps = λ l i v k. k;
-}
-step-learns S m S' (stored ask hashes c has h) n tree s at = elim (cases_eq n h.asked.number) [
-  | inl same ↦ record {
-    later = h.after;
-    later_is = record {
-      tree_is = ap (λ U. slice_get (roots U) n) h.state_after ∙ at.tree_is;
-      state_is = ap₂ (λ U i. slice_get U.trees i) h.state_after same ∙ set-write S.trees h.asked.number h.after h.asked.state h.asked.is_tree.state_is;
-    };
-    keeps = λ l i v k. h.taken.1.joined_is l i ∙ joined-keeps (look h.asked.state.known) (claims ask hashes) l i v
-        (ap (λ st. look st.known l i) (same_Some h.asked.state s (sym h.asked.is_tree.state_is ∙ sym (ap (slice_get S.trees) same) ∙ at.state_is)) ∙ k);
-  }
-  | inr other ↦ record {
-    later = s;
-    later_is = record {
-      tree_is = ap (λ U. slice_get (roots U) n) h.state_after ∙ at.tree_is;
-      state_is = ap (λ U. slice_get U.trees n) h.state_after
-          ∙ set-other S.trees h.asked.number n h.after s other at.state_is;
-    };
-    keeps = λ l i v k. k;
-  }
-]
-step-learns S m S' (taken index begin bytes v h) n tree s at =
-    let after : Later S' n tree s = chain-known v.file S _ v.refusals S' h.each n tree s at in
-    record { later = after.later; later_is = after.later_is; keeps = λ l i x k. ap (λ (K : Known). look K l i) after.known ∙ k }
+pub effect-keeps : (S : SessionSeen) (m : Message) (S' : SessionSeen) → Effect S m S' → KeepsKnown S S'
+effect-keeps S m S' (unchanged e) = keeps-same S S' e
+effect-keeps S m S' (stored ask hashes c has h) = one-keeps S h.asked.number h.asked.state h.after S' h.asked.is_tree.state_is h.state_after
+    (λ l i v k. h.taken.1.joined_is l i ∙ joined-keeps (look h.asked.state.known) (claims ask hashes) l i v k)
+effect-keeps S m S' (taken index begin bytes v h) = later-keeps S S' (chain-known v.file S _ v.refusals S' h.each)
+
+pub step-keeps : (S : SessionSeen) (m : Message) (v : Verdict) (S' : SessionSeen) → Step S m v S' → KeepsKnown S S'
+step-keeps S m v S' step = effect-keeps S m S' (effect S m v S' step)
 
 pub verdict-true : (S : SessionSeen) (m : Message) (v : Verdict) (S' : SessionSeen) → HasClosedTrees S → Step S m v S' → IsTrueVerdict S m v
-verdict-true S (message.Piece index begin bytes) (verdict.Blocks v) S' closed_trees h = taken-blocks S closed_trees index begin bytes.now v S' h
-verdict-true S m v S' closed_trees h = tt
+verdict-true S m v S' closed_trees h = λ index begin sent entries is said.
+    taken-blocks S closed_trees index begin sent.now entries S' (subst₂ (λ (p : Message) (w : Verdict). Step S p w S') is said h)
 
--- a run keeps the trees closed, and each of its verdicts keeps its promise
-pub run-true : (S : SessionSeen) (ms : List Message) (vs : List Verdict) (S' : SessionSeen) → HasClosedTrees S → All HasHashes ms → Chain Step S ms vs S'
-    → Chain IsTrueStep S ms vs S' × HasClosedTrees S'
-run-true S [] [] S' closed_trees all e = (e, subst HasClosedTrees (sym e) closed_trees)
-run-true S [] (v ∷ vs) S' closed_trees all e = absurd e
-run-true S (m ∷ ms) [] S' closed_trees all e = absurd e
-run-true S (m ∷ ms) (v ∷ vs) S' closed_trees all (M, step, rest) =
-    let next : HasClosedTrees M = step-closed S m M closed_trees (All-head HasHashes m ms all) (effect S m v M step) in
-    let (later, last) = run-true M ms vs S' next (All-tail HasHashes m ms all) rest in
-    ((M, (step, verdict-true S m v M closed_trees step), later), last)
-
-pub run-learns : (S : SessionSeen) (ms : List Message) (vs : List Verdict) (S' : SessionSeen) → Chain Step S ms vs S'
-    → (n : ℕ) (tree : TreeRoot) (s : TreeState) → IsTree S n tree s → Learns S S' n tree s
-run-learns S [] [] S' e n tree s at = step-learns S message.KeepAlive S' (unchanged e) n tree s at
-run-learns S [] (v ∷ vs) S' e n tree s at = absurd e
-run-learns S (m ∷ ms) [] S' e n tree s at = absurd e
-run-learns S (m ∷ ms) (v ∷ vs) S' (M, step, rest) n tree s at =
-    let a : Learns S M n tree s = step-learns S m M (effect S m v M step) n tree s at in
-    let b : Learns M S' n tree a.later = run-learns M ms vs S' rest n tree a.later a.later_is in
-    record { later = b.later; later_is = b.later_is; keeps = λ l i v k. b.keeps l i v (a.keeps l i v k) }
-
--- a step keeps the torrent, and so does a run
+-- a step keeps the torrent
 pub effect-torrent : (S : SessionSeen) (m : Message) (S' : SessionSeen) → Effect S m S' → S'.torrent ≡ S.torrent
 effect-torrent S m S' (unchanged e) = ap (λ U. U.torrent) e
 effect-torrent S m S' (stored ask hashes c has h) = ap (λ U. U.torrent) h.state_after
@@ -163,8 +121,27 @@ effect-torrent S m S' (taken index begin bytes v h) = chain-torrent v.file S _ v
 pub step-torrent : (S : SessionSeen) (m : Message) (v : Verdict) (S' : SessionSeen) → Step S m v S' → S'.torrent ≡ S.torrent
 step-torrent S m v S' step = effect-torrent S m S' (effect S m v S' step)
 
+-- ---- whole runs
+
 pub run-torrent : (S : SessionSeen) (ms : List Message) (vs : List Verdict) (S' : SessionSeen) → Chain Step S ms vs S' → S'.torrent ≡ S.torrent
-run-torrent S [] [] S' e = ap (λ U. U.torrent) e
-run-torrent S [] (v ∷ vs) S' e = absurd e
-run-torrent S (m ∷ ms) [] S' e = absurd e
-run-torrent S (m ∷ ms) (v ∷ vs) S' (M, step, rest) = run-torrent M ms vs S' rest ∙ step-torrent S m v M step
+run-torrent = Chain-same Step (λ (A : SessionSeen). A.torrent) step-torrent
+
+pub run-keeps : (S : SessionSeen) (ms : List Message) (vs : List Verdict) (S' : SessionSeen) → Chain Step S ms vs S' → KeepsKnown S S'
+run-keeps = Chain-within Step KeepsKnown (λ A. keeps-same A A refl) keeps-then step-keeps
+
+-- a run keeps the trees closed, and each of its verdicts keeps its promise
+keeps-closed : (S : SessionSeen) (m : Message) (v : Verdict) (S' : SessionSeen) → HasClosedTrees S → HasHashes m → Step S m v S' → HasClosedTrees S'
+keeps-closed S m v S' closed_trees has step = step-closed S m S' closed_trees has (effect S m v S' step)
+
+pub run-closed : (S : SessionSeen) (ms : List Message) (vs : List Verdict) (S' : SessionSeen) → HasClosedTrees S → All HasHashes ms → Chain Step S ms vs S'
+    → HasClosedTrees S'
+run-closed = Chain-kept Step HasClosedTrees HasHashes keeps-closed
+
+pub run-true : (S : SessionSeen) (ms : List Message) (vs : List Verdict) (S' : SessionSeen) → HasClosedTrees S → All HasHashes ms → Chain Step S ms vs S'
+    → Chain IsTrueStep S ms vs S' × HasClosedTrees S'
+run-true S ms vs S' closed_trees all run = (
+  Chain-weaker (λ (A : SessionSeen) (m : Message) (v : Verdict) (B : SessionSeen). HasClosedTrees A × Step A m v B) IsTrueStep
+      (λ A m v B at. (at.1, verdict-true A m v B at.0 at.1)) S ms vs S'
+      (Chain-with Step HasClosedTrees HasHashes keeps-closed S ms vs S' closed_trees all run),
+  run-closed S ms vs S' closed_trees all run,
+)

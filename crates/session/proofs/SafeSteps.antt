@@ -1,5 +1,5 @@
 -- Each step of a closed_trees state does no harm, and so does a run of steps.
-use Rattle.std.proofs.Common.{◌≡◌, ◌⊎◌, ℕ, Result, Ok, Err, IfOk, IfErr, List, [], ◌∷◌, length, get_or, Some, None, ◌<◌, inl, inr, refl, sym, ap, ◌∙◌, subst}
+use Rattle.std.proofs.Common.{◌≡◌, ◌⊎◌, ℕ, Result, Ok, Err, IfOk, IfErr, List, length, get_or, Some, None, ◌<◌, inl, inr, refl, sym, ap, ◌∙◌, subst}
 use Rattle.std.proofs.Common.{subst₂, arith}
 use Rattle.std.specs.Prelude.{map, slice_get}
 use Rattle.std.specs.FinMap.{empty}
@@ -22,7 +22,7 @@ use Rattle.node_maps.specs.Digest.{Hash}
 use Rattle.node_maps.specs.Places.{PartialTree, IsKnown}
 use Rattle.partial_tree.specs.Closed.{Collision, whole}
 use Rattle.partial_tree.specs.Claims.{IsAccepted, Refuses}
-use Rattle.node_maps.specs.Known.{Known, look}
+use Rattle.node_maps.specs.Known.{look}
 use Rattle.session.specs.Session.{SessionSeen, TreeState, IsTree, HasClosedTrees, IsAsked, IsPlaced, IsStored, IsVerified, IsBlock, AreBlocks, AreTaken}
 use Rattle.session.specs.Session.{AreRefused, IsHashRefused, IsBlockRefused, HasDistinctRoots, Step}
 use Rattle.session.specs.Blocks.{BlocksSeen, Cut}
@@ -33,17 +33,12 @@ use Rattle.tree_laws.proofs.Answers.{answer-stored}
 use Rattle.partial_tree.proofs.Joining.{accepted-no_fault}
 use Rattle.partial_tree.specs.Kept.{RefusesBlock}
 use Rattle.opening.specs.Blocks.{IsBlockRun}
-use Rattle.session.proofs.Entries.{Later, same_tree, same_state, step-known, never-refused, says-block, chain-known, taken-blocks, taken-true}
-use Rattle.session.proofs.Runs.{run-learns, verdict-true}
+use Rattle.session.proofs.Entries.{same_tree, same_state, step-known, never-refused, says-block, chain-known, taken-blocks, taken-true}
+use Rattle.session.proofs.OneTree.{keeps-same}
+use Rattle.session.proofs.Runs.{later-keeps, step-keeps, step-torrent, verdict-true}
 use Rattle.session.proofs.OneGap.{wanted-closes}
-use Rattle.session.specs.Wanted.{ClosesOneGap}
 use Rattle.session.specs.SafeStep.{KeepsKnown, AreTrueHashes, StoresTrueHashes, IsAnswerFrom, StoresAnswers, IsNoRun, VerifiesTrueBlock, VerifiesTrueBlocks}
-use Rattle.session.specs.SafeStep.{TakesWhatIsTrue, IsSafeStep}
-
-keeps_known : (S : SessionSeen) (m : Message) (v : Verdict) (S' : SessionSeen) → Step S m v S' → KeepsKnown S S'
-keeps_known S m v S' step n tree s at =
-    let learnt = run-learns S (m ∷ []) (v ∷ []) S' (S', step, refl) n tree s at in
-    (learnt.later, learnt.later_is, learnt.keeps)
+use Rattle.session.specs.SafeStep.{verdict_of, IsSafeStep}
 
 -- ---- true hashes
 
@@ -130,8 +125,8 @@ answers-stored S closed_trees distinct ask hashes (Err x) S' stored refused = λ
 
 pub hashes-keep : (S : SessionSeen) (ask : Ask) (hashes : Bor (List Hash)) (r : Result ℕ HashRefusal) (S' : SessionSeen)
     → IfOk r (λ c. IsStored S ask hashes.now c S') → IfErr r (λ x. IsHashRefused S ask hashes.now x × (S' ≡ S)) → KeepsKnown S S'
-hashes-keep S ask hashes (Ok c) S' stored refused = keeps_known S (message.Hashes ask hashes) (verdict.Stored c) S' stored
-hashes-keep S ask hashes (Err x) S' stored refused = keeps_known S (message.Hashes ask hashes) (verdict.HashRefused x) S' refused
+hashes-keep S ask hashes (Ok c) S' stored refused = step-keeps S (message.Hashes ask hashes) (verdict.Stored c) S' stored
+hashes-keep S ask hashes (Err x) S' stored refused = step-keeps S (message.Hashes ask hashes) (verdict.HashRefused x) S' refused
 
 -- ---- true blocks
 
@@ -165,7 +160,8 @@ module _ (S : SessionSeen) (index begin : ℕ) (p q : IsPlaced S index begin) wh
   run_there size k run = subst₂ (λ (tr : TreeRoot) b. IsBlockRun tr.length b size k) (sym placed_tree) (sym same_block_number) run
 
 module _ (S : SessionSeen) (closed_trees : HasClosedTrees S) (index begin : ℕ) (bytes : List ℕ) (p : IsPlaced S index begin) (f : List ℕ)
-    (fits : Fits f p.in_file.tree) (is_block : bytes ≡ block f p.number) (known : IsKnown (look p.in_file.state.known) 0 p.number) where
+    (fits : Fits f p.in_file.tree.length p.in_file.tree.root) (is_block : bytes ≡ block f p.number)
+    (known : IsKnown (look p.in_file.state.known) 0 p.number) where
   refused_elsewhere : (r : BlockRefusal) → (q : IsPlaced S index begin)
       → RefusesBlock q.in_file.tree.length (look q.in_file.state.known) q.number bytes r
       → Collision (whole f) (look p.in_file.state.known)
@@ -186,14 +182,6 @@ block-taken S closed_trees index begin bytes (Ok (file, b)) S' was refused =
 block-taken S closed_trees index begin bytes (Err x) S' was refused =
     λ p f fits is_block known. inr (block_refused S closed_trees index begin bytes p f fits is_block known x refused.0)
 
-later-keeps : (S S' : SessionSeen) → ((n : ℕ) (tree : TreeRoot) (s : TreeState) → IsTree S n tree s → Later S' n tree s) → KeepsKnown S S'
-later-keeps S S' later n tree s at =
-    let a : Later S' n tree s = later n tree s at in
-    (a.later, a.later_is, λ l i v e. ap (λ (K : Known). look K l i) a.known ∙ e)
-
-same-keeps : (S S' : SessionSeen) → S' ≡ S → KeepsKnown S S'
-same-keeps S S' e = λ n tree s at. (s, subst (λ U. IsTree U n tree s) (sym e) at, λ l i v k. k)
-
 abbrev one_cut : ℕ → List ℕ → Cut
 one_cut b bytes = record { number = b; bytes = bytes }
 
@@ -201,7 +189,7 @@ pub block-keeps : (S : SessionSeen) (index begin : ℕ) (bytes : List ℕ) (r : 
     → IfOk r (λ p. IsVerified S index begin bytes p.0 p.1 S') → IfErr r (λ x. IsBlockRefused S index begin bytes x × (S' ≡ S))
     → KeepsKnown S S'
 block-keeps S index begin bytes (Ok (file, b)) S' was refused = later-keeps S S' (step-known file S (one_cut b bytes) None S' was.1)
-block-keeps S index begin bytes (Err x) S' was refused = same-keeps S S' refused.1
+block-keeps S index begin bytes (Err x) S' was refused = keeps-same S S' refused.1
 
 pub block-is : (S : SessionSeen) → HasClosedTrees S → (index begin : ℕ) (bytes : List ℕ) (r : Result (ℕ × ℕ) BlockRefusal) (S' : SessionSeen)
     → IfOk r (λ p. IsVerified S index begin bytes p.0 p.1 S') → IfOk r (λ p. IsBlock S index begin bytes p.0 p.1)
@@ -233,35 +221,35 @@ blocks-true S closed_trees index begin bytes (Err x) S' h = tt
 pub blocks-keep : (S : SessionSeen) (index begin : ℕ) (bytes : List ℕ) (r : Result BlocksSeen BlockRefusal) (S' : SessionSeen)
     → IfOk r (λ v. AreTaken S index begin bytes v S') → IfErr r (λ x. AreRefused S index begin bytes x × (S' ≡ S)) → KeepsKnown S S'
 blocks-keep S index begin bytes (Ok v) S' h refused = later-keeps S S' (chain-known v.file S _ v.refusals S' h.each)
-blocks-keep S index begin bytes (Err x) S' h refused = same-keeps S S' refused.1
+blocks-keep S index begin bytes (Err x) S' h refused = keeps-same S S' refused.1
 
 -- ---- steps
 
-takes_true : (S : SessionSeen) → HasClosedTrees S → HasDistinctRoots S → (m : Message) (v : Verdict) (S' : SessionSeen) → Step S m v S' → TakesWhatIsTrue S m v
-takes_true S closed_trees distinct (message.Hashes ask hashes) (verdict.Stored c) S' step =
-    (hashes-stored S closed_trees distinct ask hashes.now (Ok c) S' step tt, answers-stored S closed_trees distinct ask hashes.now (Ok c) S' step tt)
-takes_true S closed_trees distinct (message.Hashes ask hashes) (verdict.HashRefused r) S' step =
-    (hashes-stored S closed_trees distinct ask hashes.now (Err r) S' tt step, answers-stored S closed_trees distinct ask hashes.now (Err r) S' tt step)
-takes_true S closed_trees distinct (message.Piece index begin bytes) (verdict.Blocks v) S' step = taken-true S closed_trees index begin bytes.now v S' step
-takes_true S closed_trees distinct (message.Piece index begin bytes) (verdict.BlockRefused r) S' step = no-run S index begin bytes.now r step.0
-takes_true S closed_trees distinct (message.Hashes ask hashes) v S' step = absurd step
-takes_true S closed_trees distinct (message.Piece index begin bytes) v S' step = absurd step
-takes_true S closed_trees distinct m v S' step = tt
+module _ (S : SessionSeen) (closed_trees : HasClosedTrees S) (distinct : HasDistinctRoots S) (m : Message) (v : Verdict) (S' : SessionSeen)
+    (step : Step S m v S') where
+  step-as : (p : Message) (w : Verdict) → m ≡ p → v ≡ w → Step S p w S'
+  step-as p w is said = subst₂ (λ (q : Message) (u : Verdict). Step S q u S') is said step
 
-closes_one_gap : (S : SessionSeen) → HasClosedTrees S → HasDistinctRoots S → (m : Message) (v : Verdict) (S' : SessionSeen)
-    → Step S m v S' → ClosesOneGap S m v S'
-closes_one_gap S closed_trees distinct (message.Hashes ask hashes) (verdict.Stored c) S' step =
-    wanted-closes S closed_trees distinct ask hashes.now (Ok c) S' step tt
-closes_one_gap S closed_trees distinct (message.Hashes ask hashes) (verdict.HashRefused r) S' step =
-    wanted-closes S closed_trees distinct ask hashes.now (Err r) S' tt step
-closes_one_gap S closed_trees distinct (message.Hashes ask hashes) v S' step = absurd step
-closes_one_gap S closed_trees distinct m v S' step = tt
+  -- what became of hashes
+  hashes-as : (ask : Ask) (given : Bor (List Hash)) (r : Result ℕ HashRefusal) → m ≡ message.Hashes ask given → v ≡ verdict_of r
+      → IfOk r (λ c. IsStored S ask given.now c S') × IfErr r (λ x. IsHashRefused S ask given.now x × (S' ≡ S))
+  hashes-as ask given (Ok c) is said = (step-as (message.Hashes ask given) (verdict.Stored c) is said, tt)
+  hashes-as ask given (Err x) is said = (tt, step-as (message.Hashes ask given) (verdict.HashRefused x) is said)
 
-pub safe_step : (S : SessionSeen) → HasClosedTrees S → HasDistinctRoots S → (m : Message) (v : Verdict) (S' : SessionSeen) → Step S m v S' → IsSafeStep S m v S'
-safe_step S closed_trees distinct m v S' step = record {
-  allowed = step;
-  verified_is_the_block = verdict-true S m v S' closed_trees step;
-  keeps_known = keeps_known S m v S' step;
-  takes_what_is_true = takes_true S closed_trees distinct m v S' step;
-  closes_one_gap = closes_one_gap S closed_trees distinct m v S' step;
-}
+  pub safe_step : IsSafeStep S m v S'
+  safe_step = record {
+    allowed = step;
+    torrent_stays = step-torrent S m v S' step;
+    verified_is_the_block = verdict-true S m v S' closed_trees step;
+    known_stays = step-keeps S m v S' step;
+    true_hashes_are_stored = λ ask given r is said.
+        let (stored, refused) = hashes-as ask given r is said in hashes-stored S closed_trees distinct ask given.now r S' stored refused;
+    answers_are_stored = λ ask given r is said.
+        let (stored, refused) = hashes-as ask given r is said in answers-stored S closed_trees distinct ask given.now r S' stored refused;
+    true_blocks_are_verified = λ index begin sent entries is said.
+        taken-true S closed_trees index begin sent.now entries S' (step-as (message.Piece index begin sent) (verdict.Blocks entries) is said);
+    blocks_are_not_refused = λ index begin sent r is said.
+        no-run S index begin sent.now r (step-as (message.Piece index begin sent) (verdict.BlockRefused r) is said).0;
+    one_gap_closes = λ ask given r is said.
+        let (stored, refused) = hashes-as ask given r is said in wanted-closes S closed_trees distinct ask given.now r S' stored refused;
+  }

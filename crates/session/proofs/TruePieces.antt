@@ -18,7 +18,7 @@ use Rattle.node_maps.specs.Places.{tree_height, PartialTree, IsTreePlace, IsKnow
 use Rattle.partial_tree.specs.Closed.{IsClosed, Collision, whole}
 use Rattle.partial_tree.specs.TreeRoot.{TreeRoot, Fits}
 use Rattle.partial_tree.specs.Claims.{cover, base_hash, uncle_hash, IsAgreed, IsHeldBy}
-use Rattle.partial_tree.specs.LeafRows.{row_ask, row_hashes, row_claims, IsLeafRow}
+use Rattle.partial_tree.specs.LeafRows.{row_ask, padded_leaves, row_claims, IsLeafRow}
 use Rattle.partial_tree.specs.LeafPieces.{leaves_in}
 use Rattle.partial_tree.specs.declared.refusal.PieceRefusal.{PieceRefusal}
 use Rattle.partial_tree.specs.declared.refusal.PieceRefusal.TheVariants.{BadPlace, BadSize, Unproved, BadPiece, NoMemory}
@@ -33,7 +33,8 @@ use Rattle.session.specs.Session.{SessionSeen, TreeState, IsInFile, HasClosedTre
 use Rattle.session.specs.Pieces.{IsTakenPiece, IsPieceRefused, IsRefusedFrom, TakesTruePiece, PieceFault, piece_span, piece_size}
 use Rattle.session.proofs.Entries.{same_tree, same_state}
 
-module _ (t : TreeRoot) (f : List ℕ) (fits : Fits f t) (first k : ℕ) (hashes : Bor (List Hash)) (row : IsLeafRow t.length first k (length hashes.now))
+module _ (t : TreeRoot) (f : List ℕ) (fits : Fits f t.length t.root) (first k : ℕ) (hashes : Bor (List Hash))
+    (row : IsLeafRow t.length first k (length hashes.now))
     (true_leaves : (j : ℕ) → j < length hashes.now → get_or hashes.now j [] ≡ sha256 (block f (first + j))) where
   -- the row lies in the tree
   within : first + 2 ^ k ≤ 2 ^ tree_height t.length
@@ -61,9 +62,9 @@ module _ (t : TreeRoot) (f : List ℕ) (fits : Fits f t) (first k : ℕ) (hashes
       let at : IsTreePlace (tree_height t.length) 0 i = (omega arith, subst (λ n. i < 2 ^ n) (sym none) high) in
       whole-at f 0 i (subst (λ n. IsTreePlace (tree_height n) 0 i) (sym fits.same_length) at)
 
-  held-at : (i : ℕ) (v : Hash) → first ≤ i → i < first + 2 ^ k → slice_get (row_hashes k hashes.now) (i - first) ≡ Some v → whole f 0 i ≡ Some v
+  held-at : (i : ℕ) (v : Hash) → first ≤ i → i < first + 2 ^ k → slice_get (padded_leaves k hashes.now) (i - first) ≡ Some v → whole f 0 i ≡ Some v
   held-at i v from low got =
-      let is : get_or (row_hashes k hashes.now) (i - first) [] ≡ v = get_or_from_slice_get (row_hashes k hashes.now) (i - first) v [] got in
+      let is : get_or (padded_leaves k hashes.now) (i - first) [] ≡ v = get_or_from_slice_get (padded_leaves k hashes.now) (i - first) v [] got in
       let back : first + (i - first) ≡ i = omega (arith, from) in
       in_whole i low ∙ ap Some (elim (cases_lt (i - first) (length hashes.now)) [
         | inl there ↦
@@ -81,30 +82,31 @@ module _ (t : TreeRoot) (f : List ℕ) (fits : Fits f t) (first k : ℕ) (hashes
             ∙ get_or-replicate (2 ^ k - length hashes.now) (i - first - length hashes.now) (zero_hash 0) [] inside) ∙ is
       ])
 
-  held : IsHeldBy (whole f) (row_ask first k) (row_hashes k hashes.now)
-  held l i v e = elim (either (base_hash (row_ask first k) (row_hashes k hashes.now) l i) (uncle_hash (row_ask first k) (row_hashes k hashes.now) l i) v e) [
-    | inl b ↦
-        let (at, from, low, got) = base-read (row_ask first k) (row_hashes k hashes.now) l i v b in
-        ap (λ n. whole f n i) at ∙ held-at i v from low got
-    | inr (none, u) ↦
-        let (from, at, got) = uncle-read (row_ask first k) (row_hashes k hashes.now) l i v u in
-        let within' : (row_ask first k).length + (l - cover (row_ask first k)) < length (row_hashes k hashes.now) =
-        slice_get_within (row_hashes k hashes.now) ((row_ask first k).length + (l - cover (row_ask first k))) v got in
-        absurd (omega (arith, within', full t first k hashes row))
-  ]
+  held : IsHeldBy (whole f) (row_ask first k) (padded_leaves k hashes.now)
+  held l i v e =
+      elim (either (base_hash (row_ask first k) (padded_leaves k hashes.now) l i) (uncle_hash (row_ask first k) (padded_leaves k hashes.now) l i) v e) [
+        | inl b ↦
+            let (at, from, low, got) = base-read (row_ask first k) (padded_leaves k hashes.now) l i v b in
+            ap (λ n. whole f n i) at ∙ held-at i v from low got
+        | inr (none, u) ↦
+            let (from, at, got) = uncle-read (row_ask first k) (padded_leaves k hashes.now) l i v u in
+            let within' : (row_ask first k).length + (l - cover (row_ask first k)) < length (padded_leaves k hashes.now) =
+            slice_get_within (padded_leaves k hashes.now) ((row_ask first k).length + (l - cover (row_ask first k))) v got in
+            absurd (omega (arith, within', full t first k hashes row))
+      ]
 
   -- the leaves of a true piece agree with what is known
   pub true-row : (K : PartialTree) → IsClosed t K → IsAgreed K (row_claims first k hashes.now) ⊎ Collision (whole f) K
   true-row K closed =
       elim (agreed_or_collision t (whole f) K (whole-closed f t fits) closed) [
         | inl same ↦ inl (λ l i u v p q. sym (same l i v u
-            (said-claims t (whole f) (row_ask first k) (row_hashes k hashes.now) (whole-closed f t fits) held l i v q) p))
+            (said-claims t (whole f) (row_ask first k) (padded_leaves k hashes.now) (whole-closed f t fits) held l i v q) p))
         | inr collision ↦ inr collision
       ]
 
 module _ (S : SessionSeen) (closed : HasClosedTrees S) (index : ℕ) (bytes : List ℕ) where
   -- what refuses a piece refuses no true one
-  fault : (file first : ℕ) (p : IsInFile S file first) (f : List ℕ) → Fits f p.tree
+  fault : (file first : ℕ) (p : IsInFile S file first) (f : List ℕ) → Fits f p.tree.length p.tree.root
       → IsLeafRow p.tree.length first (piece_span S.torrent.piece_length p.tree.length) (length (leaves_in bytes))
       → length bytes ≡ piece_size S.torrent.piece_length p.tree.length first
       → ((j : ℕ) → j < block_count (length bytes) → block bytes j ≡ block f (first + j))

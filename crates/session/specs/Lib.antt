@@ -14,7 +14,9 @@ pub mod Codes
 pub mod Fresh
 pub mod Laws
 pub mod RoundLaws
+pub mod EndLaws
 pub mod NotedLaws
 pub mod Trusted
 pub mod TrustLaws
 pub mod Pieces
+pub mod BlockTree

@@ -1,6 +1,6 @@
 -- A session that notes what it asks for, and takes hashes only in answer to an open ask (BEP 52,
 -- "hash request" and "hashes").
-use Rattle.std.specs.Prelude.{◌≡◌, ◌⊎◌, ℕ, ◌+◌, ◌<◌, true, List}
+use Rattle.std.specs.Prelude.{◌≡◌, ◌⊎◌, ℕ, ◌+◌, ◌<◌, true, List, ⊤}
 use Rattle.std.specs.FinSet as finite
 use Rattle.wire.specs.declared.form.Direction.TheVariants.{In, Out}
 use Rattle.wire.specs.declared.message.Ask.{Ask}
@@ -14,9 +14,9 @@ use Rattle.node_maps.specs.Places.{IsKnown}
 use Rattle.node_maps.specs.Known.{look}
 use Rattle.session.specs.declared.verdict.Verdict.{Verdict}
 use Rattle.session.specs.declared.verdict.Verdict.TheVariants as verdict
-use Rattle.session.specs.Session.{SessionSeen, IsAsked, IsStored, IsHashRefused, Step, IsTrueVerdict}
-use Rattle.session.specs.SafeStep.{KeepsKnown, TakesWhatIsTrue}
-use Rattle.session.specs.Wanted.{ClosesOneGap}
+use Rattle.session.specs.Asks.{AskSet}
+use Rattle.session.specs.Session.{SessionSeen, IsAsked, IsStored, IsHashRefused, Step}
+use Rattle.session.specs.SafeStep.{KeepsKnown, IsSafeStep}
 
 -- a request of our own for this went out, and no hashes have answered it yet
 abbrev pub IsOpenAsk : SessionSeen → Ask → Type 0
@@ -29,6 +29,10 @@ with_ask S ask = record S { asks = finite.insert S.asks ask }
 -- a session with the same trees, whose open asks are the same but for this one
 abbrev pub without_ask : SessionSeen → Ask → SessionSeen
 without_ask S ask = record S { asks = finite.remove S.asks ask }
+
+-- the same trees and marks, while these asks are open
+abbrev pub asking : AskSet → SessionSeen → SessionSeen
+asking asks S = record S { asks = asks }
 
 -- the hashes answer an open ask: what they claim is joined to its tree, with c more places, and the
 -- ask is closed
@@ -68,23 +72,10 @@ NotedStep S (Out, m) v S' = StepOut S m v S'
 
 -- ---- what each step keeps
 
--- what a verdict on what came in promises
-abbrev pub IsTrueNotedVerdict : SessionSeen → Directed Message → Verdict → Type 0
-IsTrueNotedVerdict S (In, m) v = IsTrueVerdict S m v
-IsTrueNotedVerdict S (Out, m) v = Unit {0}
-
--- what is true is taken if it came in; hashes, if their ask is open
-abbrev pub TakesWhatIsTrueAndAsked : SessionSeen → Directed Message → Verdict → Type 0
-TakesWhatIsTrueAndAsked S (In, message.Hashes ask hashes) v =
-    IsOpenAsk S ask → TakesWhatIsTrue S (message.Hashes ask hashes) v
-TakesWhatIsTrueAndAsked S (In, m) v = TakesWhatIsTrue S m v
-TakesWhatIsTrueAndAsked S (Out, m) v = Unit {0}
-
--- the true answer to what is wanted closes exactly one gap, if its ask is open
-abbrev pub ClosesOneGapIfAsked : SessionSeen → Directed Message → Verdict → SessionSeen → Type 0
-ClosesOneGapIfAsked S (In, message.Hashes ask hashes) v S' =
-    IsOpenAsk S ask → ClosesOneGap S (message.Hashes ask hashes) v S'
-ClosesOneGapIfAsked S x v S' = Unit {0}
+-- hashes are awaited if their ask is open, and each other message is
+abbrev pub IsAwaited : SessionSeen → Message → Type 0
+IsAwaited S (message.Hashes ask hashes) = IsOpenAsk S ask
+IsAwaited S m = ⊤
 
 -- the hashes that are asked for are known, so far as the base range goes
 pub record IsBaseKnown (S : SessionSeen) (ask : Ask) : Type 0 where
@@ -100,15 +91,12 @@ OpensOnlyOurs S (Out, m) S' = Unit {0}
 abbrev pub KeepsOpen : SessionSeen → SessionSeen → Type 0
 KeepsOpen S S' = (ask : Ask) → IsOpenAsk S ask → IsOpenAsk S' ask ⊎ IsBaseKnown S' ask
 
--- a step that is allowed, verifies nothing but the block itself, is not harmed by poison, closes
--- exactly one gap where the true answer to what is wanted and asked came, and lets nobody else open
--- an ask, or close it without its answer
+-- What came in makes a safe step but for the open asks, if it is awaited. What is known stays,
+-- whatever came in or went out; nobody else opens an ask, or closes it without its answer.
 pub record IsSafeNotedStep (S : SessionSeen) (x : Directed Message) (v : Verdict)
     (S' : SessionSeen) : Type 0 where
   pub allowed : NotedStep S x v S'
-  pub verified_is_the_block : IsTrueNotedVerdict S x v
-  pub keeps_known : KeepsKnown S S'
-  pub takes_what_is_true : TakesWhatIsTrueAndAsked S x v
-  pub closes_one_gap : ClosesOneGapIfAsked S x v S'
+  pub known_stays : KeepsKnown S S'
+  pub is_safe : (m : Message) → x ≡ (In, m) → IsAwaited S m → IsSafeStep S m v (asking S.asks S')
   pub opens_only_ours : OpensOnlyOurs S x S'
   pub keeps_open : KeepsOpen S S'

@@ -1,5 +1,5 @@
 -- The laws of sessions that note what they ask for, and of the replay of a conversion.
-use Rattle.std.specs.Prelude.{◌≡◌, ◌≢◌, ◌⊎◌, ℕ, ◌+◌, ◌<◌, ◌≤◌, List, [], ◌∷◌}
+use Rattle.std.specs.Prelude.{◌≡◌, ◌≢◌, ℕ, List, [], ◌∷◌}
 use Rattle.std.specs.List.{All, AllZip, AllByRecursion}
 use Rattle.wire.specs.declared.form.Direction.TheVariants.{In, Out}
 use Rattle.wire.specs.declared.frame.Frame.{Frame as FrameRead}
@@ -11,17 +11,11 @@ use Rattle.wire.specs.Conversion.{conversion, converted_messages}
 use Rattle.session.specs.declared.verdict.Verdict.{Verdict as Said}
 use Rattle.session.specs.declared.verdict.Verdict.TheVariants.{HashRefused}
 use Rattle.partial_tree.specs.declared.refusal.HashRefusal.TheVariants.{NoMemory}
-use Rattle.hashtree.specs.Tree.{block_count}
-use Rattle.node_maps.specs.Places.{IsKnown}
-use Rattle.node_maps.specs.Known.{look}
-use Rattle.partial_tree.specs.TreeRoot.{TreeRoot as Tree}
-use Rattle.partial_tree.specs.Gaps.{gaps}
 use Rattle.chains.specs.Chain.{Chain}
-use Rattle.session.specs.Asks.{AskSet}
-use Rattle.session.specs.Session.{SessionSeen, TreeState, IsTree, HasClosedTrees, HasDistinctRoots, Step}
-use Rattle.session.specs.Rounds.{HasNoMoreGaps, Collides}
-use Rattle.session.specs.Noted.{IsOpenAsk, NotedStep, IsSafeNotedStep, KeepsOpen}
-use Rattle.session.specs.NotedRounds.{HasDirectedHashes, NotedRoundLeavesFewer, NotedRounds}
+use Rattle.session.specs.Session.{SessionSeen, HasClosedTrees, HasDistinctRoots, Step}
+use Rattle.session.specs.Rounds.{HasNoMoreGaps, AreAtMostGaps, MakeAllKnown}
+use Rattle.session.specs.Noted.{IsOpenAsk, asking, NotedStep, IsSafeNotedStep, KeepsOpen}
+use Rattle.session.specs.NotedRounds.{HasDirectedHashes, NotedRoundLeavesFewer, IsNotedRoundRun}
 
 -- ---- memory aside
 
@@ -42,10 +36,6 @@ AllNoted ((Out, m) ∷ ms) (v ∷ vs) = (v ≢ HashRefused NoMemory) × AllNoted
 -- memory was refused for nothing
 abbrev pub HadMemory : List Said → Type 0
 HadMemory vs = AllByRecursion (λ v. v ≢ HashRefused NoMemory) vs
-
--- the same trees and marks, while these asks are open
-abbrev pub asking : AskSet → SessionSeen → SessionSeen
-asking asks S = record S { asks = asks }
 
 -- ---- the replay of a conversion
 
@@ -123,22 +113,11 @@ NotedRoundsCloseGaps = (S : SessionSeen) → HasDistinctRoots S
 
 -- k rounds, one after the other, leave k gaps fewer, or a collision is named
 abbrev pub NotedRoundsAreAtMostGaps : Type 0
-NotedRoundsAreAtMostGaps = (S S' : SessionSeen) → HasDistinctRoots S
-    → (n : ℕ) (f : List ℕ) (k : ℕ) → HasClosedTrees S → NotedRounds n f k S S'
-    → (tree : Tree) (s : TreeState) → IsTree S n tree s
-    → ((later : TreeState) × IsTree S' n tree later
-    × (gaps tree.length (look later.known) + k ≤ gaps tree.length (look s.known)))
-    ⊎ Collides S' n f
+NotedRoundsAreAtMostGaps = AreAtMostGaps IsNotedRoundRun
 
 -- after as many rounds as there were gaps each block's leaf is known, or a collision is named
 abbrev pub NotedRoundsMakeAllKnown : Type 0
-NotedRoundsMakeAllKnown = (S S' : SessionSeen) → HasDistinctRoots S
-    → (n : ℕ) (f : List ℕ) (tree : Tree) (s : TreeState) → HasClosedTrees S
-    → IsTree S n tree s
-    → NotedRounds n f (gaps tree.length (look s.known)) S S'
-    → ((later : TreeState) × IsTree S' n tree later
-    × ((b : ℕ) → b < block_count tree.length → IsKnown (look later.known) 0 b))
-    ⊎ Collides S' n f
+NotedRoundsMakeAllKnown = MakeAllKnown IsNotedRoundRun
 
 -- a run of safe steps, as `Session::run_noted` gives it, is such a run
 abbrev pub SafeNotedRunIsRun : Type 0

@@ -16,7 +16,7 @@ use Rattle.node_maps.specs.Digest.{Hash}
 use Rattle.node_maps.specs.Known.{look}
 use Rattle.session.specs.Session.{SessionSeen, HasFewerGaps, HasHashes}
 use Rattle.session.specs.Wanted.{IsWantedAnswer}
-use Rattle.session.specs.Rounds.{LacksMemoryAtLast, Collides, Repeated}
+use Rattle.session.specs.Rounds.{LacksMemoryAtLast, Collides}
 use Rattle.session.specs.Noted.{IsOpenAsk, NotedStep}
 use Rattle.chains.specs.Chain.{Chain}
 
@@ -29,8 +29,8 @@ abbrev pub IsAskedAt : List (Directed Message) → Ask → ℕ → Type 0
 IsAskedAt ms ask k = slice_get ms k ≡ Some (Out, message.Request ask)
 
 -- the ask is open before the first message, or one of them is our request for it
-abbrev pub IsAskedFor : SessionSeen → List (Directed Message) → Ask → Type 0
-IsAskedFor S ms ask = IsOpenAsk S ask ⊎ ((k : ℕ) × IsAskedAt ms ask k)
+abbrev pub IsAskMade : SessionSeen → List (Directed Message) → Ask → Type 0
+IsAskMade S ms ask = IsOpenAsk S ask ⊎ ((k : ℕ) × IsAskedAt ms ask k)
 
 -- messages that end with the true answer for f to an ask that was wanted of tree n before the
 -- first, and that was noted before the answer
@@ -41,11 +41,11 @@ pub record IsNotedRound (S : SessionSeen) (n : ℕ) (f : List ℕ) (ms : List (D
   pub wants : IsWantedAnswer S n f ask answer.now
   pub before : List (Directed Message)
   pub ends : ms ≡ before ++ (In, message.Hashes ask answer) ∷ []
-  pub noted : IsAskedFor S before ask
+  pub noted : IsAskMade S before ask
 
 -- memory was refused for noting the request
 abbrev pub LacksMemoryToNote : (S : SessionSeen) (ms : List (Directed Message)) (ask : Ask)
-    → IsAskedFor S ms ask → List Verdict → Type 0
+    → IsAskMade S ms ask → List Verdict → Type 0
 LacksMemoryToNote S ms ask (inl was_open) vs = ⊥
 LacksMemoryToNote S ms ask (inr (k, at)) vs = slice_get vs k ≡ Some (verdict.HashRefused NoMemory)
 
@@ -66,7 +66,3 @@ pub record IsNotedRoundRun (n : ℕ) (f : List ℕ) (S S' : SessionSeen) : Type 
   pub run : Chain NotedStep S messages verdicts S'
   pub memory : ¬ LacksMemoryAtLast verdicts
   pub memory_to_note : ¬ LacksMemoryToNote S round.before round.ask round.noted verdicts
-
--- k such runs, one after the other
-abbrev pub NotedRounds : ℕ → List ℕ → ℕ → SessionSeen → SessionSeen → Type 0
-NotedRounds n f k S S' = Repeated (IsNotedRoundRun n f) k S S'

@@ -1,10 +1,10 @@
 -- Whole pieces in a session (BEP 52, "piece layers"): their leaves lead to the node that covers
 -- the piece.
-use Rattle.std.specs.Prelude.{Result, Ok, Err, ◌⊎◌, ◌≡◌, ◌+◌, ◌<◌, ◌≢◌, ℕ, ◌-◌, ◌*◌, ◌/◌, ◌^◌, min, List, length, set, slice_get, Some, None}
+use Rattle.std.specs.Prelude.{Result, Ok, Err, ◌⊎◌, ◌≡◌, ◌+◌, ◌<◌, ◌≢◌, ℕ, ◌-◌, ◌*◌, ◌/◌, ◌^◌, ◌≤◌, min, List, length, set, slice_get, Some, None}
 use Rattle.sha2.specs.Sha256.{sha256}
 use Rattle.node_maps.specs.Digest.{Hash}
 use Rattle.std.specs.FinSet as leaves
-use Rattle.session.specs.Layouts.{roots}
+use Rattle.session.specs.Layouts.{roots, tree_of}
 use Rattle.partial_tree.specs.TreeRoot.{TreeRoot}
 use Rattle.node_maps.specs.Known.{look}
 use Rattle.node_maps.specs.Places.{tree_height, PartialTree, IsKnown}
@@ -13,8 +13,9 @@ use Rattle.opening.specs.PieceLayers.{piece_layer}
 use Rattle.opening.specs.Places.{place_of}
 use Rattle.partial_tree.specs.Closed.{Collision, whole}
 use Rattle.partial_tree.specs.Claims.{HasNew, IsMismatch}
+use Rattle.partial_tree.specs.EndPads.{AreEndPadsKnown}
 use Rattle.partial_tree.specs.Kept.{TreeState}
-use Rattle.partial_tree.specs.LeafRows.{row_claims, IsLeafRow, RowRefuses, TakesRow, mark_run}
+use Rattle.partial_tree.specs.LeafRows.{row_claims, row_joins, IsLeafRow, RowRefuses, TakesRow, mark_run}
 use Rattle.partial_tree.specs.LeafPieces.{IsPieceRow, leaves_in}
 use Rattle.partial_tree.specs.declared.refusal.PieceRefusal.{PieceRefusal}
 use Rattle.partial_tree.specs.declared.refusal.PieceRefusal.TheVariants.{BadPlace, BadSize, Unproved, BadPiece, NoMemory}
@@ -42,8 +43,8 @@ pub record AreLeavesTaken (S : SessionSeen) (n first : ℕ) (leaves : List Hash)
   pub is_tree : IsTree S n tree before
   pub row : IsLeafRow tree.length first (piece_span S.torrent.piece_length tree.length)
       (length leaves)
-  pub taken : TakesRow first (piece_span S.torrent.piece_length tree.length) leaves before.known c
-      after.known
+  pub taken : TakesRow tree.length first (piece_span S.torrent.piece_length tree.length) leaves
+      before.known c after.known
   pub marks_stay : after.marked ≡ before.marked
   pub state_after : S' ≡ record S { trees = set S.trees n after }
 
@@ -54,7 +55,7 @@ pub record AreLeavesRefused (S : SessionSeen) (n first : ℕ) (leaves : List Has
   pub tree : TreeRoot
   pub before : TreeState
   pub is_tree : IsTree S n tree before
-  pub refuses : RowRefuses (look before.known) first
+  pub refuses : RowRefuses tree.length (look before.known) first
       (piece_span S.torrent.piece_length tree.length) leaves r
 
 -- each of these leaves of tree n is known, from one on
@@ -62,11 +63,18 @@ abbrev pub AreLeavesKnown : SessionSeen → ℕ → ℕ → List Hash → Type 0
 AreLeavesKnown S n first leaves = (tree : TreeRoot) (s : TreeState) → IsTree S n tree s
     → (j : ℕ) → j < length leaves → look s.known 0 (first + j) ≡ slice_get leaves j
 
+-- if the piece of tree n from this block on is the last one, the pads beside the file's end are
+-- known
+abbrev pub HasEndPads : SessionSeen → ℕ → ℕ → Type 0
+HasEndPads S n first = (tree : TreeRoot) (s : TreeState) → IsTree S n tree s
+    → block_count tree.length ≤ first + 2 ^ piece_span S.torrent.piece_length tree.length
+    → AreEndPadsKnown tree.length (look s.known)
+
 -- the true leaves of a piece, whose node is known, are taken, unless memory is refused for them or
 -- a collision is named
 abbrev pub TakesTrueLeaves : SessionSeen → ℕ → ℕ → List Hash → Result ℕ PieceRefusal → Type 0
 TakesTrueLeaves S n first leaves r = (tree : TreeRoot) (s : TreeState) (f : List ℕ)
-    → IsTree S n tree s → Fits f tree
+    → IsTree S n tree s → Fits f tree.length tree.root
     → ((j : ℕ) → j < length leaves → slice_get leaves j ≡ Some (sha256 (block f (first + j))))
     → IsKnown (look s.known) (piece_span S.torrent.piece_length tree.length)
     (first / 2 ^ piece_span S.torrent.piece_length tree.length)
@@ -108,8 +116,9 @@ pub record IsTakenFrom (S : SessionSeen) (file first : ℕ) (bytes : List ℕ) (
       (piece_span S.torrent.piece_length in_file.tree.length) (length bytes)
   pub count : ℕ
   pub after : TreeState
-  pub taken : TakesRow first (piece_span S.torrent.piece_length in_file.tree.length)
-      (leaves_in bytes) in_file.state.known count after.known
+  pub taken : TakesRow in_file.tree.length first
+      (piece_span S.torrent.piece_length in_file.tree.length) (leaves_in bytes)
+      in_file.state.known count after.known
   pub marks : after.marked
       ≡ mark_run in_file.state.marked first (block_count (length bytes))
   pub state_after : S' ≡ record S { trees = set S.trees in_file.tree_number after }
@@ -129,7 +138,7 @@ PieceFault p len K first bytes BadPiece = (length bytes ≡ piece_size p len fir
     × IsMismatch K (row_claims first (piece_span p len) (leaves_in bytes))
 PieceFault p len K first bytes NoMemory = (length bytes ≡ piece_size p len first)
     × IsKnown K (piece_span p len) (first / 2 ^ piece_span p len)
-    × HasNew K (row_claims first (piece_span p len) (leaves_in bytes))
+    × HasNew K (row_joins len first (piece_span p len) (leaves_in bytes))
 PieceFault p len K first bytes BadPlace = ⊥
 
 -- the first test of bytes from block `first` on that fails
@@ -148,11 +157,15 @@ abbrev pub ArePieceBlocks : SessionSeen → List ℕ → ℕ → ℕ → Type 0
 ArePieceBlocks S bytes file first = (j : ℕ) → j < block_count (length bytes)
     → IsFileBlock S file (first + j) (block bytes j)
 
+-- the same of a file's tree
+abbrev pub HasFileEndPads : SessionSeen → ℕ → ℕ → Type 0
+HasFileEndPads S file first = (n : ℕ) → tree_of S file ≡ Some n → HasEndPads S n first
+
 -- a true piece, whose node is known, is taken, unless memory is refused for it or a collision is
 -- named
 abbrev pub TakesTruePiece : SessionSeen → ℕ → List ℕ → Result (ℕ × ℕ) PieceRefusal → Type 0
 TakesTruePiece S index bytes r = (file first : ℕ) (p : IsInFile S file first) (f : List ℕ)
-    → place_of S.torrent index 0 ≡ Some (file, first) → Fits f p.tree
+    → place_of S.torrent index 0 ≡ Some (file, first) → Fits f p.tree.length p.tree.root
     → IsPieceRow p.tree.length first (piece_span S.torrent.piece_length p.tree.length)
     (length bytes)
     → HasPieceSize S p.tree.length first bytes

@@ -1,20 +1,19 @@
 -- The laws of gaps and rounds over whole runs.
-use Rattle.std.specs.Prelude.{◌≡◌, ◌⊎◌, ℕ, ◌+◌, ◌<◌, ◌≤◌, List, None}
+use Rattle.std.specs.Prelude.{◌≡◌, ℕ, ◌<◌, List, None}
 use Rattle.std.specs.List.{All}
 use Rattle.wire.specs.declared.message.Message.{Message as Sent}
 use Rattle.session.specs.declared.verdict.Verdict.{Verdict as Said}
 use Rattle.hashtree.specs.Tree.{block_count}
 use Rattle.node_maps.specs.Digest.{Hash}
 use Rattle.partial_tree.specs.TreeRoot.{TreeRoot as Tree, Fits}
-use Rattle.node_maps.specs.Places.{tree_height, PartialTree, IsKnown}
+use Rattle.node_maps.specs.Places.{tree_height, PartialTree}
 use Rattle.partial_tree.specs.Closed.{IsClosed, whole}
 use Rattle.partial_tree.specs.Claims.{top_layer, top_index, answer_of}
 use Rattle.partial_tree.specs.Gaps.{gaps, want_ask, want_of}
-use Rattle.node_maps.specs.Known.{look}
-use Rattle.session.specs.Session.{SessionSeen, TreeState, IsTree, HasClosedTrees, HasDistinctRoots, HasHashes, Step}
+use Rattle.session.specs.Session.{SessionSeen, HasClosedTrees, HasDistinctRoots, HasHashes, Step}
 use Rattle.chains.specs.Chain.{Chain}
 use Rattle.session.specs.SafeStep.{IsSafeStep}
-use Rattle.session.specs.Rounds.{Rounds, HasNoMoreGaps, RoundLeavesFewer, Collides}
+use Rattle.session.specs.Rounds.{IsRoundRun, HasNoMoreGaps, RoundLeavesFewer, AreAtMostGaps, MakeAllKnown}
 
 -- if no gap is left, nothing is wanted
 abbrev pub NoGapMeansNothingWanted : Type 0
@@ -33,7 +32,7 @@ wanted_answer t f b = answer_of (tree_height t.length) (whole f) (want_ask t b)
 -- the true answer to what is wanted leads to the root, which each closed tree knows
 abbrev pub WantedAnswerLeadsToRoot : Type 0
 WantedAnswerLeadsToRoot = (t : Tree) (K : PartialTree) (f : List ℕ) (b : ℕ)
-    → IsClosed t K → Fits f t → b < block_count t.length → K 0 b ≡ None
+    → IsClosed t K → Fits f t.length t.root → b < block_count t.length → K 0 b ≡ None
     → (top_layer (want_ask t b) (wanted_answer t f b) ≡ tree_height t.length)
     × (top_index (want_ask t b) (wanted_answer t f b) ≡ 0)
 
@@ -51,22 +50,11 @@ RoundsCloseGaps = (S : SessionSeen) → HasDistinctRoots S
 
 -- k rounds, one after the other, leave k gaps fewer, or a collision is named
 abbrev pub RoundsAreAtMostGaps : Type 0
-RoundsAreAtMostGaps = (S S' : SessionSeen) → HasDistinctRoots S
-    → (n : ℕ) (f : List ℕ) (k : ℕ) → HasClosedTrees S → Rounds n f k S S'
-    → (tree : Tree) (s : TreeState) → IsTree S n tree s
-    → ((later : TreeState) × IsTree S' n tree later
-    × (gaps tree.length (look later.known) + k ≤ gaps tree.length (look s.known)))
-    ⊎ Collides S' n f
+RoundsAreAtMostGaps = AreAtMostGaps IsRoundRun
 
 -- after as many rounds as there were gaps each block's leaf is known, or a collision is named
 abbrev pub RoundsMakeAllKnown : Type 0
-RoundsMakeAllKnown = (S S' : SessionSeen) → HasDistinctRoots S
-    → (n : ℕ) (f : List ℕ) (tree : Tree) (s : TreeState) → HasClosedTrees S
-    → IsTree S n tree s
-    → Rounds n f (gaps tree.length (look s.known)) S S'
-    → ((later : TreeState) × IsTree S' n tree later
-    × ((b : ℕ) → b < block_count tree.length → IsKnown (look later.known) 0 b))
-    ⊎ Collides S' n f
+RoundsMakeAllKnown = MakeAllKnown IsRoundRun
 
 -- a run of safe steps, as `Session::run` gives it, is a run
 abbrev pub SafeRunIsRun : Type 0

@@ -1,5 +1,5 @@
 -- Rounds: messages that end with the true answer to what was wanted before them.
-use Rattle.std.specs.Prelude.{◌≡◌, ◌⊎◌, ℕ, zero, suc, ◌≤◌, List, [], ◌∷◌, ◌++◌}
+use Rattle.std.specs.Prelude.{◌≡◌, ◌⊎◌, ℕ, zero, suc, ◌+◌, ◌<◌, ◌≤◌, List, [], ◌∷◌, ◌++◌}
 use Rattle.std.specs.Borrow.{Bor}
 use Rattle.std.specs.List.{All}
 use Rattle.wire.specs.declared.message.Ask.{Ask}
@@ -13,9 +13,19 @@ use Rattle.partial_tree.specs.TreeRoot.{TreeRoot}
 use Rattle.partial_tree.specs.Closed.{Collision, whole}
 use Rattle.partial_tree.specs.Gaps.{gaps}
 use Rattle.node_maps.specs.Known.{look}
-use Rattle.session.specs.Session.{SessionSeen, TreeState, IsTree, HasFewerGaps, HasHashes, Step}
+use Rattle.node_maps.specs.Places.{IsKnown}
+use Rattle.hashtree.specs.Tree.{block_count}
+use Rattle.session.specs.Session.{SessionSeen, TreeState, IsTree, HasClosedTrees, HasDistinctRoots, HasFewerGaps, HasHashes, Step}
+use Rattle.session.specs.SafeStep.{KeepsKnown}
 use Rattle.session.specs.Wanted.{IsWantedAnswer}
 use Rattle.chains.specs.Chain.{Chain}
+
+-- what every call that changes a session says of it, and so what any number of them do: each tree
+-- is closed, the roots differ, and what was known is known
+pub record IsLater (S S' : SessionSeen) : Type 0 where
+  pub closed : HasClosedTrees S'
+  pub distinct : HasDistinctRoots S'
+  pub keeps : KeepsKnown S S'
 
 -- messages that end with the true answer for f to an ask that was wanted of tree n before the
 -- first
@@ -63,6 +73,22 @@ abbrev pub Repeated : (SessionSeen → SessionSeen → Type 0) → ℕ → Sessi
 Repeated R zero S S' = S' ≡ S
 Repeated R (suc k) S S' = (M : SessionSeen) × R S M × Repeated R k M S'
 
--- k runs over rounds, one after the other
-abbrev pub Rounds : ℕ → List ℕ → ℕ → SessionSeen → SessionSeen → Type 0
-Rounds n f k S S' = Repeated (IsRoundRun n f) k S S'
+-- k runs of this kind over rounds for f and tree n, one after the other, leave k gaps fewer, or a
+-- collision is named
+abbrev pub AreAtMostGaps : (ℕ → List ℕ → SessionSeen → SessionSeen → Type 0) → Type 0
+AreAtMostGaps R = (S S' : SessionSeen) → HasDistinctRoots S
+    → (n : ℕ) (f : List ℕ) (k : ℕ) → HasClosedTrees S → Repeated (R n f) k S S'
+    → (tree : TreeRoot) (s : TreeState) → IsTree S n tree s
+    → ((later : TreeState) × IsTree S' n tree later
+    × (gaps tree.length (look later.known) + k ≤ gaps tree.length (look s.known)))
+    ⊎ Collides S' n f
+
+-- after as many of them as there were gaps each block's leaf is known, or a collision is named
+abbrev pub MakeAllKnown : (ℕ → List ℕ → SessionSeen → SessionSeen → Type 0) → Type 0
+MakeAllKnown R = (S S' : SessionSeen) → HasDistinctRoots S
+    → (n : ℕ) (f : List ℕ) (tree : TreeRoot) (s : TreeState) → HasClosedTrees S
+    → IsTree S n tree s
+    → Repeated (R n f) (gaps tree.length (look s.known)) S S'
+    → ((later : TreeState) × IsTree S' n tree later
+    × ((b : ℕ) → b < block_count tree.length → IsKnown (look later.known) 0 b))
+    ⊎ Collides S' n f

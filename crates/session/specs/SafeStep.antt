@@ -1,5 +1,6 @@
--- What each step of a session keeps: what it verifies is the block, and poison does no harm.
+-- What each step of a session promises: what it verifies is the block, and poison does no harm.
 use Rattle.std.specs.Prelude.{◌≡◌, ◌⊎◌, ℕ, ◌-◌, ◌≤◌, ◌+◌, List, length, slice_get, Option, Some, None, Result, Ok, Err}
+use Rattle.std.specs.Borrow.{Bor}
 use Rattle.wire.specs.declared.message.Ask.{Ask}
 use Rattle.wire.specs.declared.message.Message.{Message}
 use Rattle.wire.specs.declared.message.Message.TheVariants as message
@@ -19,7 +20,7 @@ use Rattle.partial_tree.specs.Closed.{Keeps, Collision, whole}
 use Rattle.partial_tree.specs.Claims.{top_layer, top_index, GoodRange, GoodCount, IsHeldBy, CanAnswer, answer_of}
 use Rattle.session.specs.Session.{SessionSeen, TreeState, IsTree, HasClosedTrees, IsAsked, IsInFile, IsPlaced, Step, IsTrueVerdict}
 use Rattle.session.specs.Blocks.{BlocksSeen}
-use Rattle.session.specs.Wanted.{ClosesOneGap}
+use Rattle.session.specs.Wanted.{WantedClosesOneGap}
 
 -- each known place of each tree keeps its value
 abbrev pub KeepsKnown : SessionSeen → SessionSeen → Type 0
@@ -30,7 +31,7 @@ KeepsKnown S S' = (n : ℕ) (tree : TreeRoot) (s : TreeState) → IsTree S n tre
 -- a known node
 pub record AreTrueHashes (f : List ℕ) (tree : TreeRoot) (s : TreeState) (ask : Ask)
     (hashes : List Hash) : Type 0 where
-  pub fits : Fits f tree
+  pub fits : Fits f tree.length tree.root
   pub has_root : tree.root ≡ ask.root
   pub range : GoodRange (tree_height tree.length) ask
   pub count : GoodCount (tree_height tree.length) ask hashes
@@ -65,7 +66,8 @@ StoresAnswers S ask hashes r = (J : SessionSeen) (from : IsAnswerFrom S.torrent 
 
 -- the true block of a known leaf is not refused, or a collision is named
 abbrev pub TakesTrueBlock : SessionSeen → ℕ → ℕ → List ℕ → Option BlockRefusal → Type 0
-TakesTrueBlock S file b bytes r = (p : IsInFile S file b) (f : List ℕ) → Fits f p.tree
+TakesTrueBlock S file b bytes r = (p : IsInFile S file b) (f : List ℕ)
+    → Fits f p.tree.length p.tree.root
     → bytes ≡ block f b → IsKnown (look p.state.known) 0 b
     → (r ≡ None) ⊎ Collision (whole f) (look p.state.known)
 
@@ -82,29 +84,40 @@ IsNoRun S index begin bytes = (p : IsPlaced S index begin) (k : ℕ)
 -- the true block of a known leaf, as one block, is verified, or a collision is named
 abbrev pub VerifiesTrueBlock : SessionSeen → ℕ → ℕ → List ℕ → Result (ℕ × ℕ) BlockRefusal → Type 0
 VerifiesTrueBlock S index begin bytes r =
-    (p : IsPlaced S index begin) (f : List ℕ) → Fits f p.in_file.tree → bytes ≡ block f p.number
+    (p : IsPlaced S index begin) (f : List ℕ)
+    → Fits f p.in_file.tree.length p.in_file.tree.root → bytes ≡ block f p.number
     → IsKnown (look p.in_file.state.known) 0 p.number → (r ≡ Ok (p.file, p.number))
     ⊎ Collision (whole f) (look p.in_file.state.known)
 
--- what is true is taken: hashes and answers are stored and blocks verified, with these
--- reservations, and no blocks of a file are refused whole
-abbrev pub TakesWhatIsTrue : SessionSeen → Message → Verdict → Type 0
-TakesWhatIsTrue S (message.Hashes ask hashes) (verdict.Stored c) =
-    StoresTrueHashes S ask hashes.now (Ok c) × StoresAnswers S ask hashes.now (Ok c)
-TakesWhatIsTrue S (message.Hashes ask hashes) (verdict.HashRefused r) =
-    StoresTrueHashes S ask hashes.now (Err r) × StoresAnswers S ask hashes.now (Err r)
-TakesWhatIsTrue S (message.Piece index begin bytes) (verdict.Blocks v) =
-    VerifiesTrueBlocks S bytes.now v
-TakesWhatIsTrue S (message.Piece index begin bytes) (verdict.BlockRefused r) =
-    IsNoRun S index begin bytes.now
-TakesWhatIsTrue S m v = Unit {0}
+-- the verdict on hashes, by what became of them
+abbrev pub verdict_of : Result ℕ HashRefusal → Verdict
+verdict_of (Ok count) = verdict.Stored count
+verdict_of (Err refusal) = verdict.HashRefused refusal
 
--- a step that is allowed, verifies nothing but the block itself, is not harmed by poison, and
--- closes exactly one gap where the true answer to what is wanted came
+-- What a step promises, in every state and so whatever came before it. The torrent stays; a block
+-- that is marked verified is that block of each file with the length and the root that the torrent
+-- states, or a collision is named; what is known stays. What is true is stored: hashes of such a
+-- file, and what another session of the torrent answers. A true block is verified, and no blocks of
+-- a file are refused whole. The true answer to what is wanted closes one gap. (By `allowed` the
+-- verdict on a message of blocks is `Blocks` or `BlockRefused`, on hashes one of `verdict_of`.)
 pub record IsSafeStep (S : SessionSeen) (m : Message) (v : Verdict) (S' : SessionSeen)
     : Type 0 where
   pub allowed : Step S m v S'
+  pub torrent_stays : S'.torrent ≡ S.torrent
   pub verified_is_the_block : IsTrueVerdict S m v
-  pub keeps_known : KeepsKnown S S'
-  pub takes_what_is_true : TakesWhatIsTrue S m v
-  pub closes_one_gap : ClosesOneGap S m v S'
+  pub known_stays : KeepsKnown S S'
+  pub true_hashes_are_stored : (ask : Ask) (given : Bor (List Hash)) (result : Result ℕ HashRefusal)
+      → m ≡ message.Hashes ask given → v ≡ verdict_of result
+      → StoresTrueHashes S ask given.now result
+  pub answers_are_stored : (ask : Ask) (given : Bor (List Hash)) (result : Result ℕ HashRefusal)
+      → m ≡ message.Hashes ask given → v ≡ verdict_of result
+      → StoresAnswers S ask given.now result
+  pub true_blocks_are_verified : (index begin : ℕ) (sent : Bor (List ℕ)) (entries : BlocksSeen)
+      → m ≡ message.Piece index begin sent → v ≡ verdict.Blocks entries
+      → VerifiesTrueBlocks S sent.now entries
+  pub blocks_are_not_refused : (index begin : ℕ) (sent : Bor (List ℕ)) (refusal : BlockRefusal)
+      → m ≡ message.Piece index begin sent → v ≡ verdict.BlockRefused refusal
+      → IsNoRun S index begin sent.now
+  pub one_gap_closes : (ask : Ask) (given : Bor (List Hash)) (result : Result ℕ HashRefusal)
+      → m ≡ message.Hashes ask given → v ≡ verdict_of result
+      → WantedClosesOneGap S ask given.now result S'

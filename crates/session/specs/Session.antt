@@ -1,5 +1,6 @@
 -- A session: a closed partial tree and marked leaves for each tree of a torrent, and its steps.
 use Rattle.std.specs.Prelude.{◌≡◌, ◌≢◌, ◌⊎◌, ℕ, ◌+◌, ◌<◌, List, length, set, slice_get, true, Option, Some, None}
+use Rattle.std.specs.Borrow.{Bor}
 use Rattle.std.specs.FinSet as leaves
 use Rattle.sha2.specs.Sha256.{sha256}
 use Rattle.partial_tree.specs.TreeRoot.{TreeRoot, Fits}
@@ -197,10 +198,11 @@ HasFewerGaps S n tree K = (s : TreeState) × IsTree S n tree s
 
 -- ---- the headline
 
--- the bytes are that block of each file that fits its tree, or two inputs with one digest are named
+-- the bytes are that block of each f with the length and the root that the torrent states for the
+-- file, or two inputs with one digest are named
 pub record IsFileBlock (S : SessionSeen) (file b : ℕ) (bytes : List ℕ) : Type 0 where
   pub in_file : IsInFile S file b
-  pub is_block : (f : List ℕ) → Fits f in_file.tree
+  pub is_block : (f : List ℕ) → Fits f in_file.tree.length in_file.tree.root
       → (bytes ≡ block f b) ⊎ (Collision (whole f) (look in_file.state.known)
       ⊎ BlockCollision f b bytes)
 
@@ -217,11 +219,11 @@ pub record AreBlocks (S : SessionSeen) (index begin : ℕ) (bytes : List ℕ) (v
   pub verified : (m : ℕ) → slice_get v.refusals m ≡ Some None
       → IsFileBlock S v.file (v.first + m) (block bytes m)
 
--- what a verdict in a run promises, in the state at its step
+-- what a verdict on the blocks of a message promises, in the state at its step
 abbrev pub IsTrueVerdict : SessionSeen → Message → Verdict → Type 0
-IsTrueVerdict S (message.Piece index begin bytes) (verdict.Blocks v) =
-    AreBlocks S index begin bytes.now v
-IsTrueVerdict S m v = Unit {0}
+IsTrueVerdict S m v = (index begin : ℕ) (sent : Bor (List ℕ)) (entries : BlocksSeen)
+    → m ≡ message.Piece index begin sent → v ≡ verdict.Blocks entries
+    → AreBlocks S index begin sent.now entries
 
 -- a step whose verdict keeps its promise
 abbrev pub IsTrueStep : SessionSeen → Message → Verdict → SessionSeen → Type 0

@@ -2,7 +2,7 @@
 --
 -- Trust is in the inputs in use, which a test names: those that were ever hashed, say.
 use Rattle.std.specs.Prelude.{◌≡◌, ◌⊎◌, ℕ, ◌+◌, ◌*◌, ◌<◌, List, length, slice_get, Option, Some, None, Result, Ok, Err}
-use Rattle.wire.specs.declared.form.Direction.TheVariants.{In, Out}
+use Rattle.wire.specs.declared.form.Direction.TheVariants.{In}
 use Rattle.wire.specs.declared.message.Ask.{Ask}
 use Rattle.wire.specs.declared.message.Message.{Message}
 use Rattle.wire.specs.declared.message.Message.TheVariants as message
@@ -22,7 +22,7 @@ use Rattle.session.specs.Session.{SessionSeen, TreeState, IsTree, IsInFile}
 use Rattle.session.specs.Blocks.{BlocksSeen, block_length}
 use Rattle.session.specs.SafeStep.{AreTrueHashes, IsAnswerFrom, IsSafeStep}
 use Rattle.session.specs.Wanted.{IsWantedAnswer, HasOneGapFewer}
-use Rattle.session.specs.Noted.{IsOpenAsk, IsSafeNotedStep}
+use Rattle.session.specs.Noted.{IsAwaited, asking, IsSafeNotedStep}
 
 -- ---- what a session gives to SHA-256
 
@@ -43,7 +43,8 @@ HasBlocksOf P m = Unit {0}
 pub record IsTrustedBlock (P : List ℕ → Type 0) (S : SessionSeen) (file b : ℕ) (bytes : List ℕ)
     : Type 0 where
   pub in_file : IsInFile S file b
-  pub is_block : (f : List ℕ) → Fits f in_file.tree → AreInputsOf P f → bytes ≡ block f b
+  pub is_block : (f : List ℕ) → Fits f in_file.tree.length in_file.tree.root → AreInputsOf P f
+      → bytes ≡ block f b
 
 -- stored, unless memory was refused
 abbrev pub IsStoredWithMemory : Result ℕ HashRefusal → Type 0
@@ -72,7 +73,8 @@ TrustedClosesOneGap P S ask hashes r S' =
 -- the true block of a known leaf is not refused
 abbrev pub TakesTrustedBlock : (List ℕ → Type 0) → SessionSeen → ℕ → ℕ → List ℕ
     → Option BlockRefusal → Type 0
-TakesTrustedBlock P S file b bytes r = (p : IsInFile S file b) (f : List ℕ) → Fits f p.tree
+TakesTrustedBlock P S file b bytes r = (p : IsInFile S file b) (f : List ℕ)
+    → Fits f p.tree.length p.tree.root
     → bytes ≡ block f b → IsKnown (look p.state.known) 0 b → AreInputsOf P f → r ≡ None
 
 -- ---- steps
@@ -109,16 +111,9 @@ pub record IsTrustedStep (P : List ℕ → Type 0) (S : SessionSeen) (m : Messag
   pub safe : IsSafeStep S m v S'
   pub trusted : TakesTrusted P S m v S'
 
--- what is made of a message that came in: of hashes, if their ask is open
-abbrev pub TakesTrustedIfAsked : (List ℕ → Type 0) → SessionSeen → Directed Message → Verdict
-    → SessionSeen → Type 0
-TakesTrustedIfAsked P S (In, message.Hashes ask hashes) v S' =
-    IsOpenAsk S ask → TakesTrusted P S (message.Hashes ask hashes) v S'
-TakesTrustedIfAsked P S (In, m) v S' = TakesTrusted P S m v S'
-TakesTrustedIfAsked P S (Out, m) v S' = Unit {0}
-
--- a safe step of a session that notes what it asks for, with no collision left
+-- a safe step of a session that notes what it asks for, with no collision left of what was awaited
 pub record IsTrustedNotedStep (P : List ℕ → Type 0) (S : SessionSeen) (x : Directed Message)
     (v : Verdict) (S' : SessionSeen) : Type 0 where
   pub safe : IsSafeNotedStep S x v S'
-  pub trusted : TakesTrustedIfAsked P S x v S'
+  pub trusted : (m : Message) → x ≡ (In, m) → IsAwaited S m
+      → TakesTrusted P S m v (asking S.asks S')

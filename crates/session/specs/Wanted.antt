@@ -1,12 +1,8 @@
 -- The true answer to what is wanted of a tree, and the one gap that it closes.
-use Rattle.std.specs.Prelude.{◌≡◌, ◌⊎◌, ℕ, ◌+◌, ◌<◌, List, Some, Result, Ok, Err}
+use Rattle.std.specs.Prelude.{◌≡◌, ◌⊎◌, ℕ, ◌+◌, ◌<◌, List, Some, Result, Err}
 use Rattle.wire.specs.declared.message.Ask.{Ask}
-use Rattle.wire.specs.declared.message.Message.{Message}
-use Rattle.wire.specs.declared.message.Message.TheVariants as message
 use Rattle.partial_tree.specs.declared.refusal.HashRefusal.{HashRefusal}
 use Rattle.partial_tree.specs.declared.refusal.HashRefusal.TheVariants.{NoMemory}
-use Rattle.session.specs.declared.verdict.Verdict.{Verdict}
-use Rattle.session.specs.declared.verdict.Verdict.TheVariants as verdict
 use Rattle.node_maps.specs.Digest.{Hash}
 use Rattle.hashtree.specs.Tree.{block_count}
 use Rattle.partial_tree.specs.TreeRoot.{TreeRoot, Fits}
@@ -24,7 +20,7 @@ pub record IsWantedAnswer (S : SessionSeen) (n : ℕ) (f : List ℕ) (ask : Ask)
   pub tree : TreeRoot
   pub state : TreeState
   pub is_tree : IsTree S n tree state
-  pub fits : Fits f tree
+  pub fits : Fits f tree.length tree.root
   pub block : ℕ
   pub inside : block < block_count tree.length
   pub wanted : want_of tree (look state.known) block ≡ Some ask
@@ -42,11 +38,3 @@ abbrev pub WantedClosesOneGap : SessionSeen → Ask → List Hash → Result ℕ
 WantedClosesOneGap S ask hashes r S' = (n : ℕ) (f : List ℕ) (w : IsWantedAnswer S n f ask hashes)
     → HasOneGapFewer S' n w.tree (look w.state.known)
     ⊎ ((r ≡ Err NoMemory) ⊎ Collision (whole f) (look w.state.known))
-
--- so does a message that holds that answer
-abbrev pub ClosesOneGap : SessionSeen → Message → Verdict → SessionSeen → Type 0
-ClosesOneGap S (message.Hashes ask hashes) (verdict.Stored c) S' =
-    WantedClosesOneGap S ask hashes.now (Ok c) S'
-ClosesOneGap S (message.Hashes ask hashes) (verdict.HashRefused r) S' =
-    WantedClosesOneGap S ask hashes.now (Err r) S'
-ClosesOneGap S m v S' = Unit {0}

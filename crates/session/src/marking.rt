@@ -7,6 +7,7 @@ ghost use Rattle.hashtree.specs.Tree.{block};
 ghost use Rattle.session.specs.Blocks.{cuts, most_blocks};
 ghost use Rattle.partial_tree.specs.BlockDigests.{AreDigests};
 ghost use Rattle.session.specs.Layouts.{HasBlock, HasRun};
+ghost use Rattle.session.specs.BlockTree.{HasBlockTree};
 ghost use Rattle.chains.specs.Chain.{Chain};
 ghost use Rattle.session.specs.SafeStep.{KeepsKnown, VerifiesTrueBlock, VerifiesTrueBlocks};
 
@@ -145,16 +146,26 @@ impl<T: HoldsTorrent, N: NodeMap> SessionOf<T, N> {
     }
 
     // Whether the leaves of eight blocks of a file are known, from one on.
+    #[tactic(auto, using(crate::proofs::BlockTrees::kept_within))]
     fn knows_eight(&self, file: usize, block: u64) -> bool
         requires { HasBlock self.now.torrent file block }
     {
-        let torrent = self.torrent.lend();
-        torrent.recall_sound();
-        let tree = torrent.tree_of(file).unwrap();
+        let tree = self.tree_of_block(file, block);
         self.trees[tree].knows_leaves(block, 8)
     }
 
+    // The number of the tree that a block of a file is in.
+    pub(crate) fn tree_of_block(&self, file: usize, block: u64) -> usize
+        requires { HasBlock self.now.torrent file block }
+        ensures { HasBlockTree self.now.torrent file block result }
+    {
+        let torrent = self.torrent.lend();
+        torrent.recall_sound();
+        torrent.tree_of(file).unwrap()
+    }
+
     // Marks a block of a file if its digest, which may be given, is its known leaf.
+    #[tactic(auto, using(crate::proofs::BlockTrees::kept_within))]
     fn mark_in_file(
         &mut self,
         file: usize,
@@ -168,9 +179,7 @@ impl<T: HoldsTorrent, N: NodeMap> SessionOf<T, N> {
         ensures refused { IfErr result (λ r. IsUnmarkedBlock self.old file block bytes.now r
             × (self.new ≡ self.old)) }
     {
-        let torrent = self.torrent.lend();
-        torrent.recall_sound();
-        let tree = torrent.tree_of(file).unwrap();
+        let tree = self.tree_of_block(file, block);
         self.trees[tree].take_hashed(block, bytes, digest)
     }
 }

@@ -7,7 +7,7 @@ ghost use Rattle.node_maps.specs.Known.{look};
 ghost use Rattle.partial_tree.specs.Kept.{TreeState};
 ghost use Rattle.partial_tree.specs.TreeRoot.{TreeRoot};
 ghost use Rattle.session.specs.Layouts.{roots};
-ghost use Rattle.session.specs.Pieces.{HasPiece, AreLeavesTaken, AreLeavesRefused, AreLeavesKnown, TakesTrueLeaves, IsLeafMarked, IsNoLeaf, piece_span};
+ghost use Rattle.session.specs.Pieces.{HasPiece, AreLeavesTaken, AreLeavesRefused, AreLeavesKnown, HasEndPads, TakesTrueLeaves, IsLeafMarked, IsNoLeaf, piece_span};
 ghost use Rattle.session.specs.Rounds.{HasNoMoreGaps};
 ghost use Rattle.session.specs.SafeStep.{KeepsKnown};
 
@@ -55,11 +55,13 @@ impl<T: HoldsTorrent, N: NodeMap> SessionOf<T, N> {
 
     /// Takes the leaves of a piece of a tree, from leaf `first` on: they lead to the node that
     /// covers the piece, which is known. Returns how many places are newly known, the pads past the
-    /// file's end among them. Nothing is marked. Each of the leaves is known then, what was known
-    /// stays known, and no tree has more gaps. The leaves of a true piece are taken, unless memory
-    /// is refused for them or two inputs with one digest are named. A refusal leaves the session
-    /// unchanged; it is `Unproved`, `BadPiece`, or out of memory, and that only if a place is new.
-    /// Conditions: there are more than `tree` trees, and the leaves are as many as the piece has.
+    /// file's end among them. Nothing is marked. Each of the leaves is known then. With those of
+    /// the last piece the pads beside the file's end become known, so that a session which has the
+    /// leaves of all pieces answers for each block of the file. What was known stays known, and no
+    /// tree has more gaps. The leaves of a true piece are taken, unless memory is refused for them
+    /// or two inputs with one digest are named. A refusal leaves the session unchanged; it is
+    /// `Unproved`, `BadPiece`, or out of memory, and that only if a place is new. Conditions: there
+    /// are more than `tree` trees, and the leaves are as many as the piece has.
     pub fn take_leaves(
         &mut self,
         tree: usize,
@@ -73,6 +75,7 @@ impl<T: HoldsTorrent, N: NodeMap> SessionOf<T, N> {
         ensures refused { IfErr result (λ r. AreLeavesRefused self.old tree first leaves.now r
             × (self.new ≡ self.old)) }
         ensures known { IfOk result (λ _. AreLeavesKnown self.new tree first leaves.now) }
+        ensures end_pads { IfOk result (λ _. HasEndPads self.new tree first) }
         ensures keeps_known { KeepsKnown self.old self.new }
         ensures gaps { HasNoMoreGaps self.old self.new }
         ensures takes_true_leaves { TakesTrueLeaves self.old tree first leaves.now result }

@@ -4,7 +4,7 @@ ghost use Rattle.std.specs.Prelude.{◌≡◌, ◌%◌, ◌^◌, IfOk, IfErr, So
 ghost use Rattle.opening.specs.Description.{FileEntry};
 ghost use Rattle.opening.specs.PieceLayers.{piece_layer};
 ghost use Rattle.session.specs.Layouts.{HasBlock};
-ghost use Rattle.session.specs.Pieces.{IsTakenPiece, IsPieceRefused, IsTakenFrom, IsRefusedFrom, ArePieceBlocks, TakesTruePiece, piece_size};
+ghost use Rattle.session.specs.Pieces.{IsTakenPiece, IsPieceRefused, IsTakenFrom, IsRefusedFrom, ArePieceBlocks, HasFileEndPads, TakesTruePiece, piece_size};
 ghost use Rattle.session.specs.Rounds.{HasNoMoreGaps};
 ghost use Rattle.session.specs.SafeStep.{KeepsKnown};
 
@@ -18,9 +18,10 @@ impl<T: HoldsTorrent, N: NodeMap> SessionOf<T, N> {
     /// Takes the bytes of one whole piece; the file's last one may be shorter. Returns the file and
     /// its first block of the piece. Each leaf of the piece is known then, and marked, and each of
     /// its blocks is that block of every file with the tree's length and root, or two inputs with
-    /// one digest are named. What is known stays known, and no tree has more
-    /// gaps; a true piece whose node is known is taken, unless memory is refused or a collision is
-    /// named. A refusal leaves the session unchanged.
+    /// one digest are named. With a file's last piece the pads beside its end become known, so that
+    /// a session which has all pieces answers for each block of the file. What is known stays
+    /// known, and no tree has more gaps; a true piece whose node is known is taken, unless memory
+    /// is refused or a collision is named. A refusal leaves the session unchanged.
     pub fn take_piece(&mut self, index: u32, bytes: &[u8]) -> Result<(usize, u64), PieceRefusal>
         ensures taken { IfOk result
             (λ p. IsTakenPiece self.old index bytes.now p.0 p.1 self.new) }
@@ -28,6 +29,7 @@ impl<T: HoldsTorrent, N: NodeMap> SessionOf<T, N> {
             × (self.new ≡ self.old)) }
         ensures taken_are_the_blocks { IfOk result
             (λ p. ArePieceBlocks self.new bytes.now p.0 p.1) }
+        ensures end_pads { IfOk result (λ p. HasFileEndPads self.new p.0 p.1) }
         ensures keeps_known { KeepsKnown self.old self.new }
         ensures gaps { HasNoMoreGaps self.old self.new }
         ensures takes_true_piece { TakesTruePiece self.old index bytes.now result }
@@ -57,6 +59,7 @@ impl<T: HoldsTorrent, N: NodeMap> SessionOf<T, N> {
     }
 
     // Takes the bytes of the piece that begins with a block of a file.
+    #[tactic(auto, using(crate::proofs::BlockTrees::kept_within))]
     fn take_from(&mut self, file: usize, first: u64, bytes: &[u8]) -> Result<(), PieceRefusal>
         requires block { HasBlock self.old.torrent file first }
         requires aligned { first % 2 ^ piece_layer self.old.torrent.piece_length ≡ 0 }
@@ -64,12 +67,10 @@ impl<T: HoldsTorrent, N: NodeMap> SessionOf<T, N> {
         ensures refused { IfErr result (λ r. IsRefusedFrom self.old file first bytes.now r
             × (self.new ≡ self.old)) }
     {
-        let torrent = self.torrent.lend();
-        torrent.recall_sound();
+        let tree = self.tree_of_block(file, first);
         if bytes.len() as u64 != self.size_of_piece(file, first) {
             return Err(PieceRefusal::BadSize);
         }
-        let tree = torrent.tree_of(file).unwrap();
         let span = self.piece_span(tree);
         self.trees[tree].take_piece(first, span, bytes)
     }

@@ -1,5 +1,6 @@
 -- Ranges of known leaves.
-use Rattle.std.proofs.Common.{◌≡◌, ℕ, zero, suc, ◌+◌, ◌-◌, ◌*◌, ◌/◌, ◌^◌, ◌<◌, ◌≤◌, Some, refl, sym, ap, ◌∙◌, subst, arith, pow_mono}
+use Rattle.std.proofs.Common.{◌≡◌, ℕ, zero, suc, ◌+◌, ◌-◌, ◌*◌, ◌/◌, ◌^◌, ◌<◌, ◌≤◌, min, Some, inl, inr, refl, sym, ap, ◌∙◌, subst, arith, pow_mono}
+use Rattle.std.proofs.lemmas.Bool.{cases_lt}
 use Rattle.std.specs.Prelude.{slice_get}
 use Rattle.std.proofs.lemmas.Nat.{pow_pos, mod_below}
 use Rattle.std.proofs.Math.Nat.{div-add-mod', div-mul-le_self}
@@ -40,6 +41,19 @@ pub pair-inside : (h b : ℕ) → 0 < h → b < 2 ^ h → b / 2 * 2 + 2 ≤ 2 ^ 
 pair-inside zero b up low = absurd (omega arith)
 pair-inside (suc m) b up low = omega (arith, two-pow m, low)
 
+-- spans are as their powers of two
+span-less : (k j : ℕ) → 2 ^ k < 2 ^ j → k < j
+span-less k j longer = elim (cases_lt k j) [
+  | inl less ↦ less
+  | inr high ↦ let wide : 2 ^ j ≤ 2 ^ k = pow_mono high in absurd (omega (arith, wide, longer))
+]
+
+span-most : (j : ℕ) → 2 ^ j ≤ 512 → j ≤ 9
+span-most j most = elim (cases_lt 9 j) [
+  | inl less ↦ let high : 10 ≤ j = less in let wide : 2 ^ 10 ≤ 2 ^ j = pow_mono high in absurd (omega (arith, wide, most))
+  | inr few ↦ few
+]
+
 module _ (S : SessionSeen) (n b : ℕ) (closed : HasClosedTrees S) (distinct : HasDistinctRoots S) (leaf : HasLeaf S n b)
     (t : TreeRoot) (there : slice_get (roots S) n ≡ Some t) (root : Hash) (h : ℕ) (root_is : root ≡ t.root)
     (height_is : h ≡ tree_height t.length) where
@@ -60,20 +74,42 @@ module _ (S : SessionSeen) (n b : ℕ) (closed : HasClosedTrees S) (distinct : H
     has_root = ap (λ (x : TreeRoot). x.root) tree_is ∙ sym root_is;
   }
 
-  -- a range of which all leaves are known
-  pub range-of : (k : ℕ) → k ≤ 9 → IsAnswered S (leaves_ask root h b k) → IsRange S n b (leaves_ask root h b k)
-  range-of k few (a, can) =
+  -- not all leaves are known of any range with the block that is wider than this, and of at most 512
+  abbrev pub NoneWider : ℕ → Type 0
+  NoneWider k = (j : ℕ) → k < j → j ≤ 9 → ¬ IsAnswered S (leaves_ask root h b j)
+
+  is-tree : (k : ℕ) (a : IsAsked S (leaves_ask root h b k)) → (a.number ≡ n) × (a.tree ≡ t)
+  is-tree k a =
       let same = asked-is S (leaves_ask root h b k) n leaf.tree leaf.state distinct leaf.is_tree (asks k).has_root a in
-      let tree_same : a.tree ≡ t = same.1 ∙ tree_is in
+      (same.0, same.1 ∙ tree_is)
+
+  -- no range is wider than the tree
+  pub none-above : (k : ℕ) → min h 9 ≤ k → NoneWider k
+  none-above k all j less few (a, can) =
+      let high : suc h ≤ j = omega (arith, all, less, few) in
+      let wide : 2 ^ suc h ≤ 2 ^ j = pow_mono high in
+      let pos = pow_pos h in
+      let tall_is : tree_height a.tree.length ≡ h = ap (λ (x : TreeRoot). tree_height x.length) (is-tree j a).1 ∙ sym height_is in
+      let same : tree_height a.tree.length - 0 ≡ h = omega (arith, tall_is) in
+      let inside : b / 2 ^ j * 2 ^ j + 2 ^ j ≤ 2 ^ h = subst (λ x. b / 2 ^ j * 2 ^ j + 2 ^ j ≤ 2 ^ x) same can.range.range_inside in
+      omega (arith, wide, pos, inside, two-pow h)
+
+  -- a range of which all leaves are known, if none is wider
+  pub range-of : (k : ℕ) → k ≤ 9 → NoneWider k → IsAnswered S (leaves_ask root h b k) → IsRange S n b (leaves_ask root h b k)
+  range-of k few wider (a, can) =
+      let tree_same : a.tree ≡ t = (is-tree k a).1 in
+      let height_same : tree_height a.tree.length ≡ h = ap (λ (x : TreeRoot). tree_height x.length) tree_same ∙ sym height_is in
       record {
         asked = a;
-        number_is = same.0;
+        number_is = (is-tree k a).0;
         can = can;
-        enough = omega (arith, height_is, ap (λ (x : TreeRoot). tree_height x.length) tree_same);
+        proof_is = ap (λ x. x - 1) (sym height_same);
         leaves = refl;
         most = (let small : k ≤ 9 = few in let bound : 2 ^ k ≤ 2 ^ 9 = pow_mono small in bound);
         starts = starts-low b k;
         ends = ends-high b k;
+        widest = λ j longer most known. wider j (span-less k j longer) (span-most j most)
+            (subst (λ x. IsAnswered S (leaves_ask root x b j)) height_same known);
       }
 
   -- two leaves at least

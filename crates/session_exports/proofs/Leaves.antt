@@ -12,7 +12,7 @@ use Rattle.partial_tree.specs.TreeRoot.{TreeRoot}
 use Rattle.session.specs.Layouts.{roots, root_of_entry}
 use Rattle.session.specs.Session.{SessionSeen, TreeState, HasClosedTrees}
 use Rattle.session.proofs.LeafPaths.{over-leaf}
-use Rattle.session_exports.specs.Exports.{HasLeaf, HasBlocks, AreUnknown, NoneFrom}
+use Rattle.session_exports.specs.Exports.{HasLeaf, HasBlocks, AreLeavesUnknown, NoneFrom}
 
 -- more blocks than 2 ^ k need a tree higher than k
 pub high : (len k : ℕ) → 2 ^ k < block_count len → k < tree_height len
@@ -51,24 +51,24 @@ module _ (S : SessionSeen) (n b : ℕ) (leaf : HasLeaf S n b) where
 
 -- no leaf of a window is known whose node is not
 pub window-unknown : (S : SessionSeen) (n b : ℕ) (s : TreeState) → HasClosedTrees S → slice_get S.trees n ≡ Some s → (count : ℕ)
-    → HasBlocks S n count → 512 < count → look s.known 9 (b / 512) ≡ None → AreUnknown S n b ((b / 512 + 1) * 512)
+    → HasBlocks S n count → 512 < count → look s.known 9 (b / 512) ≡ None → AreLeavesUnknown S n b ((b / 512 + 1) * 512)
 window-unknown S n b s closed there count blocks large none k from to leaf =
     window-known S n k leaf s closed there count blocks large (b / 512) (omega (arith, from, to)) none
 
 -- one more leaf is not known
-pub one_unknown : (S : SessionSeen) (n b : ℕ) (s : TreeState) → slice_get S.trees n ≡ Some s → look s.known 0 b ≡ None → AreUnknown S n b (b + 1)
+pub one_unknown : (S : SessionSeen) (n b : ℕ) (s : TreeState) → slice_get S.trees n ≡ Some s → look s.known 0 b ≡ None → AreLeavesUnknown S n b (b + 1)
 one_unknown S n b s there none k from to leaf =
     let at : k ≡ b = omega arith in leaf-known S n k leaf s there (ap (look s.known 0) at ∙ none)
 
 -- leaves before and after a block
-pub unknown-join : (S : SessionSeen) (n a b d : ℕ) → AreUnknown S n a b → AreUnknown S n b d → AreUnknown S n a d
+pub unknown-join : (S : SessionSeen) (n a b d : ℕ) → AreLeavesUnknown S n a b → AreLeavesUnknown S n b d → AreLeavesUnknown S n a d
 unknown-join S n a b d before after k from to leaf = elim (cases_lt k b) [
   | inl low ↦ before k from low leaf
   | inr high' ↦ after k high' to leaf
 ]
 
 -- none before the last block, so none at all
-pub unknown-all : (S : SessionSeen) (n a b count : ℕ) → AreUnknown S n a b → HasBlocks S n count → count ≤ b → NoneFrom S n a
+pub unknown-all : (S : SessionSeen) (n a b count : ℕ) → AreLeavesUnknown S n a b → HasBlocks S n count → count ≤ b → NoneFrom S n a
 unknown-all S n a b count before blocks end k from leaf =
     before k from (omega (arith, (leaf-inside S n k leaf count blocks).0, end)) leaf
 

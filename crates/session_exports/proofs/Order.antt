@@ -5,7 +5,8 @@ use Rattle.std.proofs.lemmas.Bool.{cases_lt}
 use Rattle.wire.specs.declared.message.Ask.{Ask}
 use Rattle.session.specs.Session.{SessionSeen}
 use Rattle.session_exports.specs.declared.next.Point.{Point}
-use Rattle.session_exports.specs.Exports.{HasLeaf, AreUnknown, NoneFrom, NothingFrom, IsExport, IsFrom, IsRange, IsExported, ExportsAllLeaves, point_after}
+use Rattle.session_exports.specs.Exports.{HasLeaf, AreLeavesUnknown, NoneFrom, NothingFrom, IsExport, IsFrom, IsRange, IsExported, ExportsAllLeaves}
+use Rattle.session_exports.specs.Exports.{point_after}
 
 -- the trees before one, and the blocks of that one before a block, were searched from a point on
 pub record IsSearched (S : SessionSeen) (p : Point) (n a : ℕ) : Type 0 where
@@ -43,7 +44,7 @@ searched-next S p n a so_far none = record {
     start b (inr same) at = let begun = so_far.begins (omega (arith, same.0, at)) in omega (arith, begun, same.1)
 
 -- the first block of a tree whose leaf is known is the next one, and so are the leaves around it
-pub next-found : (S : SessionSeen) (p : Point) (n a b : ℕ) (ask : Ask) → IsSearched S p n a → a ≤ b → AreUnknown S n a b → IsRange S n b ask
+pub next-found : (S : SessionSeen) (p : Point) (n a b : ℕ) (ask : Ask) → IsSearched S p n a → a ≤ b → AreLeavesUnknown S n a b → IsRange S n b ask
     → IsExport S p (record { tree = n; ask = ask })
 next-found S p n a b ask so_far low unknown range = record {
   block = b;

@@ -8,7 +8,7 @@ use Rattle.node_maps.specs.Places.{tree_height, IsKnown}
 use Rattle.partial_tree.specs.TreeRoot.{TreeRoot}
 use Rattle.partial_tree.specs.Claims.{CanAnswer}
 use Rattle.session.specs.Layouts.{roots}
-use Rattle.session.specs.Session.{SessionSeen, TreeState, IsTree, IsAsked}
+use Rattle.session.specs.Session.{SessionSeen, TreeState, IsTree, IsAsked, IsAnswered}
 use Rattle.wire.specs.declared.message.Ask.{Ask}
 use Rattle.session_exports.specs.declared.next.Point.{Point}
 use Rattle.session_exports.specs.declared.next.Export.{Export}
@@ -23,8 +23,8 @@ pub record HasLeaf (S : SessionSeen) (n b : ℕ) : Type 0 where
   pub known : IsKnown (look state.known) 0 b
 
 -- of tree n, no leaf from block a up to block b is known
-abbrev pub AreUnknown : SessionSeen → ℕ → ℕ → ℕ → Type 0
-AreUnknown S n a b = (k : ℕ) → a ≤ k → k < b → HasLeaf S n k → ⊥
+abbrev pub AreLeavesUnknown : SessionSeen → ℕ → ℕ → ℕ → Type 0
+AreLeavesUnknown S n a b = (k : ℕ) → a ≤ k → k < b → HasLeaf S n k → ⊥
 
 -- no leaf of tree n is known from block a on
 abbrev pub NoneFrom : SessionSeen → ℕ → ℕ → Type 0
@@ -45,17 +45,19 @@ leaves_ask root h b k = record {
   proof = h - 1;
 }
 
--- the ask is for leaves of tree n, block b among them; all of them are known, and so is the proof
--- up to the root, which is asked for whole
+-- the ask is for leaves of tree n, block b among them, with the proof up to the root, as `want`
+-- asks for them; all of them are known, and not all of a wider range of at most 512 with the block
 pub record IsRange (S : SessionSeen) (n b : ℕ) (ask : Ask) : Type 0 where
   pub asked : IsAsked S ask
   pub number_is : asked.number ≡ n
   pub can : CanAnswer (tree_height asked.tree.length) (look asked.state.known) ask
-  pub enough : tree_height asked.tree.length - ask.base - 1 ≤ ask.proof
+  pub proof_is : ask.proof ≡ tree_height asked.tree.length - 1
   pub leaves : ask.base ≡ 0
   pub most : ask.length ≤ 512
   pub starts : ask.index ≤ b
   pub ends : b < ask.index + ask.length
+  pub widest : (k : ℕ) → ask.length < 2 ^ k → 2 ^ k ≤ 512
+      → ¬ IsAnswered S (leaves_ask ask.root (tree_height asked.tree.length) b k)
 
 -- ---- the order of an export
 

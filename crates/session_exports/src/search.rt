@@ -1,7 +1,7 @@
 //! The search for leaves that are known.
 
 ghost use Rattle.std.specs.Prelude.{◌+◌, ◌<◌, ◌≤◌, ◌^◌, IfNone, IfSome, length};
-ghost use Rattle.session_exports.specs.Exports.{AreUnknown, HasBlocks, HasLeaf, NoneFrom};
+ghost use Rattle.session_exports.specs.Exports.{AreLeavesUnknown, HasBlocks, HasLeaf, NoneFrom};
 
 use node_maps::NodeMap;
 use session::{HoldsTorrent, SessionOf};
@@ -20,7 +20,7 @@ pub(crate) fn next_leaf<T: HoldsTorrent, N: NodeMap>(
 ) -> Option<u64>
     requires { tree < length session.now.torrent.trees }
     ensures found { IfSome result (λ b. (from ≤ b) × (b < 2 ^ 32)
-        × HasLeaf session.now tree b × AreUnknown session.now tree from b) }
+        × HasLeaf session.now tree b × AreLeavesUnknown session.now tree from b) }
     ensures none { IfNone result (NoneFrom session.now tree from) }
 {
     session.recall_closed_trees();
@@ -49,9 +49,9 @@ fn after_unknown<T: HoldsTorrent, N: NodeMap>(
     requires tree { tree < length session.now.torrent.trees }
     requires low { block < 2 ^ 32 }
     requires blocks { HasBlocks session.now tree blocks }
-    requires unknown { AreUnknown session.now tree block (block + 1) }
+    requires unknown { AreLeavesUnknown session.now tree block (block + 1) }
     ensures later { block < result }
-    ensures unknown { AreUnknown session.now tree block result }
+    ensures unknown { AreLeavesUnknown session.now tree block result }
 {
     session.recall_closed_trees();
     let window = block / WINDOW;

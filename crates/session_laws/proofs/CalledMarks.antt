@@ -17,7 +17,7 @@ use Rattle.session.proofs.States.{set-read}
 use Rattle.session.proofs.Runs.{step-torrent}
 use Rattle.session.proofs.NotedSteps.{noted-torrent}
 use Rattle.session_laws.specs.Marks.{IsMarked}
-use Rattle.session_laws.specs.Calling.{Call, TookMessage, TookNoted, TookBlock, TookPiece, TookLeaves, Filled, MarkedLeaf, AreMade, Does, IsVerifiedIn}
+use Rattle.session_laws.specs.Calling.{Call, TookMessage, TookNoted, TookBlock, TookPiece, TookLeaves, Filled, MarkedLeaf, AreMade, CallDoes, IsVerifiedIn}
 use Rattle.session_laws.specs.Calling.{Verifies}
 use Rattle.session_laws.proofs.Marked.{block-marks, noted-marks, same-marks, step-marks, verified-later}
 
@@ -44,7 +44,7 @@ unchanged S n before after S' k b there same is m = elim (one-tree S n after S' 
 ]
 
 -- one more leaf is marked
-insert-marks : (marked : Marked) (c b : ℕ) → leaves.contains (leaves.insert marked c) b ≡ true → (c ≡ b) ⊎ (leaves.contains marked b ≡ true)
+pub insert-marks : (marked : Marked) (c b : ℕ) → leaves.contains (leaves.insert marked c) b ≡ true → (c ≡ b) ⊎ (leaves.contains marked b ≡ true)
 insert-marks marked c b here =
     elim (or_cases (eq_by_cmp nat_cmp b c) (leaves.contains marked b) (sym (leaves.contains-insert nat_cmp_total marked c b) ∙ here)) [
       | inl now ↦ inl (sym (eqb-true b c (sym (nat_equal b c) ∙ now)))
@@ -52,7 +52,7 @@ insert-marks marked c b here =
     ]
 
 -- this many more are marked
-run-marks-of : (marked : Marked) (first count b : ℕ) → leaves.contains (mark_run marked first count) b ≡ true
+pub run-marks-of : (marked : Marked) (first count b : ℕ) → leaves.contains (mark_run marked first count) b ≡ true
     → ((j : ℕ) × (j < count) × (first + j ≡ b)) ⊎ (leaves.contains marked b ≡ true)
 run-marks-of marked first zero b here = inr here
 run-marks-of marked first (suc n) b here = elim (insert-marks (mark_run marked first n) (first + n) b here) [
@@ -99,7 +99,7 @@ one-block S file c bytes S' n b h m = elim (block-marks S file n b (record { num
   | inr now ↦ inr (now.of_file, now.number_is)
 ]
 
-call-marks : (S : SessionSeen) (call : Call) (S' : SessionSeen) (n b : ℕ) → Does S call S' → IsMarked S' n b → IsMarked S n b ⊎ Verifies S call n b
+call-marks : (S : SessionSeen) (call : Call) (S' : SessionSeen) (n b : ℕ) → CallDoes S call S' → IsMarked S' n b → IsMarked S n b ⊎ Verifies S call n b
 call-marks S (TookMessage m v) S' n b h at = step-marks S m v S' n b h at
 call-marks S (TookNoted m v) S' n b h at = noted-marks S m v S' n b h at
 call-marks S (TookBlock index begin bytes file c) S' n b h at = one-block S file c bytes S' n b h.1 at
@@ -108,7 +108,7 @@ call-marks S (TookLeaves k first leaves c) S' n b h at = inl (unchanged S k h.be
 call-marks S (Filled k layer hashes c) S' n b h at = inl (unchanged S k h.before h.after S' n b h.is_tree.state_is h.marks_stay h.state_after at)
 call-marks S (MarkedLeaf k c digest) S' n b h at = leaf-marks S k c digest S' n b h at
 
-call-torrent : (S : SessionSeen) (call : Call) (S' : SessionSeen) → Does S call S' → S'.torrent ≡ S.torrent
+call-torrent : (S : SessionSeen) (call : Call) (S' : SessionSeen) → CallDoes S call S' → S'.torrent ≡ S.torrent
 call-torrent S (TookMessage m v) S' h = step-torrent S m v S' h
 call-torrent S (TookNoted m v) S' h = noted-torrent S m v S' h
 call-torrent S (TookBlock index begin bytes file c) S' h = ap (λ U. U.torrent) h.1.state_after

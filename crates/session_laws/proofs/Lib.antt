@@ -3,6 +3,7 @@ pub mod CallRounds
 pub mod RepeatedRounds
 pub mod Marked
 pub mod CalledMarks
+pub mod ClosedCalls
 pub mod Replayed
 pub mod OneRun
 pub mod Trusting

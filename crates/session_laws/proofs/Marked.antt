@@ -20,6 +20,7 @@ use Rattle.node_maps.specs.Known.{look}
 use Rattle.hashtree.specs.Tree.{block}
 use Rattle.sha2.specs.Sha256.{sha256}
 use Rattle.chains.specs.Chain.{Chain}
+use Rattle.chains.proofs.Chains.{Chain-each}
 use Rattle.session.specs.Blocks.{Cut, cuts}
 use Rattle.session.specs.Layouts.{tree_of}
 use Rattle.session.specs.Session.{SessionSeen, TreeState, HasClosedTrees, IsInFile, IsFileBlock, IsStored, IsMarkedBlock, BlockStep, Step}
@@ -157,16 +158,11 @@ module _ {I : Type 0} (R : SessionSeen → I → Verdict → SessionSeen → Typ
   where
     run-marks : (S : SessionSeen) (ms : List I) (vs : List Verdict) (S' : SessionSeen) → Chain R S ms vs S' → (n b : ℕ) → IsMarked S' n b
         → IsMarked S n b ⊎ IsVerifiedAmong S vs n b
-    run-marks S [] [] S' e n b at = inl (same-marks S S' n b (ap (λ U. U.trees) e) at)
-    run-marks S [] (v ∷ vs) S' e n b at = absurd e
-    run-marks S (m ∷ ms) [] S' e n b at = absurd e
-    run-marks S (m ∷ ms) (v ∷ vs) S' (M, step, rest) n b at = elim (run-marks M ms vs S' rest n b at) [
-      | inr (k, w, there, by) ↦ inr (suc k, w, there, verified-later S M w n b (torrent S m v M step) by)
-      | inl now ↦ elim (marks S m v M n b step now) [
-        | inl before ↦ inl before
-        | inr here ↦ inr (0, v, refl, here)
-      ]
-    ]
+    run-marks S ms vs S' run n b = Chain-each R (λ A ms vs E. IsMarked E n b → IsMarked A n b ⊎ IsVerifiedAmong A vs n b) (λ A at. inl at)
+        (λ A m v M ms vs E step rest later at. elim (later at) [
+          | inr (k, w, there, by) ↦ inr (suc k, w, there, verified-later A M w n b (torrent A m v M step) by)
+          | inl now ↦ elim (marks A m v M n b step now) [ inl before ↦ inl before | inr here ↦ inr (0, v, refl, here) ]
+        ]) S ms vs S' run
 
 pub marks-of_run : (S : SessionSeen) (ms : List Message) (vs : List Verdict) (S' : SessionSeen) → Chain Step S ms vs S' → (n b : ℕ) → IsMarked S' n b
     → IsMarked S n b ⊎ IsVerifiedAmong S vs n b

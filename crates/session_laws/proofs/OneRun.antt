@@ -37,11 +37,11 @@ use Rattle.session.specs.Blocks.{BlocksSeen, Cut, cuts}
 use Rattle.session.specs.Layouts.{roots}
 use Rattle.session.specs.Session.{SessionSeen, TreeState, IsAsked, IsStored, IsHashRefused, IsInFile, IsPlaced, IsMarkedBlock, BlockStep, AreTaken, AreRefused}
 use Rattle.session.specs.Session.{HasDistinctRoots, Step}
-use Rattle.session.specs.Noted.{NotedStep}
-use Rattle.session.specs.NotedLaws.{asking, incoming, HadMemory}
+use Rattle.session.specs.Noted.{asking, NotedStep}
+use Rattle.session.specs.NotedLaws.{incoming, HadMemory}
 use Rattle.session.proofs.Entries.{same_number, same_tree, same_state}
 use Rattle.session.proofs.Rounds.{asked-is}
-use Rattle.session.proofs.RoundRuns.{later-distinct}
+use Rattle.session.proofs.Rounds.{later-distinct}
 use Rattle.session.proofs.Runs.{step-torrent}
 use Rattle.session.proofs.SafeSteps.{run_there}
 use Rattle.session_laws.proofs.Replayed.{conversion_replays, memory-noted, memory-incoming}

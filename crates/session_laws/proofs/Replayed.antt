@@ -15,21 +15,19 @@ use Rattle.wire.proofs.Meanings.{one_meaning}
 use Rattle.wire.proofs.Conversions.{conversion_means}
 use Rattle.partial_tree.specs.declared.refusal.HashRefusal.TheVariants.{NoMemory, Unasked}
 use Rattle.chains.specs.Chain.{Chain}
+use Rattle.chains.proofs.Chains.{Chain-same}
 use Rattle.session.specs.declared.verdict.Verdict.{Verdict}
 use Rattle.session.specs.declared.verdict.Verdict.TheVariants as verdict
 use Rattle.session.specs.Asks.{AskSet}
 use Rattle.session.specs.Session.{SessionSeen, AreTaken, AreRefused, Step}
-use Rattle.session.specs.Noted.{IsOpenAsk, with_ask, without_ask, IsAnswerStored, IsAnswerRefused, StepIn, StepOut, NotedStep}
-use Rattle.session.specs.NotedLaws.{asking, incoming, AllNoted, HadMemory}
+use Rattle.session.specs.Noted.{IsOpenAsk, asking, with_ask, without_ask, IsAnswerStored, IsAnswerRefused, StepIn, StepOut, NotedStep}
+use Rattle.session.specs.NotedLaws.{incoming, AllNoted, HadMemory}
 use Rattle.session.proofs.OpenAsks.{opened_contains}
 use Rattle.session.proofs.OtherAsks.{step_asking, run_asking}
 use Rattle.session.proofs.NotedSteps.{in_hashes, step-asks}
 
 run-asks : (S : SessionSeen) (ms : List Message) (vs : List Verdict) (S' : SessionSeen) → Chain Step S ms vs S' → S'.asks ≡ S.asks
-run-asks S [] [] S' e = ap (λ U. U.asks) e
-run-asks S [] (v ∷ vs) S' e = absurd e
-run-asks S (m ∷ ms) [] S' e = absurd e
-run-asks S (m ∷ ms) (v ∷ vs) S' (M, step, rest) = run-asks M ms vs S' rest ∙ step-asks S m v M step
+run-asks = Chain-same Step (λ (A : SessionSeen). A.asks) step-asks
 
 -- a request that was noted leaves the trees, and its ask is open
 out_noted : (S : SessionSeen) (ask : Ask) (v : Verdict) (S' : SessionSeen) → StepOut S (message.Request ask) v S' → v ≢ verdict.HashRefused NoMemory

@@ -1,9 +1,8 @@
 -- To one who trusts SHA-256 nothing is left of the named collisions.
-use Rattle.std.proofs.Common.{ℕ, ◌+◌, ◌*◌, ◌<◌, List, [], ◌∷◌, length, Option, None, Result, Ok, Err, inl, inr, sym, subst}
+use Rattle.std.proofs.Common.{ℕ, ◌+◌, ◌*◌, ◌<◌, List, ◌∷◌, length, Option, None, Result, Ok, Err, inl, inr, refl, sym, subst, Bor}
 use Rattle.std.specs.List.{All}
 use Rattle.std.proofs.lemmas.Option.{slice_get_within}
 use Rattle.std.proofs.lemmas.List.Elements.{All-head, All-tail}
-use Rattle.wire.specs.declared.form.Direction.TheVariants.{In, Out}
 use Rattle.wire.specs.declared.message.Ask.{Ask}
 use Rattle.wire.specs.declared.message.Message.{Message}
 use Rattle.wire.specs.declared.message.Message.TheVariants as message
@@ -17,15 +16,17 @@ use Rattle.node_maps.specs.Digest.{Hash}
 use Rattle.partial_tree.specs.Trust.{HasNoCollision, AreInputsOf}
 use Rattle.tree_laws.proofs.Trusted.{no_collision, no_block_collision}
 use Rattle.chains.specs.Chain.{Chain}
+use Rattle.chains.proofs.Chains.{Chain-each, Chain-within}
 use Rattle.session.specs.Session.{SessionSeen, AreTaken, AreBlocks, IsFileBlock}
 use Rattle.session.specs.Blocks.{BlocksSeen}
-use Rattle.session.specs.SafeStep.{KeepsKnown, StoresTrueHashes, StoresAnswers, TakesTrueBlock, VerifiesTrueBlocks, IsSafeStep}
+use Rattle.session.specs.SafeStep.{KeepsKnown, StoresTrueHashes, StoresAnswers, TakesTrueBlock, verdict_of, IsSafeStep}
 use Rattle.session.specs.Wanted.{WantedClosesOneGap}
 use Rattle.session.specs.Rounds.{Collides}
-use Rattle.session.specs.Noted.{IsSafeNotedStep}
+use Rattle.session.specs.Noted.{asking, IsSafeNotedStep}
 use Rattle.session.specs.Trusted.{AreJoinsOfTrees, HasBlocksOf, IsTrustedBlock, StoresTrusted, StoresTrustedAnswers, TrustedClosesOneGap, TakesTrustedBlock}
-use Rattle.session.specs.Trusted.{TakesTrustedHashes, TakesTrustedBlocks, TakesTrusted, TakesTrustedIfAsked, IsTrustedStep, IsTrustedNotedStep}
+use Rattle.session.specs.Trusted.{TakesTrustedHashes, TakesTrustedBlocks, TakesTrusted, IsTrustedStep, IsTrustedNotedStep}
 use Rattle.session.proofs.MessageBlocks.{run-begins}
+use Rattle.session.proofs.OneTree.{keeps-same, keeps-then}
 
 -- ---- one call
 
@@ -91,47 +92,35 @@ module _ (P : List ℕ → Type 0) (none : HasNoCollision P) (S : SessionSeen) (
 
   -- ---- one step
 
-  takes-hashes : (ask : Ask) (hashes : List Hash) (r : Result ℕ HashRefusal) (S' : SessionSeen) → StoresTrueHashes S ask hashes r
-      → StoresAnswers S ask hashes r → WantedClosesOneGap S ask hashes r S' → TakesTrustedHashes P S ask hashes r S'
-  takes-hashes ask hashes r S' stores answers closes = record {
-    stores = trusted-hashes ask hashes r stores;
-    stores_answers = trusted-answers ask hashes r answers;
-    closes_one_gap = trusted-gap ask hashes r S' closes;
+  takes-hashes : (ask : Ask) (given : Bor (List Hash)) (r : Result ℕ HashRefusal) (S' : SessionSeen)
+      → IsSafeStep S (message.Hashes ask given) (verdict_of r) S' → TakesTrustedHashes P S ask given.now r S'
+  takes-hashes ask given r S' s = record {
+    stores = trusted-hashes ask given.now r (s.true_hashes_are_stored ask given r refl refl);
+    stores_answers = trusted-answers ask given.now r (s.answers_are_stored ask given r refl refl);
+    closes_one_gap = trusted-gap ask given.now r S' (s.one_gap_closes ask given r refl refl);
   }
 
-  takes-blocks : (index begin : ℕ) (bytes : List ℕ) (v : BlocksSeen) (S' : SessionSeen) → AreTaken S index begin bytes v S'
-      → AreBlocks S index begin bytes v → VerifiesTrueBlocks S bytes v → ((m : ℕ) → 16384 * m < length bytes → P (block bytes m))
-      → TakesTrustedBlocks P S bytes v
-  takes-blocks index begin bytes v S' taken are verifies blocks = record {
-    verified = λ m stated. trusted-block v.file (v.first + m) (block bytes m) (are.verified m stated)
-        (blocks m (run-begins taken.in_file.tree.length v.first (length bytes) (length v.refusals) m taken.run
-        (slice_get_within v.refusals m None stated)));
-    taken = λ m r stated. trusted-taken v.file (v.first + m) (block bytes m) r (verifies m r stated);
-  }
+  takes-blocks : (index begin : ℕ) (sent : Bor (List ℕ)) (v : BlocksSeen) (S' : SessionSeen)
+      → IsSafeStep S (message.Piece index begin sent) (verdict.Blocks v) S' → HasBlocksOf P (message.Piece index begin sent)
+      → TakesTrustedBlocks P S sent.now v
+  takes-blocks index begin sent v S' s blocks =
+      let taken : AreTaken S index begin sent.now v S' = s.allowed in
+      let are : AreBlocks S index begin sent.now v = s.verified_is_the_block index begin sent v refl refl in
+      record {
+        verified = λ m stated. trusted-block v.file (v.first + m) (block sent.now m) (are.verified m stated)
+            (blocks m (run-begins taken.in_file.tree.length v.first (length sent.now) (length v.refusals) m taken.run
+            (slice_get_within v.refusals m None stated)));
+        taken = λ m r stated. trusted-taken v.file (v.first + m) (block sent.now m) r
+            (s.true_blocks_are_verified index begin sent v refl refl m r stated);
+      }
 
   pub trusted-step : (m : Message) (v : Verdict) (S' : SessionSeen) → IsSafeStep S m v S' → HasBlocksOf P m → TakesTrusted P S m v S'
-  trusted-step (message.Hashes ask hashes) (verdict.Stored c) S' s blocks =
-      takes-hashes ask hashes.now (Ok c) S' s.takes_what_is_true.0 s.takes_what_is_true.1 s.closes_one_gap
-  trusted-step (message.Hashes ask hashes) (verdict.HashRefused r) S' s blocks =
-      takes-hashes ask hashes.now (Err r) S' s.takes_what_is_true.0 s.takes_what_is_true.1 s.closes_one_gap
-  trusted-step (message.Piece index begin bytes) (verdict.Blocks v) S' s blocks =
-      takes-blocks index begin bytes.now v S' s.allowed s.verified_is_the_block s.takes_what_is_true blocks
-  trusted-step (message.Hashes ask hashes) v S' s blocks = absurd s.allowed
-  trusted-step (message.Piece index begin bytes) v S' s blocks = tt
+  trusted-step (message.Hashes ask given) (verdict.Stored c) S' s blocks = takes-hashes ask given (Ok c) S' s
+  trusted-step (message.Hashes ask given) (verdict.HashRefused r) S' s blocks = takes-hashes ask given (Err r) S' s
+  trusted-step (message.Piece index begin sent) (verdict.Blocks v) S' s blocks = takes-blocks index begin sent v S' s blocks
+  trusted-step (message.Hashes ask given) v S' s blocks = absurd s.allowed
+  trusted-step (message.Piece index begin sent) v S' s blocks = tt
   trusted-step m v S' s blocks = tt
-
-  trusted-noted : (x : Directed Message) (v : Verdict) (S' : SessionSeen) → IsSafeNotedStep S x v S' → HasBlocksOf P x.1
-      → TakesTrustedIfAsked P S x v S'
-  trusted-noted (In, message.Hashes ask hashes) (verdict.Stored c) S' s blocks = λ was.
-      takes-hashes ask hashes.now (Ok c) S' (s.takes_what_is_true was).0 (s.takes_what_is_true was).1 (s.closes_one_gap was)
-  trusted-noted (In, message.Hashes ask hashes) (verdict.HashRefused r) S' s blocks = λ was.
-      takes-hashes ask hashes.now (Err r) S' (s.takes_what_is_true was).0 (s.takes_what_is_true was).1 (s.closes_one_gap was)
-  trusted-noted (In, message.Piece index begin bytes) (verdict.Blocks v) S' s blocks =
-      takes-blocks index begin bytes.now v S' s.allowed s.verified_is_the_block s.takes_what_is_true blocks
-  trusted-noted (In, message.Hashes ask hashes) v S' s blocks = absurd s.allowed
-  trusted-noted (In, message.Piece index begin bytes) v S' s blocks = tt
-  trusted-noted (In, m) v S' s blocks = tt
-  trusted-noted (Out, m) v S' s blocks = tt
 
 -- ---- whole runs
 
@@ -145,28 +134,29 @@ module _ {I O : Type 0} (P : List ℕ → Type 0) (R Q : SessionSeen → I → O
       λ l j left right a b. joins n tree later later_is l j left right (same l (2 * j) left a) (same l (2 * j + 1) right b)
 
   joins-first : (S : SessionSeen) (is : List I) (os : List O) (S' : SessionSeen) → Chain R S is os S' → AreJoinsOfTrees P S' → AreJoinsOfTrees P S
-  joins-first S [] [] S' e joins = subst (AreJoinsOfTrees P) e joins
-  joins-first S [] (o ∷ os) S' e joins = absurd e
-  joins-first S (i ∷ is) [] S' e joins = absurd e
-  joins-first S (i ∷ is) (o ∷ os) S' (M, step, rest) joins = joins-before S M (keeps S i o M step) (joins-first M is os S' rest joins)
+  joins-first S is os S' run = joins-before S S' (Chain-within R KeepsKnown (λ A. keeps-same A A refl) keeps-then keeps S is os S' run)
 
   trusted-chain : (S : SessionSeen) (is : List I) (os : List O) (S' : SessionSeen) → Chain R S is os S' → All B is → AreJoinsOfTrees P S'
       → Chain Q S is os S'
-  trusted-chain S [] [] S' e all joins = e
-  trusted-chain S [] (o ∷ os) S' e all joins = absurd e
-  trusted-chain S (i ∷ is) [] S' e all joins = absurd e
-  trusted-chain S (i ∷ is) (o ∷ os) S' (M, step, rest) all joins =
-      let here : AreJoinsOfTrees P S = joins-first S (i ∷ is) (o ∷ os) S' (M, step, rest) joins in
-      (M, trusts S i o M step here (All-head B i is all), trusted-chain M is os S' rest (All-tail B i is all) joins)
+  trusted-chain S is os S' run = Chain-each R (λ A is os E. All B is → AreJoinsOfTrees P E → Chain Q A is os E) (λ A all joins. refl)
+      (λ A i o M is os E step rest later all joins. (
+        M,
+        trusts A i o M step (joins-first A (i ∷ is) (o ∷ os) E (M, step, rest) joins) (All-head B i is all),
+        later (All-tail B i is all) joins,
+      )) S is os S' run
 
 module _ (P : List ℕ → Type 0) (none : HasNoCollision P) where
   pub trusted-runs : (S : SessionSeen) (ms : List Message) (vs : List Verdict) (S' : SessionSeen) → Chain IsSafeStep S ms vs S'
       → All (HasBlocksOf P) ms → AreJoinsOfTrees P S' → Chain (IsTrustedStep P) S ms vs S'
-  trusted-runs = trusted-chain P IsSafeStep (IsTrustedStep P) (HasBlocksOf P) (λ S m v S' s. s.keeps_known)
+  trusted-runs = trusted-chain P IsSafeStep (IsTrustedStep P) (HasBlocksOf P) (λ S m v S' s. s.known_stays)
       (λ S m v S' s joins blocks. record { safe = s; trusted = trusted-step P none S joins m v S' s blocks })
 
   pub trusted-noted_runs : (S : SessionSeen) (ms : List (Directed Message)) (vs : List Verdict) (S' : SessionSeen)
       → Chain IsSafeNotedStep S ms vs S' → All (λ x. HasBlocksOf P x.1) ms → AreJoinsOfTrees P S'
       → Chain (IsTrustedNotedStep P) S ms vs S'
-  trusted-noted_runs = trusted-chain P IsSafeNotedStep (IsTrustedNotedStep P) (λ x. HasBlocksOf P x.1) (λ S x v S' s. s.keeps_known)
-      (λ S x v S' s joins blocks. record { safe = s; trusted = trusted-noted P none S joins x v S' s blocks })
+  trusted-noted_runs = trusted-chain P IsSafeNotedStep (IsTrustedNotedStep P) (λ x. HasBlocksOf P x.1) (λ S x v S' s. s.known_stays)
+      (λ S x v S' s joins blocks. record {
+        safe = s;
+        trusted = λ m is awaited. trusted-step P none S joins m v (asking S.asks S') (s.is_safe m is awaited)
+            (subst (λ (y : Directed Message). HasBlocksOf P y.1) is blocks);
+      })

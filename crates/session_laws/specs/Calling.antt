@@ -30,14 +30,14 @@ pub data Call : Type 0 where
   MarkedLeaf : (n b : ℕ) → Hash → Call
 
 -- what a call does to a session
-abbrev pub Does : SessionSeen → Call → SessionSeen → Type 0
-Does S (TookMessage m v) S' = Step S m v S'
-Does S (TookNoted m v) S' = NotedStep S m v S'
-Does S (TookBlock index begin bytes file b) S' = IsVerified S index begin bytes file b S'
-Does S (TookPiece index bytes file first) S' = IsTakenPiece S index bytes file first S'
-Does S (TookLeaves n first leaves c) S' = AreLeavesTaken S n first leaves c S'
-Does S (Filled n layer hashes c) S' = IsFilled S n layer hashes c S'
-Does S (MarkedLeaf n b digest) S' = IsLeafMarked S n b digest S'
+abbrev pub CallDoes : SessionSeen → Call → SessionSeen → Type 0
+CallDoes S (TookMessage m v) S' = Step S m v S'
+CallDoes S (TookNoted m v) S' = NotedStep S m v S'
+CallDoes S (TookBlock index begin bytes file b) S' = IsVerified S index begin bytes file b S'
+CallDoes S (TookPiece index bytes file first) S' = IsTakenPiece S index bytes file first S'
+CallDoes S (TookLeaves n first leaves c) S' = AreLeavesTaken S n first leaves c S'
+CallDoes S (Filled n layer hashes c) S' = IsFilled S n layer hashes c S'
+CallDoes S (MarkedLeaf n b digest) S' = IsLeafMarked S n b digest S'
 
 -- a call verified block b of tree n: an entry of its verdict says so, the call was given that block
 -- or a piece that has it, or the digest of what came for it
@@ -54,7 +54,7 @@ Verifies S (MarkedLeaf k c digest) n b = (k ≡ n) × (c ≡ b)
 -- these calls, one after the other, lead from S to S'
 unfoldable pub AreMade : SessionSeen → List Call → SessionSeen → Type 0
 AreMade S [] S' = S' ≡ S
-AreMade S (call ∷ calls) S' = (mid : SessionSeen) × Does S call mid × AreMade mid calls S'
+AreMade S (call ∷ calls) S' = (mid : SessionSeen) × CallDoes S call mid × AreMade mid calls S'
 
 -- one of these calls verified block b of tree n
 abbrev pub IsVerifiedIn : SessionSeen → List Call → ℕ → ℕ → Type 0

@@ -1,5 +1,5 @@
 -- Rounds of calls of any kind, one after the other: messages, whole layers and trees, pieces.
-use Rattle.std.specs.Prelude.{◌≢◌, ◌⊎◌, ℕ, ◌+◌, ◌<◌, ◌≤◌, List}
+use Rattle.std.specs.Prelude.{◌≢◌, ℕ, List}
 use Rattle.std.specs.Borrow.{Bor}
 use Rattle.wire.specs.declared.message.Ask.{Ask}
 use Rattle.wire.specs.declared.message.Message.{Message as Sent}
@@ -7,24 +7,12 @@ use Rattle.wire.specs.declared.message.Message.TheVariants as message
 use Rattle.partial_tree.specs.declared.refusal.HashRefusal.TheVariants.{NoMemory}
 use Rattle.session.specs.declared.verdict.Verdict.{Verdict as Said}
 use Rattle.session.specs.declared.verdict.Verdict.TheVariants as verdict
-use Rattle.hashtree.specs.Tree.{block_count}
 use Rattle.node_maps.specs.Digest.{Hash}
-use Rattle.node_maps.specs.Known.{look}
-use Rattle.node_maps.specs.Places.{IsKnown}
-use Rattle.partial_tree.specs.TreeRoot.{TreeRoot as Tree}
-use Rattle.partial_tree.specs.Gaps.{gaps}
-use Rattle.session.specs.Session.{SessionSeen, TreeState, IsTree, HasClosedTrees, HasDistinctRoots, HasHashes, Step}
+use Rattle.session.specs.Session.{SessionSeen, HasHashes, Step}
 use Rattle.chains.specs.Chain.{Chain}
 use Rattle.session.specs.SafeStep.{KeepsKnown, IsSafeStep}
 use Rattle.session.specs.Wanted.{IsWantedAnswer}
-use Rattle.session.specs.Rounds.{Repeated, Collides}
-
--- what every call that changes a session says of it, and so what any number of them do: each tree
--- is closed, the roots differ, and what was known is known
-pub record IsLater (S S' : SessionSeen) : Type 0 where
-  pub closed : HasClosedTrees S'
-  pub distinct : HasDistinctRoots S'
-  pub keeps : KeepsKnown S S'
+use Rattle.session.specs.Rounds.{IsLater, AreAtMostGaps, MakeAllKnown}
 
 -- calls and then calls are calls
 abbrev pub CallsJoin : Type 0
@@ -50,25 +38,10 @@ pub record IsCallRound (n : ℕ) (f : List ℕ) (S S' : SessionSeen) : Type 0 wh
   pub step : Step before (message.Hashes ask answer) said S'
   pub memory : said ≢ verdict.HashRefused NoMemory
 
--- k such rounds, one after the other
-abbrev pub CallRounds : ℕ → List ℕ → ℕ → SessionSeen → SessionSeen → Type 0
-CallRounds n f k S S' = Repeated (IsCallRound n f) k S S'
-
 -- k rounds of any calls, one after the other, leave k gaps fewer, or a collision is named
 abbrev pub CallRoundsAreAtMostGaps : Type 0
-CallRoundsAreAtMostGaps = (S S' : SessionSeen) → HasDistinctRoots S
-    → (n : ℕ) (f : List ℕ) (k : ℕ) → HasClosedTrees S → CallRounds n f k S S'
-    → (tree : Tree) (s : TreeState) → IsTree S n tree s
-    → ((later : TreeState) × IsTree S' n tree later
-    × (gaps tree.length (look later.known) + k ≤ gaps tree.length (look s.known)))
-    ⊎ Collides S' n f
+CallRoundsAreAtMostGaps = AreAtMostGaps IsCallRound
 
 -- after as many of them as there were gaps each block's leaf is known, or a collision is named
 abbrev pub CallRoundsMakeAllKnown : Type 0
-CallRoundsMakeAllKnown = (S S' : SessionSeen) → HasDistinctRoots S
-    → (n : ℕ) (f : List ℕ) (tree : Tree) (s : TreeState) → HasClosedTrees S
-    → IsTree S n tree s
-    → CallRounds n f (gaps tree.length (look s.known)) S S'
-    → ((later : TreeState) × IsTree S' n tree later
-    × ((b : ℕ) → b < block_count tree.length → IsKnown (look later.known) 0 b))
-    ⊎ Collides S' n f
+CallRoundsMakeAllKnown = MakeAllKnown IsCallRound

@@ -12,7 +12,7 @@ use Rattle.hashtree.specs.Tree.{block, block_count, node}
 use Rattle.node_maps.specs.Digest.{Hash}
 use Rattle.node_maps.specs.Known.{Known, look}
 use Rattle.node_maps.specs.Places.{tree_height}
-use Rattle.partial_tree.specs.Trust.{Passes, HasNoCollision, AreInputsOf}
+use Rattle.partial_tree.specs.Trust.{PassesTest, HasNoCollision, AreInputsOf}
 use Rattle.chains.specs.Chain.{Chain}
 use Rattle.session.specs.Session.{SessionSeen, TreeState}
 use Rattle.session.specs.SafeStep.{IsSafeStep}
@@ -57,12 +57,12 @@ inputs_of ms S f = flat_map blocks_of_message ms
     ++ (flat_map (λ (s : TreeState). joins_of s.known) S.trees ++ (blocks_of f ++ joins_of_file f))
 
 -- whether an input is one of these
-abbrev pub is_among : List (List ℕ) → List ℕ → Bool
-is_among inputs input = list_any (pointwise nat_eq input) inputs
+abbrev pub is_input_among : List (List ℕ) → List ℕ → Bool
+is_input_among inputs input = list_any (pointwise nat_eq input) inputs
 
 -- an input is in use
 abbrev pub IsInUse : List Sent → SessionSeen → List ℕ → List ℕ → Type 0
-IsInUse ms S f = Passes (is_among (inputs_of ms S f))
+IsInUse ms S f = PassesTest (is_input_among (inputs_of ms S f))
 
 -- the blocks of the messages are in use
 abbrev pub MessagesAreInUse : Type 0

@@ -2,11 +2,13 @@
 
 ghost use Rattle.session.specs.Laws.{RunKeepsPromises};
 ghost use Rattle.session_laws.specs.Calling.{MarksComeFromCalls};
+ghost use Rattle.session_laws.specs.ClosedCalls.{CallsKeepTreesClosed};
 ghost use Rattle.session_laws.specs.Calls.{CallRoundsAreAtMostGaps, CallRoundsMakeAllKnown, CallsJoin, SafeRunKeepsKnown};
 ghost use Rattle.session_laws.specs.Inputs.{MessagesAreInUse, TreesAreInUse, FileIsInUse, TrustedRunsOfInputs};
 ghost use Rattle.session_laws.specs.Marks.{MarksComeFromBlocks, NotedMarksComeFromBlocks, KnownLeafIsTheBlock};
 ghost use Rattle.session.specs.NotedLaws.{ConversionRunsAsFormOne, FormOneRunsAsConversion, ConversionReplaysAsFormOne, OneRunWithMemory, ConversionGivesTheSame, NotedStaysOpen, IncomingOpensNothing, NotedRunKeeps, NotedRoundsCloseGaps, NotedRoundsAreAtMostGaps, NotedRoundsMakeAllKnown, SafeNotedRunIsRun};
 ghost use Rattle.session.specs.TrustLaws.{TrustedBlockIsTheBlock, TrustedHashesAreStored, TrustedAnswersAreStored, TrustedAnswerClosesOneGap, TrustedBlockIsTaken, TrustedRoundsNameNone, TrustedRuns, TrustedNotedRuns};
+ghost use Rattle.session.specs.EndLaws.{ServedAsksAreAnswered, ServedWantsAreAnswered, ServingStays};
 ghost use Rattle.session.specs.RoundLaws.{NoGapMeansNothingWanted, NothingWantedMeansNoGap, WantedAnswerLeadsToRoot, RunGapsNeverRise, RoundsCloseGaps, RoundsAreAtMostGaps, RoundsMakeAllKnown, SafeRunIsRun};
 
 /// A run keeps all trees closed, and each block that it verifies is the block of every file that
@@ -24,6 +26,13 @@ pub fn marks_come_from_blocks()
     ensures noted_runs { NotedMarksComeFromBlocks }
     ensures calls { MarksComeFromCalls }
     ensures leaf { KnownLeafIsTheBlock }
+{}
+
+/// Calls of any kind keep the trees of a session closed, and each marked leaf known. A caller that
+/// has only what each call says of itself, as one from another language, has with it the premise of
+/// the laws of what is held.
+pub fn calls_keep_trees_closed()
+    ensures { CallsKeepTreesClosed }
 {}
 
 /// A round leaves fewer gaps, whatever else it holds, unless memory was refused for its answer or a
@@ -49,6 +58,15 @@ pub fn gaps_are_wants()
     ensures none { NoGapMeansNothingWanted }
     ensures all { NothingWantedMeansNoGap }
     ensures root { WantedAnswerLeadsToRoot }
+{}
+
+/// A session that knows the leaves of all of a file's blocks and the pads beside its end, which
+/// come with its last piece, answers each ask for at most 512 hashes that has a node over a block
+/// in its range, and whatever any session of that torrent wants of the file. That stays so.
+pub fn all_blocks_are_served()
+    ensures asks { ServedAsksAreAnswered }
+    ensures wants { ServedWantsAreAnswered }
+    ensures stays { ServingStays }
 {}
 
 /// If memory was refused for no request, the replay of a conversion gives what came in the verdicts

@@ -5,7 +5,7 @@ use borrow.Rule.Slice.PartMut.{put_mid, post_of}
 use Rattle.std.proofs.lemmas.List.{get_or-append-add, get_or_append_left, length-replicate, length-take, length-take-le}
 use Rattle.lanes.proofs.Messages.{word_of_bytes}
 use Rattle.sha1.specs.Sha1.{word_at}
-use Rattle.sha1_lanes.specs.Batches.{filled_at, message_at}
+use Rattle.sha1_lanes.specs.Batches.{bytes_at, filled_at}
 
 -- past a list's end there is zero
 pub past_end : (m : List ℕ) (i : ℕ) → length m ≤ i → slice_index m i ≡ 0
@@ -32,20 +32,20 @@ zero_word m z at k le lt =
     sym (sym (byte_with_zeros m z (at + i)) ∙ past_end m (at + i) (omega arith))))
 
 -- the message is no longer than its size
-pub message_within : (bytes : List ℕ) (start size : ℕ) → length (message_at bytes start size) ≤ size
+pub message_within : (bytes : List ℕ) (start size : ℕ) → length (bytes_at bytes start size) ≤ size
 message_within bytes start size = omega (arith, length-take size (drop start bytes))
 
 -- the length of a message that is all in the buffer
-pub length-message_at : (bytes : List ℕ) (start size : ℕ) → start + size ≤ length bytes
-    → length (message_at bytes start size) ≡ size
-length-message_at bytes start size fits = length-take-le size (drop start bytes) (omega (arith, length-drop start bytes))
+pub length-bytes_at : (bytes : List ℕ) (start size : ℕ) → start + size ≤ length bytes
+    → length (bytes_at bytes start size) ≡ size
+length-bytes_at bytes start size fits = length-take-le size (drop start bytes) (omega (arith, length-drop start bytes))
 
 -- the length of a message that is filled up
 pub length-filled_at : (bytes : List ℕ) (start size whole : ℕ) → start + size ≤ length bytes → size ≤ whole
     → length (filled_at bytes start size whole) ≡ whole
 length-filled_at bytes start size whole fits le =
-    let m : List ℕ = message_at bytes start size in
-    let own : length m ≡ size = length-message_at bytes start size fits in
+    let m : List ℕ = bytes_at bytes start size in
+    let own : length m ≡ size = length-bytes_at bytes start size fits in
     let zeros : List ℕ = replicate (whole - size) 0 in
     let count : length zeros ≡ whole - size = length-replicate (whole - size) 0 in
     let both : length (m ++ zeros) ≡ length m + length zeros = length-append m zeros in

@@ -2,7 +2,7 @@
 
 ghost use Rattle.std.specs.Prelude.{◌≡◌, ℕ, ◌+◌, ◌*◌, ◌^◌, ◌<◌, ◌≤◌, ◌++◌, drop, length, replicate, slice_index, take};
 ghost use Rattle.sha1.specs.Sha1.{compress};
-ghost use Rattle.sha1_lanes.specs.Batches.{message_at, state_in};
+ghost use Rattle.sha1_lanes.specs.Batches.{bytes_at, state_in};
 ghost use Rattle.lanes.specs.declared.words.TheConstants.{LANES};
 
 use crate::compression::compress;
@@ -89,7 +89,7 @@ fn take_mixed_blocks(
         → slice_index starts.now j + slice_index sizes.now j ≤ length buffer.now }
     ensures { (j : ℕ) → j < LANES → (zeros : ℕ) → state_in j state.new
         ≡ compress (state_in j state.old) (take 64 (drop at
-        (message_at buffer.now (slice_index starts.now j) (slice_index sizes.now j)
+        (bytes_at buffer.now (slice_index starts.now j) (slice_index sizes.now j)
         ++ replicate zeros 0))) }
 {
     let mut row = [0; ROW];
@@ -114,7 +114,7 @@ fn take_whole_blocks(
     requires whole { (j : ℕ) → j < LANES → at + 64 ≤ slice_index sizes.now j }
     ensures { (j : ℕ) → j < LANES → (zeros : ℕ) → state_in j state.new
         ≡ compress (state_in j state.old) (take 64 (drop at
-        (message_at buffer.now (slice_index starts.now j) (slice_index sizes.now j)
+        (bytes_at buffer.now (slice_index starts.now j) (slice_index sizes.now j)
         ++ replicate zeros 0))) }
 {
     let words = block_of_places(buffer, starts, at);
@@ -133,7 +133,7 @@ fn take_zeros(
     requires past { (j : ℕ) → j < LANES → slice_index sizes.now j ≤ at }
     ensures { (j : ℕ) → j < LANES → (zeros : ℕ) → state_in j state.new
         ≡ compress (state_in j state.old) (take 64 (drop at
-        (message_at buffer.now (slice_index starts.now j) (slice_index sizes.now j)
+        (bytes_at buffer.now (slice_index starts.now j) (slice_index sizes.now j)
         ++ replicate zeros 0))) }
 {
     compress(state, [Words::splat(0); 16]);
@@ -157,7 +157,7 @@ pub(crate) fn take_filled_block(
     requires most { (j : ℕ) → j < LANES → slice_index sizes.now j ≤ bounds.1 }
     ensures { (j : ℕ) → j < LANES → (zeros : ℕ) → state_in j state.new
         ≡ compress (state_in j state.old) (take 64 (drop at
-        (message_at buffer.now (slice_index starts.now j) (slice_index sizes.now j)
+        (bytes_at buffer.now (slice_index starts.now j) (slice_index sizes.now j)
         ++ replicate zeros 0))) }
 {
     if at + 64 <= bounds.0 {

@@ -9,7 +9,6 @@ mod batch;
 mod compression;
 mod ending;
 mod filled;
-mod output;
 mod padding;
 mod relay;
 mod rounds;

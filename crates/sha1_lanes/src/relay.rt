@@ -2,15 +2,14 @@
 
 ghost use Rattle.std.specs.Prelude.{◌≡◌, ℕ, suc, ◌+◌, ◌-◌, ◌*◌, ◌%◌, ◌<◌, ◌≤◌, ◌++◌, [], List, length, slice_index};
 ghost use Rattle.sha1.specs.Sha1.{initial_hash, sha1};
-ghost use Rattle.sha1_lanes.specs.Batches.{message_at, state_in, value_of};
+ghost use Rattle.sha1_lanes.specs.Batches.{bytes_at, hash_value_of, state_in};
 ghost use Rattle.lanes.specs.declared.words.TheConstants.{LANES};
 
 use crate::compression::{compress, initial_state};
 use crate::ending::take_ending;
-use crate::output::digest_of;
 use crate::rounds::State;
 use crate::values::Values;
-use lanes::{LANES, Words, block_of_places};
+use lanes::{LANES, Words, block_of_places, digest_of};
 
 /// Messages that begin one after the other, hashed side by side. A message begins in lane 0, and
 /// each `step` takes a part of each and passes each on to the next lane. So a message that is cut
@@ -43,11 +42,11 @@ impl Relay {
             → slice_index starts.now j + size ≤ length buffer.now }
         ensures passes { (j : ℕ) → suc j < LANES → (m : List ℕ) → HasPassed self.old j m
             → HasPassed self.new (suc j)
-            (m ++ message_at buffer.now (slice_index starts.now j) size) }
+            (m ++ bytes_at buffer.now (slice_index starts.now j) size) }
         ensures begins { HasPassed self.new 0 [] }
         ensures digest { (m : List ℕ) → HasPassed self.old (LANES - 1) m
             → length m ≡ (LANES - 1) * size → result
-            ≡ sha1 (m ++ message_at buffer.now (slice_index starts.now (LANES - 1)) size) }
+            ≡ sha1 (m ++ bytes_at buffer.now (slice_index starts.now (LANES - 1)) size) }
     {
         let mut state = self.values.state();
         take_blocks(&mut state, buffer, starts, size);
@@ -61,8 +60,8 @@ fn take_blocks(state: &mut State, buffer: &[u8], starts: &[usize; LANES], size: 
     requires whole_blocks { size % 64 ≡ 0 }
     requires inside { (j : ℕ) → j < LANES → slice_index starts.now j + size ≤ length buffer.now }
     ensures { (j : ℕ) → j < LANES → (m : List ℕ) → length m % 64 ≡ 0
-        → state_in j state.old ≡ value_of m → state_in j state.new
-        ≡ value_of (m ++ message_at buffer.now (slice_index starts.now j) size) }
+        → state_in j state.old ≡ hash_value_of m → state_in j state.new
+        ≡ hash_value_of (m ++ bytes_at buffer.now (slice_index starts.now j) size) }
 {
     'blocks: for block in 0..size / 64 {
         let words = block_of_places(buffer, starts, 64 * block);
@@ -74,7 +73,7 @@ fn take_blocks(state: &mut State, buffer: &[u8], starts: &[usize; LANES], size: 
 // lanes.
 fn last_digest(state: &State, size: usize) -> [u8; 20]
     ensures { (m : List ℕ) → length m % 64 ≡ 0 → length m ≡ LANES * size
-        → state_in (LANES - 1) state.now ≡ value_of m → result ≡ sha1 m }
+        → state_in (LANES - 1) state.now ≡ hash_value_of m → result ≡ sha1 m }
 {
     let mut state = *state;
     take_ending(&mut state, &[], (size as u64).wrapping_mul(LANES as u64));

@@ -5,20 +5,20 @@ use Rattle.std.proofs.lemmas.List.{get_or-drop, get_or-take, get_or_append_left,
 use Rattle.std.specs.Int.{w64, to_be_bytes}
 use Rattle.sha2.specs.Sha256.{compress, digest_bytes, hash_after, initial_hash_256, padded_message, padding, sha256, word_at}
 use Rattle.sha2.proofs.Absorbing256.{hash_after_next}
-use Rattle.sha256_lanes.specs.Lanes.{block_count, message_at}
+use Rattle.sha256_lanes.specs.Lanes.{bytes_at, padded_block_count}
 
 -- the length of a message that stands in the buffer
-pub length-message_at : (bytes : List ℕ) (start size : ℕ) → start + size ≤ length bytes → length (message_at bytes start size) ≡ size
-length-message_at bytes start size fits = length-take-le size (drop start bytes) (omega (arith, length-drop start bytes))
+pub length-bytes_at : (bytes : List ℕ) (start size : ℕ) → start + size ≤ length bytes → length (bytes_at bytes start size) ≡ size
+length-bytes_at bytes start size fits = length-take-le size (drop start bytes) (omega (arith, length-drop start bytes))
 
 -- a byte of the message is that of the message with its padding
 pub byte_of_message : (bytes : List ℕ) (start size i : ℕ) → start + size ≤ length bytes → i < size
-    → slice_index bytes (start + i) ≡ slice_index (padded_message (message_at bytes start size)) i
+    → slice_index bytes (start + i) ≡ slice_index (padded_message (bytes_at bytes start size)) i
 byte_of_message bytes start size i fits lt =
-    let m : List ℕ = message_at bytes start size in
+    let m : List ℕ = bytes_at bytes start size in
     sym (get_or-drop start bytes i 0)
     ∙ sym (get_or-take size (drop start bytes) i 0 lt)
-    ∙ sym (get_or_append_left m (padding (length m)) 0 i (omega (arith, length-message_at bytes start size fits)))
+    ∙ sym (get_or_append_left m (padding (length m)) 0 i (omega (arith, length-bytes_at bytes start size fits)))
 
 -- the hash value after one block more
 pub block_after : (start m : List ℕ) (n : ℕ) (h k : List ℕ) → h ≡ hash_after start m n
@@ -48,14 +48,14 @@ length-padding : (n : ℕ) → length (padding n) ≡ 1 + ((119 - n % 64) % 64 +
 length-padding n = length_of_end ((119 - n % 64) % 64) (n * 8 % 2 ^ 64)
 
 -- the message and its padding are this many blocks
-blocks_of : (m : List ℕ) → length (padded_message m) / 64 ≡ block_count (length m)
+blocks_of : (m : List ℕ) → length (padded_message m) / 64 ≡ padded_block_count (length m)
 blocks_of m =
     let sum : length (padded_message m) ≡ length m + length (padding (length m)) = length-append m (padding (length m)) in
     let zeros : length (padding (length m)) ≡ 1 + ((119 - length m % 64) % 64 + 8) = length-padding (length m) in
     omega arith
 
 -- the digest of a message whose blocks were all taken
-pub digest_of_blocks : (m : List ℕ) (n : ℕ) (h : List ℕ) → n ≡ block_count (length m)
+pub digest_of_blocks : (m : List ℕ) (n : ℕ) (h : List ℕ) → n ≡ padded_block_count (length m)
     → h ≡ hash_after initial_hash_256 (padded_message m) n → digest_bytes h 8 ≡ sha256 m
 unfolding sha256
 digest_of_blocks m n h count held =

@@ -7,7 +7,7 @@ use Rattle.std.proofs.Math.Nat.{mul-le-mul_right}
 use Rattle.std.specs.List.{flat_map}
 use Rattle.sha2.specs.Sha256.{compress, final_hash, hash_after, padding, word_at}
 use Rattle.sha2.proofs.Absorbing256.{hash_after-append, hash_after_next}
-use Rattle.sha256_lanes.specs.Lanes.{AreHashes, message}
+use Rattle.sha256_lanes.specs.Lanes.{IsRowOfHashes, message}
 
 -- what comes after whole blocks is one block
 length-padding : (n : ℕ) → n % 64 ≡ 0 → length (padding n) ≡ 64
@@ -31,7 +31,7 @@ padded_once start m whole =
     ∙ ap (hash_after start (m ++ pad)) count
 
 -- a pair of hashes of a row is a message of 64 of the row's bytes
-pub message_of_pair : (row : List (List ℕ)) (j : ℕ) → AreHashes row → 2 * j + 1 < length row
+pub message_of_pair : (row : List (List ℕ)) (j : ℕ) → IsRowOfHashes row → 2 * j + 1 < length row
     → message (flat_map (λ x. x) row) 64 j ≡ get_or row (2 * j) [] ++ get_or row (2 * j + 1) []
 message_of_pair [] j long lt = absurd (omega arith)
 message_of_pair (x ∷ []) j long lt = absurd (omega arith)

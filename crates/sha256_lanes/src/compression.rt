@@ -3,7 +3,7 @@
 ghost use Rattle.std.specs.Prelude.{◌≡◌, ℕ, ◌*◌, ◌<◌, List};
 ghost use Rattle.sha2.specs.Sha256.{add_state, compress, initial_hash_256, padding, word_at};
 ghost use Rattle.lanes.specs.Lanes.{word_in};
-ghost use Rattle.sha256_lanes.specs.Lanes.{state_in};
+ghost use Rattle.sha256_lanes.specs.Lanes.{sha256_state_in};
 ghost use Rattle.lanes.specs.declared.words.TheConstants.{LANES};
 
 use crate::rounds::{Ring, State, four_block_rounds, four_later_rounds, four_padding_rounds};
@@ -12,7 +12,7 @@ use lanes::{same, sum};
 /// The hash values before the first block (FIPS 180-4, 5.3.3).
 #[inline(always)]
 pub(crate) fn initial_state() -> State
-    ensures { (j : ℕ) → j < LANES → state_in j result ≡ initial_hash_256 }
+    ensures { (j : ℕ) → j < LANES → sha256_state_in j result ≡ initial_hash_256 }
 {
     [
         same(0x6a09e667),
@@ -30,7 +30,7 @@ pub(crate) fn initial_state() -> State
 #[inline(always)]
 fn added(x: &State, y: &State) -> State
     ensures { (j : ℕ) → j < LANES
-        → state_in j result ≡ add_state (state_in j x.now) (state_in j y.now) }
+        → sha256_state_in j result ≡ add_state (sha256_state_in j x.now) (sha256_state_in j y.now) }
 {
     [
         sum(x[0], y[0]),
@@ -49,7 +49,7 @@ fn added(x: &State, y: &State) -> State
 pub(crate) fn compress(state: &mut State, words: Ring)
     ensures { (j : ℕ) → j < LANES → (b : List ℕ)
         → ((k : ℕ) → k < 16 → word_in words k j ≡ word_at b (4 * k))
-        → state_in j state.new ≡ compress (state_in j state.old) b }
+        → sha256_state_in j state.new ≡ compress (sha256_state_in j state.old) b }
 {
     let mut ring = words;
     let mut v = four_block_rounds(&ring, *state, 0);
@@ -70,7 +70,7 @@ pub(crate) fn compress(state: &mut State, words: Ring)
 #[inline(always)]
 pub(crate) fn compress_padding(state: &mut State)
     ensures { (j : ℕ) → j < LANES
-        → state_in j state.new ≡ compress (state_in j state.old) (padding 64) }
+        → sha256_state_in j state.new ≡ compress (sha256_state_in j state.old) (padding 64) }
 {
     let mut v = *state;
     'turns: for turn in 0..16 {

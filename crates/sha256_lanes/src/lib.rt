@@ -8,7 +8,6 @@ mod compression;
 mod constants;
 mod functions;
 mod messages;
-mod output;
 mod padded;
 mod padding;
 mod places;

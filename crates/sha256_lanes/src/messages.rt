@@ -2,14 +2,13 @@
 
 ghost use Rattle.std.specs.Prelude.{◌≡◌, ℕ, ◌+◌, ◌*◌, ◌%◌, ◌^◌, ◌<◌, ◌≤◌, ◌++◌, [], drop, length, slice_index_or, take};
 ghost use Rattle.sha2.specs.Sha256.{compress, final_hash, initial_hash_256, sha256};
-ghost use Rattle.sha256_lanes.specs.Lanes.{AreHashes, message, state_in};
+ghost use Rattle.sha256_lanes.specs.Lanes.{IsRowOfHashes, message, sha256_state_in};
 ghost use Rattle.lanes.specs.declared.words.TheConstants.{LANES};
 
 use crate::compression::{compress, compress_padding, initial_state};
-use crate::output::digests_of;
 use crate::padding::padding_block;
 use crate::rounds::State;
-use lanes::{LANES, block_at, same_block};
+use lanes::{LANES, block_at, digests_of, same_block};
 
 /// The SHA-256 digests of messages of `size` bytes each, which stand one after another.
 ///
@@ -44,7 +43,7 @@ fn hash_values(messages: &[u8], size: usize) -> State
     requires short { size < 2 ^ 32 }
     requires all { length messages.now ≡ LANES * size }
     ensures { (j : ℕ) → j < LANES
-        → state_in j result ≡ final_hash initial_hash_256 (message messages.now size j) }
+        → sha256_state_in j result ≡ final_hash initial_hash_256 (message messages.now size j) }
 {
     let mut state = initial_state();
     let count = size / 64;
@@ -60,7 +59,7 @@ fn hash_values(messages: &[u8], size: usize) -> State
 fn pair_values(messages: &[u8]) -> State
     requires { length messages.now ≡ 64 * LANES }
     ensures { (j : ℕ) → j < LANES
-        → state_in j result ≡ final_hash initial_hash_256 (message messages.now 64 j) }
+        → sha256_state_in j result ≡ final_hash initial_hash_256 (message messages.now 64 j) }
 {
     let mut state = initial_state();
     take_block(&mut state, messages, 64, 0);
@@ -73,8 +72,8 @@ fn pair_values(messages: &[u8]) -> State
 fn take_block(state: &mut State, messages: &[u8], size: usize, at: usize)
     requires in_message { at + 64 ≤ size }
     requires all { length messages.now ≡ LANES * size }
-    ensures { (j : ℕ) → j < LANES → state_in j state.new
-        ≡ compress (state_in j state.old) (take 64 (drop at (message messages.now size j))) }
+    ensures { (j : ℕ) → j < LANES → sha256_state_in j state.new
+        ≡ compress (sha256_state_in j state.old) (take 64 (drop at (message messages.now size j))) }
 {
     let words = block_at(messages, size, at);
     compress(state, words);
@@ -82,5 +81,5 @@ fn take_block(state: &mut State, messages: &[u8], size: usize, at: usize)
 
 // Shows the prover that each hash has 32 bytes, as its type says.
 fn recall_hashes(hashes: &[[u8; 32]])
-    ensures { AreHashes hashes.now }
+    ensures { IsRowOfHashes hashes.now }
 {}

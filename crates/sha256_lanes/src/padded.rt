@@ -2,7 +2,7 @@
 
 ghost use Rattle.std.specs.Prelude.{◌≡◌, ℕ, ◌+◌, ◌*◌, ◌^◌, ◌<◌, ◌≤◌, length, slice_index};
 ghost use Rattle.sha2.specs.Sha256.{padded_message};
-ghost use Rattle.sha256_lanes.specs.Lanes.{block_count};
+ghost use Rattle.sha256_lanes.specs.Lanes.{padded_block_count};
 ghost use Rattle.lanes.specs.declared.words.TheConstants.{LANES};
 
 use lanes::LANES;
@@ -14,14 +14,14 @@ pub(crate) const ROW: usize = 64 * LANES;
 #[inline(always)]
 pub(crate) fn block_count(size: usize) -> usize
     requires { size < 2 ^ 63 }
-    ensures { result ≡ block_count size }
+    ensures { result ≡ padded_block_count size }
 {
     (size + 8) / 64 + 1
 }
 
 // A byte of the message and its padding: a bit, zeros, and the number of the message's bits.
 fn padded_byte(message: &[u8], at: usize) -> u8
-    requires { at < 64 * block_count (length message.now) }
+    requires { at < 64 * padded_block_count (length message.now) }
     ensures { result ≡ slice_index (padded_message message.now) at }
 {
     let size = message.len();
@@ -53,7 +53,7 @@ fn put_whole_block(row: &mut [u8; ROW], place: usize, message: &[u8], block: usi
 #[inline(never)]
 fn put_padded_block(row: &mut [u8; ROW], place: usize, message: &[u8], block: usize)
     requires place { place < LANES }
-    requires block { block < block_count (length message.now) }
+    requires block { block < padded_block_count (length message.now) }
     ensures here { (i : ℕ) → i < 64 → slice_index row.new (64 * place + i)
         ≡ slice_index (padded_message message.now) (64 * block + i) }
     ensures before { (i : ℕ) → i < 64 * place → slice_index row.new i ≡ slice_index row.old i }
@@ -67,7 +67,7 @@ fn put_padded_block(row: &mut [u8; ROW], place: usize, message: &[u8], block: us
 #[inline(always)]
 pub(crate) fn put_block(row: &mut [u8; ROW], place: usize, message: &[u8], block: usize)
     requires { place < LANES }
-    ensures here { (i : ℕ) → i < 64 → block < block_count (length message.now)
+    ensures here { (i : ℕ) → i < 64 → block < padded_block_count (length message.now)
         → slice_index row.new (64 * place + i)
         ≡ slice_index (padded_message message.now) (64 * block + i) }
     ensures before { (i : ℕ) → i < 64 * place → slice_index row.new i ≡ slice_index row.old i }

@@ -1,16 +1,15 @@
 //! Messages of any lengths, anywhere in a buffer.
 
 ghost use Rattle.std.specs.Prelude.{◌≡◌, ℕ, ◌+◌, ◌*◌, ◌^◌, ◌<◌, ◌≤◌, ◌≢◌, [], drop, length, slice_index, slice_index_or, take};
-ghost use Rattle.sha2.specs.Sha256.{compress, digest_bytes, padded_message, sha256, word_at};
-ghost use Rattle.lanes.specs.Lanes.{word_in};
-ghost use Rattle.sha256_lanes.specs.Lanes.{block_count, message_at, state_in};
+ghost use Rattle.sha2.specs.Sha256.{compress, padded_message, sha256, word_at};
+ghost use Rattle.lanes.specs.Lanes.{bytes_at, bytes_in, word_in};
+ghost use Rattle.sha256_lanes.specs.Lanes.{padded_block_count, sha256_state_in};
 ghost use Rattle.lanes.specs.declared.words.TheConstants.{LANES};
 
 use crate::compression::{compress, initial_state};
-use crate::output::digest_of;
 use crate::padded::{ROW, block_count, put_block};
 use crate::rounds::State;
-use lanes::{LANES, block_at, block_of_places};
+use lanes::{LANES, block_at, block_of_places, digest_of};
 
 /// The SHA-256 digests of messages: message `j` has `sizes[j]` bytes from byte `starts[j]` of
 /// the buffer on. They may overlap, and be empty. Condition: each stands in the buffer.
@@ -24,7 +23,7 @@ pub fn digests_at(
     requires { (j : ℕ) → j < LANES
         → slice_index starts.now j + slice_index sizes.now j ≤ length buffer.now }
     ensures { (j : ℕ) → j < LANES → slice_index_or result j []
-        ≡ sha256 (message_at buffer.now (slice_index starts.now j) (slice_index sizes.now j)) }
+        ≡ sha256 (bytes_at buffer.now (slice_index starts.now j) (slice_index sizes.now j)) }
 {
     let mut digests = [[0; 32]; LANES];
     let mut state = initial_state();
@@ -56,7 +55,7 @@ fn fewest_whole_blocks(sizes: &[usize; LANES]) -> usize
 fn most_blocks(buffer: &[u8], starts: &[usize; LANES], sizes: &[usize; LANES]) -> usize
     requires { (j : ℕ) → j < LANES
         → slice_index starts.now j + slice_index sizes.now j ≤ length buffer.now }
-    ensures { (j : ℕ) → j < LANES → block_count (slice_index sizes.now j) ≤ result }
+    ensures { (j : ℕ) → j < LANES → padded_block_count (slice_index sizes.now j) ≤ result }
 {
     let mut most = 0;
     'sizes: for j in 0..LANES {
@@ -78,9 +77,10 @@ fn take_whole_blocks(
     requires inside { (j : ℕ) → j < LANES
         → slice_index starts.now j + slice_index sizes.now j ≤ length buffer.now }
     requires whole { (j : ℕ) → j < LANES → 64 * (block + 1) ≤ slice_index sizes.now j }
-    ensures { (j : ℕ) → j < LANES → state_in j state.new ≡ compress (state_in j state.old)
+    ensures { (j : ℕ) → j < LANES
+        → sha256_state_in j state.new ≡ compress (sha256_state_in j state.old)
         (take 64 (drop (64 * block) (padded_message
-        (message_at buffer.now (slice_index starts.now j) (slice_index sizes.now j))))) }
+        (bytes_at buffer.now (slice_index starts.now j) (slice_index sizes.now j))))) }
 {
     let words = block_of_places(buffer, starts, 64 * block);
     compress(state, words);
@@ -97,10 +97,10 @@ fn take_blocks(
 )
     requires { (j : ℕ) → j < LANES
         → slice_index starts.now j + slice_index sizes.now j ≤ length buffer.now }
-    ensures { (j : ℕ) → j < LANES → block < block_count (slice_index sizes.now j)
-        → state_in j state.new ≡ compress (state_in j state.old)
+    ensures { (j : ℕ) → j < LANES → block < padded_block_count (slice_index sizes.now j)
+        → sha256_state_in j state.new ≡ compress (sha256_state_in j state.old)
         (take 64 (drop (64 * block) (padded_message
-        (message_at buffer.now (slice_index starts.now j) (slice_index sizes.now j))))) }
+        (bytes_at buffer.now (slice_index starts.now j) (slice_index sizes.now j))))) }
 {
     let mut row = [0; ROW];
     'places: for j in 0..LANES {
@@ -119,9 +119,10 @@ fn keep_finished(
     block: usize,
 )
     requires { (j : ℕ) → j < LANES → slice_index sizes.now j < 2 ^ 63 }
-    ensures finished { (j : ℕ) → j < LANES → block_count (slice_index sizes.now j) ≡ block + 1
-        → slice_index_or digests.new j [] ≡ digest_bytes (state_in j state.now) 8 }
-    ensures before { (j : ℕ) → j < LANES → block_count (slice_index sizes.now j) < block + 1
+    ensures finished { (j : ℕ) → j < LANES
+        → padded_block_count (slice_index sizes.now j) ≡ block + 1
+        → slice_index_or digests.new j [] ≡ bytes_in j state.now 8 }
+    ensures before { (j : ℕ) → j < LANES → padded_block_count (slice_index sizes.now j) < block + 1
         → slice_index_or digests.new j [] ≡ slice_index_or digests.old j [] }
 {
     'messages: for j in 0..LANES {
@@ -140,9 +141,9 @@ fn keep_digest(
 )
     requires place { place < LANES }
     requires size { size < 2 ^ 63 }
-    ensures finished { block_count size ≡ block + 1
-        → slice_index_or digests.new place [] ≡ digest_bytes (state_in place state.now) 8 }
-    ensures before { block_count size < block + 1
+    ensures finished { padded_block_count size ≡ block + 1
+        → slice_index_or digests.new place [] ≡ bytes_in place state.now 8 }
+    ensures before { padded_block_count size < block + 1
         → slice_index_or digests.new place [] ≡ slice_index_or digests.old place [] }
     ensures others { (i : ℕ) → i ≢ place
         → slice_index_or digests.new i [] ≡ slice_index_or digests.old i [] }

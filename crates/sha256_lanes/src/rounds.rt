@@ -3,7 +3,7 @@
 ghost use Rattle.std.specs.Prelude.{◌≡◌, ℕ, ◌+◌, ◌*◌, ◌<◌, ◌≤◌, List, slice_index};
 ghost use Rattle.sha2.specs.Sha256.{IsRoundsAt, IsWindow, padding, round, rounds, schedule, window_word};
 ghost use Rattle.lanes.specs.Lanes.{lane};
-ghost use Rattle.sha256_lanes.specs.Lanes.{state_in};
+ghost use Rattle.sha256_lanes.specs.Lanes.{sha256_state_in};
 ghost use Rattle.lanes.specs.declared.words.TheConstants.{LANES};
 
 use crate::constants::{PADDING_SCHEDULE, ROUND_WORDS};
@@ -20,7 +20,7 @@ pub(crate) type Ring = Block;
 #[inline(always)]
 pub(crate) fn round(v: State, constant: u32, word: Words) -> State
     ensures { (j : ℕ) → j < LANES
-        → state_in j result ≡ round (state_in j v) constant (slice_index word j) }
+        → sha256_state_in j result ≡ round (sha256_state_in j v) constant (slice_index word j) }
 {
     let [a, b, c, d, e, f, g, h] = v;
     let sigma1 = upper_sigma1(e);
@@ -53,8 +53,8 @@ fn next_word(ring: &Ring, place: usize) -> Words
 fn block_round(ring: &Ring, v: State, t: usize) -> State
     requires { t < 16 }
     ensures { (j : ℕ) → j < LANES → (b h : List ℕ) → IsWindow (lane j ring.now) (schedule b 48) 16
-        → state_in j v ≡ rounds h (schedule b 48) t
-        → state_in j result ≡ rounds h (schedule b 48) (t + 1) }
+        → sha256_state_in j v ≡ rounds h (schedule b 48) t
+        → sha256_state_in j result ≡ rounds h (schedule b 48) (t + 1) }
 {
     round(v, ROUND_WORDS[t], ring[t])
 }
@@ -64,8 +64,8 @@ fn block_round(ring: &Ring, v: State, t: usize) -> State
 pub(crate) fn four_block_rounds(ring: &Ring, v: State, t: usize) -> State
     requires { t + 4 ≤ 16 }
     ensures { (j : ℕ) → j < LANES → (b h : List ℕ) → IsWindow (lane j ring.now) (schedule b 48) 16
-        → state_in j v ≡ rounds h (schedule b 48) t
-        → state_in j result ≡ rounds h (schedule b 48) (t + 4) }
+        → sha256_state_in j v ≡ rounds h (schedule b 48) t
+        → sha256_state_in j result ≡ rounds h (schedule b 48) (t + 4) }
 {
     let v = block_round(ring, v, t);
     let v = block_round(ring, v, t + 1);
@@ -80,8 +80,8 @@ fn later_round(ring: &mut Ring, v: State, turn: usize, place: usize) -> State
     requires turn { turn < 4 }
     requires place { place < 16 }
     ensures { (j : ℕ) → j < LANES → (b h : List ℕ)
-        → IsRoundsAt b h (lane j ring.old) (state_in j v) (16 * turn + place)
-        → IsRoundsAt b h (lane j ring.new) (state_in j result) (16 * turn + (place + 1)) }
+        → IsRoundsAt b h (lane j ring.old) (sha256_state_in j v) (16 * turn + place)
+        → IsRoundsAt b h (lane j ring.new) (sha256_state_in j result) (16 * turn + (place + 1)) }
 {
     let word = next_word(ring, place);
     ring[place] = word;
@@ -95,8 +95,8 @@ pub(crate) fn four_later_rounds(ring: &mut Ring, v: State, turn: usize, place: u
     requires turn { turn < 4 }
     requires place { place + 4 ≤ 16 }
     ensures { (j : ℕ) → j < LANES → (b h : List ℕ)
-        → IsRoundsAt b h (lane j ring.old) (state_in j v) (16 * turn + place)
-        → IsRoundsAt b h (lane j ring.new) (state_in j result) (16 * turn + (place + 4)) }
+        → IsRoundsAt b h (lane j ring.old) (sha256_state_in j v) (16 * turn + place)
+        → IsRoundsAt b h (lane j ring.new) (sha256_state_in j result) (16 * turn + (place + 4)) }
 {
     let v = later_round(ring, v, turn, place);
     let v = later_round(ring, v, turn, place + 1);
@@ -109,8 +109,8 @@ pub(crate) fn four_later_rounds(ring: &mut Ring, v: State, turn: usize, place: u
 fn padding_round(v: State, t: usize) -> State
     requires { t < 64 }
     ensures { (j : ℕ) → j < LANES → (h : List ℕ)
-        → state_in j v ≡ rounds h (schedule (padding 64) 48) t
-        → state_in j result ≡ rounds h (schedule (padding 64) 48) (t + 1) }
+        → sha256_state_in j v ≡ rounds h (schedule (padding 64) 48) t
+        → sha256_state_in j result ≡ rounds h (schedule (padding 64) 48) (t + 1) }
 {
     let word = same(PADDING_SCHEDULE[t]);
     round(v, ROUND_WORDS[t], word)
@@ -121,8 +121,8 @@ fn padding_round(v: State, t: usize) -> State
 pub(crate) fn four_padding_rounds(v: State, t: usize) -> State
     requires { t + 4 ≤ 64 }
     ensures { (j : ℕ) → j < LANES → (h : List ℕ)
-        → state_in j v ≡ rounds h (schedule (padding 64) 48) t
-        → state_in j result ≡ rounds h (schedule (padding 64) 48) (t + 4) }
+        → sha256_state_in j v ≡ rounds h (schedule (padding 64) 48) t
+        → sha256_state_in j result ≡ rounds h (schedule (padding 64) 48) (t + 4) }
 {
     let v = padding_round(v, t);
     let v = padding_round(v, t + 1);

@@ -1,3 +1,4 @@
 pub mod Completing
+pub mod Held
 pub mod Roots
 pub mod Rows

@@ -1,4 +1,3 @@
 -- What contracts of a torrent's lines cite.
 pub mod Refused
-pub mod Show
 pub mod Rows

@@ -4,8 +4,7 @@ ghost use Rattle.benc.specs.Device.{Wrote, WroteAndFlushed};
 ghost use Rattle.lines.specs.Rows.{spell};
 ghost use Rattle.lines.specs.Table.{files_row, hash_v2_row, name_row, piece_length_row};
 ghost use Rattle.opening.specs.Seen.{file_entry, tree_entry};
-ghost use Rattle.torrent_lines.specs.Rows.{entry_row, entry_rows, hybrid_rows, show_rows, tree_root};
-ghost use Rattle.torrent_lines.specs.Show.{show_text};
+ghost use Rattle.torrent_lines.specs.Rows.{entry_row, entry_rows, show_rows, show_text, tree_root, v1_hash_rows};
 
 use benc::{DeviceFault, Sink, WriteFault};
 use hashtree::Hash;
@@ -65,7 +64,7 @@ fn say_hash<L: LineSink>(t: &Torrent<'_>, out: &mut L) -> Result<(), DeviceFault
 // The version 1 info-hash, for a hybrid alone.
 fn say_hybrid<L: LineSink>(t: &Torrent<'_>, out: &mut L) -> Result<(), DeviceFault>
     ensures { Wrote (L.seen out.old) (L.seen out.new) result
-        (spell L.spelled (hybrid_rows t.now.v1 t.now.info_hash_v1)) }
+        (spell L.spelled (v1_hash_rows t.now.v1 t.now.info_hash_v1)) }
 {
     if t.v1().is_none() {
         return Ok(());

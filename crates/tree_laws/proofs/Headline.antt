@@ -25,7 +25,7 @@ whole-leaf f i inside =
 pub block-size : (f : List ℕ) (i : ℕ) → length (block f i) ≡ min 16384 (length f - 16384 * i)
 block-size f i = length-take 16384 (drop (16384 * i) f) ∙ ap (min 16384) (length-drop (16384 * i) f)
 
-module _ (t : TreeRoot) (K : PartialTree) (f : List ℕ) (closed : IsClosed t K) (fits : Fits f t) (i : ℕ) (inside : i < block_count t.length) where
+module _ (t : TreeRoot) (K : PartialTree) (f : List ℕ) (closed : IsClosed t K) (fits : Fits f t.length t.root) (i : ℕ) (inside : i < block_count t.length) where
   -- a known leaf is the digest of the file's block
   pub leaf_or_collision : (leaf : Hash) → K 0 i ≡ Some leaf → (leaf ≡ sha256 (block f i)) ⊎ Collision (whole f) K
   leaf_or_collision leaf known =

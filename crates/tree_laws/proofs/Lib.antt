@@ -10,3 +10,4 @@ pub mod Wanted
 pub mod Over
 pub mod Keeping
 pub mod Trusted
+pub mod EndPads

@@ -157,7 +157,7 @@ gaps-all_known len K all = count-zero (is_gap len K) (2 ^ tree_height len / wind
 -- ---- the true answer to what is wanted
 
 -- a file that fits can answer each ask in range
-pub whole-can_answer : (t : TreeRoot) (f : List ℕ) (ask : Ask) → Fits f t → GoodRange (tree_height t.length) ask
+pub whole-can_answer : (t : TreeRoot) (f : List ℕ) (ask : Ask) → Fits f t.length t.root → GoodRange (tree_height t.length) ask
     → CanAnswer (tree_height t.length) (whole f) ask
 whole-can_answer t f ask fits range = record {
   range = range;
@@ -233,7 +233,7 @@ module _ (t : TreeRoot) (b : ℕ) (tall : 1 ≤ tree_height t.length) (in' : b <
         (λ l i v e. first_of_two (K l i) _ v (keeps l i v e)) in' none window-known
 
   -- the true answer of a file that fits is accepted at any time, or a collision is named
-  pub true_answer-accepted : (K : PartialTree) (f : List ℕ) → IsClosed t K → Fits f t
+  pub true_answer-accepted : (K : PartialTree) (f : List ℕ) → IsClosed t K → Fits f t.length t.root
       → IsAccepted t.length K (want_ask t b) (answer_of (tree_height t.length) (whole f) (want_ask t b)) ⊎ Collision (whole f) K
   true_answer-accepted K f closed fits =
       answer-stored t (whole f) K (want_ask t b) (whole-closed f t fits) closed

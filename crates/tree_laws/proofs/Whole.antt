@@ -54,7 +54,7 @@ node-root f =
     let e : 0 * 2 ^ tree_height (length f) ≡ 0 = omega arith in
     ap (λ k. tree (tree_height (length f)) (take (2 ^ tree_height (length f)) (drop k (leaves f)))) e ∙ tree-take (tree_height (length f)) (leaves f)
 
-module _ (f : List ℕ) (t : TreeRoot) (fits : Fits f t) where
+module _ (f : List ℕ) (t : TreeRoot) (fits : Fits f t.length t.root) where
   same_height : tree_height (length f) ≡ tree_height t.length
   same_height = ap tree_height fits.same_length
 
@@ -62,7 +62,7 @@ module _ (f : List ℕ) (t : TreeRoot) (fits : Fits f t) where
   whole-closed = record {
     root_known = subst (λ len. whole f (tree_height len) 0 ≡ Some t.root) fits.same_length
         (whole-at f (tree_height (length f)) 0 (omega arith, pow_pos (tree_height (length f) - tree_height (length f)))
-        ∙ ap Some (node-root f ∙ ap (λ len. tree (tree_height len) (leaves f)) fits.same_length ∙ fits.same_root));
+        ∙ ap Some (node-root f ∙ fits.same_root));
     in_tree = λ l i v e. subst (λ h. IsTreePlace h l i) same_height (whole-inside f l i v e).0;
     hashes = λ l i v e. subst IsHash (whole-inside f l i v e).1 (node-is_hash f l i (whole-inside f l i v e).0);
     families = λ l i v e below.

@@ -1,7 +1,7 @@
 //! The laws of partial trees, each as the contract of a function that does nothing.
 
 ghost use Rattle.partial_tree.specs.MessagePages.{MessageNeedsFewPages};
-ghost use Rattle.partial_tree.specs.Laws.{WholeIsClosed, ClosedTreesAgree, KnownLeafNamesBlock, JoinedStaysClosed, JoinedKeeps, FilledStaysClosed, TrueMessageIsAccepted, AnswerIsAccepted, GapsNeverRise, GapsAreAtMostWindows, NoGapMeansAllKnown, AllKnownMeansNoGap, AnswerClosesOneGap, AnswerLeavesFewerGaps, MessageIsAcceptedOrRefused, TrustedTreesNameNone, TrustedBlockNamesNone, ClosedTreesJoinBytes, WholeTreesJoinBytes, FilesOfBytesGiveBytes};
+ghost use Rattle.partial_tree.specs.Laws.{WholeIsClosed, ClosedTreesAgree, KnownLeafNamesBlock, JoinedStaysClosed, JoinedKeeps, FilledStaysClosed, TrueMessageIsAccepted, AnswerIsAccepted, GapsNeverRise, GapsAreAtMostWindows, NoGapMeansAllKnown, AllKnownMeansNoGap, AnswerClosesOneGap, AnswerLeavesFewerGaps, MessageIsAcceptedOrRefused, TrustedTreesNameNone, TrustedBlockNamesNone, ClosedTreesJoinBytes, WholeTreesJoinBytes, FilesOfBytesGiveBytes, RowBringsEndPads, EndPadsStay, EndPadsLetAnswer, WantedIsShortAsk};
 
 /// The whole tree of a file that fits a tree is closed.
 pub fn whole_is_closed()
@@ -78,4 +78,14 @@ pub fn trusted_digests_name_no_collision()
     ensures closed { ClosedTreesJoinBytes }
     ensures whole { WholeTreesJoinBytes }
     ensures files { FilesOfBytesGiveBytes }
+{}
+
+/// A tree that knows the leaves of all blocks and the pads beside the file's end can answer each
+/// ask for at most 512 hashes that has a node over a block in its range; whatever is wanted is such
+/// an ask. Leaves that reach the file's end bring these pads, and they stay known.
+pub fn end_pads_let_answer()
+    ensures answers { EndPadsLetAnswer }
+    ensures wanted { WantedIsShortAsk }
+    ensures brought { RowBringsEndPads }
+    ensures stay { EndPadsStay }
 {}

@@ -3,7 +3,7 @@ use Rattle.std.proofs.Common.{◌≡◌, ℕ, ◌+◌, ◌-◌, List, ◌∷◌,
 use Rattle.std.specs.List.{flat_map}
 use Rattle.std.proofs.lemmas.List.{append-nil, drop_all, take_rest}
 use Rattle.wire.specs.declared.message.Ask.{Ask}
-use Rattle.wire.specs.Meaning.{IsRightSize, IsHashesSize, IsAsk, IsHash, IsAskBody, IsHashesBody, ask_bytes}
+use Rattle.wire.specs.Meaning.{IsRightSize, IsHashesSize, IsAsk, HasHashLength, IsAskBody, IsHashesBody, ask_bytes}
 
 -- the right size at each id
 pub size_of_request : (size : ℕ) → IsRightSize 21 size → size ≡ 49
@@ -43,7 +43,7 @@ IsAskBody-from_fields id fields ask size fit e = record {
 
 -- the five fields, and the hashes lent from the bytes after them
 pub IsHashesBody-from_fields : (fields : List ℕ) (ask : Ask) (hashes : List (List ℕ)) → IsHashesSize (length fields + 1) → IsAsk ask
-    → fields ≡ ask_bytes ask ++ drop 48 fields → All IsHash hashes
+    → fields ≡ ask_bytes ask ++ drop 48 fields → All HasHashLength hashes
     → flat_map (λ hash. hash) hashes ≡ take (length fields - 48) (drop 48 fields) → IsHashesBody (22 ∷ fields) ask hashes
 IsHashesBody-from_fields fields ask hashes size fit e each joined = record {
   fields = fit;

@@ -6,7 +6,7 @@ use Rattle.wire.specs.declared.frame.Head.{Head}
 use Rattle.wire.specs.declared.frame.Head.TheVariants.{KeepAlive, Kept, BadSize, Other}
 use Rattle.wire.specs.Kind.{id_of}
 use Rattle.wire.specs.Meaning.{IsRightSize}
-use Rattle.wire.specs.Head.{IsHead, Holds}
+use Rattle.wire.specs.Head.{IsHead, IsBodyWithHead}
 
 pub single : (xs : List ℕ) → length xs ≡ 1 → xs ≡ get_or xs 0 0 ∷ []
 single [] e = absurd (omega arith)
@@ -19,7 +19,7 @@ length-kept id len items buf e some room =
     rw e (omega (arith, length-take-le (len - 1) items room))
 
 pub Holds-kept : (id len n : ℕ) (kind : Kind) (items buf : List ℕ) → buf ≡ id ∷ [] → IsHead id len (Kept kind n) → 0 < len → len - 1 ≤ length items
-    → Holds (Kept kind n) items (buf ++ take (len - 1) items)
+    → IsBodyWithHead (Kept kind n) items (buf ++ take (len - 1) items)
 Holds-kept id len n kind items buf e h some room = (
   subst (λ k. IsRightSize (id_of kind) k) (sym h.1) (subst (λ i. IsRightSize i len) h.0 h.2),
   h.1 ∙ sym (length-kept id len items buf e some room),
@@ -29,7 +29,7 @@ Holds-kept id len n kind items buf e h some room = (
 -- an id was read, and the rest was skipped
 pub Holds-skipped : (id len : ℕ) (head : Head) (items buf rest : List ℕ) → buf ≡ id ∷ [] → IsHead id len head → ((kind : Kind) (n : ℕ) → head ≡ Kept kind n → ⊥)
     → length rest + 1 ≡ len
-    → Holds head items (buf ++ rest)
+    → IsBodyWithHead head items (buf ++ rest)
 Holds-skipped id len KeepAlive items buf rest e h not size = absurd h
 Holds-skipped id len (Kept kind n) items buf rest e h not size = absurd (not kind n refl)
 Holds-skipped id len (BadSize i n) items buf rest e h not size =
@@ -45,14 +45,14 @@ too_long id (inr (inr (inl p))) = omega (arith, p.1.1)
 too_long id (inr (inr (inr p))) = omega (arith, p.1)
 
 pub Holds-longest : (head : Head) (items front rest : List ℕ) → length front ≡ 4 → IsHead (get_or front 0 0) 4294967295 head → length rest ≡ 4294967291
-    → Holds head items (front ++ rest)
+    → IsBodyWithHead head items (front ++ rest)
 Holds-longest head items [] rest four is size = absurd (omega (arith, four))
 Holds-longest head items (x ∷ front) rest four is size =
     Holds-skipped x 4294967295 head items (x ∷ []) (front ++ rest) refl is (λ kind n e. too_long x (subst (IsHead x 4294967295) e is).2)
     (omega (arith, four, size, length-append front rest))
 
 -- a body that is whole, with what follows its id
-pub Holds-whole : (id len : ℕ) (head : Head) (rest body : List ℕ) → body ≡ id ∷ rest → len ≡ length body → IsHead id len head → Holds head rest body
+pub Holds-whole : (id len : ℕ) (head : Head) (rest body : List ℕ) → body ≡ id ∷ rest → len ≡ length body → IsHead id len head → IsBodyWithHead head rest body
 Holds-whole id len KeepAlive rest body e size h = absurd h
 Holds-whole id len (Kept kind n) rest body e size h = (
   subst (λ k. IsRightSize (id_of kind) k) (sym h.1) (subst (λ i. IsRightSize i len) h.0 h.2),

@@ -13,9 +13,9 @@ IsHead id len (BadSize i n) = (i ≡ id) × (n ≡ len) × IsKnownId id × ¬ Is
 IsHead id len (Other i n) = (i ≡ id) × (n ≡ len) × ¬ IsKnownId id
 
 -- the body has this head, and what follows its id is kept, if its message is of a known kind
-abbrev pub Holds : Head → List ℕ → List ℕ → Type 0
-Holds KeepAlive kept body = body ≡ []
-Holds (Kept kind n) kept body =
+abbrev pub IsBodyWithHead : Head → List ℕ → List ℕ → Type 0
+IsBodyWithHead KeepAlive kept body = body ≡ []
+IsBodyWithHead (Kept kind n) kept body =
     IsRightSize (id_of kind) n × (n ≡ length body) × (body ≡ id_of kind ∷ take (n - 1) kept)
-Holds (BadSize id n) kept body = IsOf body id n × IsKnownId id × ¬ IsRightSize id n
-Holds (Other id n) kept body = IsOf body id n × ¬ IsKnownId id
+IsBodyWithHead (BadSize id n) kept body = IsOf body id n × IsKnownId id × ¬ IsRightSize id n
+IsBodyWithHead (Other id n) kept body = IsOf body id n × ¬ IsKnownId id

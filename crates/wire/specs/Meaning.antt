@@ -60,8 +60,8 @@ IsRightSize id size =
     ⊎ ((id ≡ hashes_id) × IsHashesSize size) ⊎ ((id ≡ reject_id) × (size ≡ ask_size))
 
 -- as long as a SHA-256 digest
-abbrev pub IsHash : List ℕ → Type 0
-IsHash hash = length hash ≡ 32
+abbrev pub HasHashLength : List ℕ → Type 0
+HasHashLength hash = length hash ≡ 32
 
 -- the five fields of a hash request: pieces root, base layer, index, length, proof layers
 unfoldable pub ask_bytes : Ask → List ℕ
@@ -71,7 +71,7 @@ ask_bytes ask =
 
 -- each field fits its bytes
 pub record IsAsk (ask : Ask) : Type 0 where
-  pub root : IsHash ask.root
+  pub root : HasHashLength ask.root
   pub base : ask.base < 2 ^ 32
   pub index : ask.index < 2 ^ 32
   pub count : ask.length < 2 ^ 32
@@ -92,7 +92,7 @@ pub record IsPieceBody (body : List ℕ) (index begin : ℕ) (block : List ℕ) 
 -- the body of a hashes message: the five fields of the request, and the hashes
 pub record IsHashesBody (body : List ℕ) (ask : Ask) (hashes : List (List ℕ)) : Type 0 where
   pub fields : IsAsk ask
-  pub each : All IsHash hashes
+  pub each : All HasHashLength hashes
   pub size : IsHashesSize (length body)
   pub bytes : body ≡ hashes_id ∷ (ask_bytes ask ++ flat_map (λ hash. hash) hashes)
 

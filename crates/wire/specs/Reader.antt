@@ -6,7 +6,7 @@ use Rattle.std.specs.Global.{Vec}
 use Rattle.std.specs.Io.KnownBytes.{IsAtEnd}
 use Rattle.benc.specs.Device.{SourceSeen}
 use Rattle.wire.specs.Frames.{IsBody, frame}
-use Rattle.wire.specs.Head.{Holds}
+use Rattle.wire.specs.Head.{IsBodyWithHead}
 use Rattle.wire.specs.Meaning.{Means, max_kept}
 use Rattle.wire.specs.Reading.{GaveFaultless, StopsInFrame}
 use Rattle.wire.specs.Room.{RoomAfter, RoomAfterFault}
@@ -34,7 +34,7 @@ HasFailed reader why = reader.state ≡ Failed why
 
 -- the frame that the reader read last has this body
 abbrev pub HoldsBody : {S : Type 0} → FrameReader S (Vec ℕ) → List ℕ → Type 0
-HoldsBody reader body = Holds reader.head reader.kept.items body
+HoldsBody reader body = IsBodyWithHead reader.head reader.kept.items body
 
 -- how many bytes of bodies the reader keeps, ids aside
 abbrev pub kept_len : {S : Type 0} → FrameReader S (Vec ℕ) → ℕ
@@ -74,7 +74,7 @@ pub record ReadsFrame {S : Type 0} (seen : S → SourceSeen) (old new : FrameRea
   pub room : RoomAfter new.head (room old) (room new)
 
 -- nothing was read, since the source has ended
-pub record ReadsEnd {S : Type 0} (seen : S → SourceSeen) (old new : FrameReader S (Vec ℕ))
+pub record ReadsSourceEnd {S : Type 0} (seen : S → SourceSeen) (old new : FrameReader S (Vec ℕ))
     : Type 0 where
   pub gave : GaveFaultless (seen (source_of old)) (seen (source_of new)) []
   pub at_end : IsAtEnd (seen (source_of new)).left
@@ -93,7 +93,7 @@ pub record FailsToRead {S : Type 0} (seen : S → SourceSeen) (old new : FrameRe
 abbrev pub ReadsNext : {S : Type 0} → (S → SourceSeen) → FrameReader S (Vec ℕ)
     → Result Bool FrameFault → FrameReader S (Vec ℕ) → Type 0
 ReadsNext seen old (Ok true) new = ReadsFrame seen old new
-ReadsNext seen old (Ok false) new = ReadsEnd seen old new
+ReadsNext seen old (Ok false) new = ReadsSourceEnd seen old new
 ReadsNext seen old (Err why) new = FailsToRead seen old new why
 
 -- what a reader does that is asked for the next frame, where `true` says that there is one: after

@@ -10,7 +10,7 @@ use Rattle.wire.specs.declared.frame.Frame.{Frame}
 use Rattle.wire.specs.declared.frame.Head.{Head}
 use Rattle.wire.specs.declared.reader.FrameReader.{FrameReader}
 use Rattle.wire.specs.declared.record_reader.RecordReader.{RecordReader}
-use Rattle.wire.specs.Head.{Holds}
+use Rattle.wire.specs.Head.{IsBodyWithHead}
 use Rattle.wire.specs.Meaning.{max_kept}
 use Rattle.wire.specs.Reader.{IsOpen, HasEnded, HasFailed, HasRoom, HoldsBody, KeepsSource, is_there, kept_len, room}
 use Rattle.wire.specs.Room.{RoomAfter, RoomAfterFault}
@@ -18,8 +18,8 @@ use Rattle.wire.specs.RecordReading.{EndsRecord, GaveFrame, StopsInRecord}
 use Rattle.wire.specs.Records.{Directed, MeansDirected}
 
 -- the source that the reader reads
-abbrev pub source_of : {S B : Type 0} → RecordReader S B → S
-source_of reader = reader.source.now
+abbrev pub record_source_of : {S B : Type 0} → RecordReader S B → S
+record_source_of reader = reader.source.now
 
 -- the form of the record, once it is known
 abbrev pub form_of : {S B : Type 0} → RecordReader S B → Option Form
@@ -31,8 +31,8 @@ frame_reader reader =
     record { source = reader.source; state = reader.state; head = reader.head; kept = reader.kept }
 
 -- a direction and a head are those of a body whose bytes are kept
-abbrev pub HoldsFrom : List ℕ → Directed (List ℕ) → Direction × Head → Type 0
-HoldsFrom kept d found = (found.0 ≡ d.0) × Holds found.1 kept d.1
+abbrev pub HasDirectedHead : List ℕ → Directed (List ℕ) → Direction × Head → Type 0
+HasDirectedHead kept d found = (found.0 ≡ d.0) × IsBodyWithHead found.1 kept d.1
 
 -- the frame that the reader read last has this direction and this body
 abbrev pub HoldsDirected : {S : Type 0} → RecordReader S (Vec ℕ) → Directed (List ℕ) → Type 0
@@ -45,7 +45,8 @@ pub record ReadsDirected {S : Type 0} (seen : S → SourceSeen) (old new : Recor
   pub directed : Directed (List ℕ)
   pub known : form_of new ≡ Some form
   pub gave :
-      GaveFrame (form_of old) form directed (seen (source_of old)) (seen (source_of new))
+      GaveFrame (form_of old) form directed (seen (record_source_of old))
+      (seen (record_source_of new))
   pub holds : HoldsDirected new directed
   pub stays : IsOpen (frame_reader new)
   pub room : RoomAfter new.head (room (frame_reader old)) (room (frame_reader new))
@@ -55,7 +56,8 @@ pub record ReadsRecordEnd {S : Type 0} (seen : S → SourceSeen) (old new : Reco
     : Type 0 where
   pub form : Form
   pub known : form_of new ≡ Some form
-  pub ends : EndsRecord (form_of old) form (seen (source_of old)) (seen (source_of new))
+  pub ends : EndsRecord (form_of old) form (seen (record_source_of old))
+      (seen (record_source_of new))
   pub ended : HasEnded (frame_reader new)
   pub room : room (frame_reader new) ≡ room (frame_reader old)
 
@@ -63,7 +65,8 @@ pub record ReadsRecordEnd {S : Type 0} (seen : S → SourceSeen) (old new : Reco
 pub record FailsInRecord {S : Type 0} (seen : S → SourceSeen) (old new : RecordReader S (Vec ℕ))
     (why : FrameFault) : Type 0 where
   pub form : form_of new ≡ form_of old
-  pub stops : StopsInRecord (form_of old) (seen (source_of old)) (seen (source_of new)) why
+  pub stops : StopsInRecord (form_of old) (seen (record_source_of old))
+      (seen (record_source_of new)) why
   pub failed : HasFailed (frame_reader new) why
   pub memory : why ≡ fault.NoMemory → ¬ HasRoom (frame_reader old)
   pub room : RoomAfterFault why (room (frame_reader old)) (room (frame_reader new))

@@ -44,16 +44,16 @@ IsPart One part = IsPartial part
 IsPart Two part = (part ≡ []) ⊎ IsCutFrame part
 
 -- what stands before the length of a frame
-abbrev pub mark : Form → Direction → List ℕ
-mark One d = []
-mark Two d = direction_byte d ∷ []
+abbrev pub direction_mark : Form → Direction → List ℕ
+direction_mark One d = []
+direction_mark Two d = direction_byte d ∷ []
 
 -- the length and the id of a frame whose body is to be kept, with what stands before them
 pub record IsKeptHead (form : Form) (part : List ℕ) : Type 0 where
   pub direction : Direction
   pub len : ℕ
   pub id : ℕ
-  pub bytes : part ≡ mark form direction ++ (four_bytes len ++ id ∷ [])
+  pub bytes : part ≡ direction_mark form direction ++ (four_bytes len ++ id ∷ [])
   pub kept : IsRightSize id len
 
 -- a byte that is no direction, and at most the four after it, where a length would stand

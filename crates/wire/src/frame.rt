@@ -1,6 +1,6 @@
 //! A frame of the stream, as far as it is kept: its head, and what its body means.
 ghost use Rattle.std.specs.Prelude.{◌≡◌, ◌↔◌, ℕ, List, IsTrue};
-ghost use Rattle.wire.specs.Head.{Holds, IsHead};
+ghost use Rattle.wire.specs.Head.{IsBodyWithHead, IsHead};
 ghost use Rattle.wire.specs.Meaning.{IsHashesSize, Means, hashes_id};
 ghost use Rattle.wire.specs.Frames.{IsBody};
 
@@ -72,8 +72,8 @@ pub fn is_hashes(id: u8, len: u32) -> bool
 
 /// The frame of a head, out of the bytes that are kept of its body after the id.
 pub(crate) fn frame_of(head: Head, kept: &[u8]) -> Frame<'_>
-    requires held { (body : List ℕ) × Holds head kept.now body }
-    ensures { (body : List ℕ) → Holds head kept.now body → Means body result }
+    requires held { (body : List ℕ) × IsBodyWithHead head kept.now body }
+    ensures { (body : List ℕ) → IsBodyWithHead head kept.now body → Means body result }
 {
     match head {
         Head::KeepAlive => Frame::Message(Message::KeepAlive),

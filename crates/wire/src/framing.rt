@@ -1,6 +1,6 @@
 //! Bytes from a source: one frame, or as many as are wanted, or why fewer came.
 ghost use Rattle.std.specs.Prelude.{◌≡◌, ◌≤◌, ◌<◌, ◌-◌, ℕ, [], List, length, take, MatchResult, OnOk, OnErr, IsErrOf, vec_capacity, vec_len, ◌≢◌};
-ghost use Rattle.wire.specs.Head.{Holds};
+ghost use Rattle.wire.specs.Head.{IsBodyWithHead};
 ghost use Rattle.wire.specs.Meaning.{max_kept};
 ghost use Rattle.wire.specs.Reading.{GivesAll, GivesBody, StopsInBody, Gives, GaveFaultless, GivesLength, StopsShort, StopsInLength};
 ghost use Rattle.wire.specs.Room.{GrowsToBound, RoomAfter, RoomAfterCall, RoomAfterFault};
@@ -21,7 +21,7 @@ pub(crate) fn read_frame<R: Source>(
     kept: &mut Vec<u8>,
 ) -> Result<Option<Head>, FrameFault>
     ensures bytes { Gives (R.seen source.old) (R.seen source.new)
-        (λ body head. Holds head kept.new.items body) result }
+        (λ body head. IsBodyWithHead head kept.new.items body) result }
     ensures bounded { length kept.old.items ≤ max_kept → length kept.new.items ≤ max_kept }
     ensures room { RoomAfterCall (λ head. head) (vec_capacity kept.old) (vec_capacity kept.new)
         result }
@@ -43,7 +43,7 @@ pub(crate) fn read_body<R: Source>(
 ) -> Result<Head, FrameFault>
     ensures bytes { MatchResult result
         (GivesBody (R.seen source.old) (R.seen source.new) len
-        (λ body head. Holds head kept.new.items body))
+        (λ body head. IsBodyWithHead head kept.new.items body))
         (StopsInBody (R.seen source.old) (R.seen source.new) len) }
     ensures bounded { length kept.old.items ≤ max_kept → length kept.new.items ≤ max_kept }
     ensures room { MatchResult result

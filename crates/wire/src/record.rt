@@ -5,7 +5,7 @@ ghost use Rattle.wire.specs.Frames.{four_bytes};
 ghost use Rattle.wire.specs.Meaning.{max_kept};
 ghost use Rattle.wire.specs.Reading.{GaveFaultless};
 ghost use Rattle.wire.specs.RecordReading.{GivesNext, GivesStart, StopsInRecord};
-ghost use Rattle.wire.specs.RecordReader.{HoldsFrom};
+ghost use Rattle.wire.specs.RecordReader.{HasDirectedHead};
 ghost use Rattle.wire.specs.Room.{RoomAfterCall, RoomAfterNext};
 
 use crate::fault::FrameFault;
@@ -29,7 +29,7 @@ pub(crate) fn read_next<R: Source>(
 ) -> Result<(Form, Found), FrameFault>
     ensures bytes { MatchResult result
         (λ next. GivesNext form next.0 (R.seen source.old) (R.seen source.new)
-        (HoldsFrom kept.new.items) next.1)
+        (HasDirectedHead kept.new.items) next.1)
         (StopsInRecord form (R.seen source.old) (R.seen source.new)) }
     ensures bounded { length kept.old.items ≤ max_kept → length kept.new.items ≤ max_kept }
     ensures room { RoomAfterNext (vec_capacity kept.old) (vec_capacity kept.new) result }
@@ -48,7 +48,7 @@ pub(crate) fn read_next<R: Source>(
 fn read_first<R: Source>(source: &mut R, kept: &mut Vec<u8>) -> Result<(Form, Found), FrameFault>
     ensures bytes { MatchResult result
         (λ next. GivesNext None next.0 (R.seen source.old) (R.seen source.new)
-        (HoldsFrom kept.new.items) next.1)
+        (HasDirectedHead kept.new.items) next.1)
         (StopsInRecord None (R.seen source.old) (R.seen source.new)) }
     ensures bounded { length kept.old.items ≤ max_kept → length kept.new.items ≤ max_kept }
     ensures room { RoomAfterNext (vec_capacity kept.old) (vec_capacity kept.new) result }
@@ -71,7 +71,7 @@ fn read_marked<R: Source>(source: &mut R, kept: &mut Vec<u8>) -> Result<(Form, F
     ensures bytes { (start : SourceSeen)
         → GaveFaultless start (R.seen source.old) (four_bytes (2 ^ 32 - 1)) → MatchResult result
         (λ next. GivesNext None next.0 start (R.seen source.new)
-        (HoldsFrom kept.new.items) next.1)
+        (HasDirectedHead kept.new.items) next.1)
         (StopsInRecord None start (R.seen source.new)) }
     ensures bounded { length kept.old.items ≤ max_kept → length kept.new.items ≤ max_kept }
     ensures room { RoomAfterNext (vec_capacity kept.old) (vec_capacity kept.new) result }
@@ -96,7 +96,7 @@ fn read_marked<R: Source>(source: &mut R, kept: &mut Vec<u8>) -> Result<(Form, F
 fn read_incoming<R: Source>(source: &mut R, kept: &mut Vec<u8>) -> Result<Found, FrameFault>
     ensures bytes { MatchResult result
         (GivesNext (Some Form.One) Form.One (R.seen source.old) (R.seen source.new)
-        (HoldsFrom kept.new.items))
+        (HasDirectedHead kept.new.items))
         (StopsInRecord (Some Form.One) (R.seen source.old) (R.seen source.new)) }
     ensures bounded { length kept.old.items ≤ max_kept → length kept.new.items ≤ max_kept }
     ensures room { RoomAfterCall (λ f. f.1) (vec_capacity kept.old) (vec_capacity kept.new) result }
@@ -114,7 +114,7 @@ fn read_incoming<R: Source>(source: &mut R, kept: &mut Vec<u8>) -> Result<Found,
 fn read_directed<R: Source>(source: &mut R, kept: &mut Vec<u8>) -> Result<Found, FrameFault>
     ensures bytes { MatchResult result
         (GivesNext (Some Form.Two) Form.Two (R.seen source.old) (R.seen source.new)
-        (HoldsFrom kept.new.items))
+        (HasDirectedHead kept.new.items))
         (StopsInRecord (Some Form.Two) (R.seen source.old) (R.seen source.new)) }
     ensures bounded { length kept.old.items ≤ max_kept → length kept.new.items ≤ max_kept }
     ensures room { RoomAfterCall (λ f. f.1) (vec_capacity kept.old) (vec_capacity kept.new) result }

@@ -32,12 +32,12 @@ pub struct RecordReader<'r, R: Source, B: Drop = Vec<u8>> {
 
 impl<'r, R: Source> RecordReader<'r, R> {
     ghost use Rattle.wire.specs.Reader.{HasFailed, HasRoom, IsOpen, IsSameButRoom, ReadsThrough, kept_len, room};
-    ghost use Rattle.wire.specs.RecordReader.{AdvancesInRecord, AsksNextInRecord, HoldsDirected, form_of, frame_reader, source_of};
+    ghost use Rattle.wire.specs.RecordReader.{AdvancesInRecord, AsksNextInRecord, HoldsDirected, form_of, frame_reader, record_source_of};
 
     /// A reader of the record that the source gives from here on. It takes no memory yet.
     pub fn new(alloc: Global, source: &'r mut R) -> RecordReader<'r, R>
         ensures same_reference { ReadsThrough (frame_reader result) source.entry }
-        ensures source { source_of result ≡ source.old }
+        ensures source { record_source_of result ≡ source.old }
         ensures open { IsOpen (frame_reader result) }
         ensures form { form_of result ≡ None }
         ensures kept { kept_len (frame_reader result) ≡ 0 }

@@ -4,7 +4,7 @@
 
 use core::ffi::c_void;
 
-/// What each call but `.._free` and `btcheck_version` returns.
+/// What each call returns that may be refused.
 pub type btcheck_status = u32;
 
 pub const BTCHECK_OK: btcheck_status = 0;
@@ -64,6 +64,9 @@ pub const BTCHECK_KEY_PIECE_LAYERS: u32 = 7;
 
 /// Most bytes of one message of an export.
 pub const BTCHECK_MOST_EXPORTED: usize = 17461;
+
+/// Bytes of the frame of a hash request, and of a hash reject.
+pub const BTCHECK_ASK_FRAME: usize = 53;
 
 /// The builder of a root. Zero bytes are a handle that holds nothing.
 #[repr(C)]
@@ -151,6 +154,25 @@ pub struct btcheck_file {
     pub root: [u8; 32],
 }
 
+/// A piece of a torrent.
+#[repr(C)]
+#[derive(Clone, Copy, Debug, Default, PartialEq, Eq)]
+pub struct btcheck_piece {
+    pub length: u64,
+    pub file: u64,
+    pub block: u64,
+    pub offset: u64,
+}
+
+/// Bytes of a file as a request has them.
+#[repr(C)]
+#[derive(Clone, Copy, Debug, Default, PartialEq, Eq)]
+pub struct btcheck_piece_range {
+    pub piece: u64,
+    pub begin: u64,
+    pub length: u64,
+}
+
 /// The blocks of one piece message.
 #[repr(C)]
 #[derive(Clone, Copy, Debug, Default, PartialEq, Eq)]
@@ -186,6 +208,15 @@ pub struct btcheck_verdict {
     pub id: u32,
     pub places: u64,
     pub blocks: btcheck_blocks,
+}
+
+/// What was made of one whole frame.
+#[repr(C)]
+#[derive(Clone, Copy, Debug, Default, PartialEq, Eq)]
+pub struct btcheck_taken {
+    pub verdict: btcheck_verdict,
+    pub ask: btcheck_ask,
+    pub dropped: [btcheck_run; BTCHECK_MOST_BLOCKS],
 }
 
 extern "C" {
@@ -290,6 +321,36 @@ extern "C" {
         session: *mut btcheck_session,
         pieces: *mut u64,
     ) -> btcheck_status;
+    pub fn btcheck_session_piece(
+        session: *mut btcheck_session,
+        index: u32,
+        piece: *mut btcheck_piece,
+    ) -> btcheck_status;
+    pub fn btcheck_session_file_pieces(
+        session: *mut btcheck_session,
+        number: usize,
+        first: *mut u64,
+        count: *mut u64,
+    ) -> btcheck_status;
+    pub fn btcheck_session_map_file(
+        session: *mut btcheck_session,
+        number: usize,
+        offset: u64,
+        length: u64,
+        range: *mut btcheck_piece_range,
+    ) -> btcheck_status;
+    pub fn btcheck_session_file_counts(
+        session: *mut btcheck_session,
+        number: usize,
+        marked: *mut u64,
+        blocks: *mut u64,
+    ) -> btcheck_status;
+    pub fn btcheck_session_bitfield(
+        session: *mut btcheck_session,
+        room: *mut u8,
+        size: usize,
+        length: *mut u64,
+    ) -> btcheck_status;
     pub fn btcheck_session_name(
         session: *mut btcheck_session,
         room: *mut u8,
@@ -365,6 +426,21 @@ extern "C" {
         len: usize,
         verdict: *mut btcheck_verdict,
     ) -> btcheck_status;
+    pub fn btcheck_session_take_frame(
+        session: *mut btcheck_session,
+        frame: *const u8,
+        len: usize,
+        asked: bool,
+        taken: *mut btcheck_taken,
+    ) -> btcheck_status;
+    pub fn btcheck_session_hold_frame(
+        session: *mut btcheck_session,
+        holdings: *mut btcheck_holdings,
+        frame: *const u8,
+        len: usize,
+        asked: bool,
+        taken: *mut btcheck_taken,
+    ) -> btcheck_status;
     pub fn btcheck_session_want(
         session: *mut btcheck_session,
         tree: usize,
@@ -392,6 +468,15 @@ extern "C" {
         room: *mut [u8; 32],
         places: usize,
         count: *mut u64,
+    ) -> btcheck_status;
+    pub fn btcheck_request_frame(ask: *const btcheck_ask, frame: *mut [u8; 53]);
+    pub fn btcheck_reject_frame(ask: *const btcheck_ask, frame: *mut [u8; 53]);
+    pub fn btcheck_session_answer_frame(
+        session: *mut btcheck_session,
+        ask: *const btcheck_ask,
+        room: *mut u8,
+        size: usize,
+        length: *mut u64,
     ) -> btcheck_status;
     pub fn btcheck_session_export(
         session: *mut btcheck_session,

@@ -17,6 +17,9 @@ fn sizes_are_those_of_c() {
         size_of::<btcheck_held>(),
         size_of::<btcheck_draft>(),
         size_of::<btcheck_draft_file>(),
+        size_of::<btcheck_piece>(),
+        size_of::<btcheck_piece_range>(),
+        size_of::<btcheck_taken>(),
     ];
     if let Ok(wanted) = std::env::var("BTCHECK_SIZES") {
         let texts: Vec<_> = sizes.iter().map(|size| size.to_string()).collect();

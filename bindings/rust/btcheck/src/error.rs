@@ -12,7 +12,7 @@ pub enum Error {
     WrongHandle,
     /// Memory was refused.
     NoMemory,
-    /// There are more than 2^46 bytes, more than the file or its pieces have, or 2^32 or more in a body.
+    /// There are more than 2^46 bytes, more than the file, its pieces or the frame have, or 2^32 or more in a body.
     TooLong,
     /// An empty file has no root.
     NoRoot,
@@ -24,7 +24,7 @@ pub enum Error {
     TooSmall,
     /// A message of id 7, 21, 22 or 23 has a wrong size.
     BadSize,
-    /// Bytes of the file or of its pieces are still to come.
+    /// Bytes of the file, of its pieces or of the frame are still to come.
     TooShort,
     /// A piece is not the torrent's.
     BadPiece,
@@ -102,7 +102,7 @@ impl fmt::Display for Error {
             }
             Error::NoMemory => "Memory was refused.",
             Error::TooLong => {
-                "There are more than 2^46 bytes, more than the file or its pieces have, or 2^32 or more in a body."
+                "There are more than 2^46 bytes, more than the file, its pieces or the frame have, or 2^32 or more in a body."
             }
             Error::NoRoot => "An empty file has no root.",
             Error::NoSuch => "The torrent has no such tree, block, file or piece.",
@@ -111,7 +111,7 @@ impl fmt::Display for Error {
             }
             Error::TooSmall => "The room is too small.",
             Error::BadSize => "A message of id 7, 21, 22 or 23 has a wrong size.",
-            Error::TooShort => "Bytes of the file or of its pieces are still to come.",
+            Error::TooShort => "Bytes of the file, of its pieces or of the frame are still to come.",
             Error::BadPiece => "A piece is not the torrent's.",
             Error::Held => "The block is held until its hash is known.",
             Error::Torrent(refusal) => return refusal.fmt(f),

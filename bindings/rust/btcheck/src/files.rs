@@ -132,7 +132,16 @@ impl Session {
         yes_or_no(unsafe { sys::btcheck_session_is_hybrid(self.handle()) })
     }
 
-    /// The digests of the info dictionary, which name the torrent.
+    /// The info-hash by which clients of version 1 know a hybrid; `None` of another torrent.
+    pub fn info_hash_v1(&self) -> Result<Option<[u8; 20]>, Error> {
+        Ok(if self.is_hybrid()? {
+            Some(self.info_hashes()?.v1)
+        } else {
+            None
+        })
+    }
+
+    /// The digests of the info dictionary. A torrent that is no hybrid is known by that of version 2 alone.
     pub fn info_hashes(&self) -> Result<InfoHashes, Error> {
         let mut found = InfoHashes {
             v2: [0; 32],

@@ -8,7 +8,7 @@ use crate::{Blocks, Error, Session};
 /// way to others.
 #[derive(Debug)]
 pub struct Holdings {
-    handle: sys::btcheck_holdings,
+    pub(crate) handle: sys::btcheck_holdings,
 }
 
 /// Blocks of a tree, from the first one to the last one.
@@ -75,6 +75,10 @@ impl Holdings {
 }
 
 impl Run {
+    pub(crate) fn dropped(run: &sys::btcheck_run) -> Option<Self> {
+        (run.tree != u64::MAX).then(|| Run::of(run))
+    }
+
     fn of(run: &sys::btcheck_run) -> Self {
         Run {
             tree: run.tree,
@@ -109,9 +113,7 @@ impl Session {
         let blocks = Blocks::of(&held.blocks);
         let dropped = held.dropped.iter().take(blocks.results.len());
         Ok(HeldBlocks {
-            dropped: dropped
-                .map(|it| (it.tree != u64::MAX).then(|| Run::of(it)))
-                .collect(),
+            dropped: dropped.map(Run::dropped).collect(),
             blocks,
         })
     }

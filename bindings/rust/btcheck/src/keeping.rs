@@ -8,8 +8,8 @@ pub struct Cursor(sys::btcheck_cursor);
 
 impl Session {
     /// The leaves that are known first from the cursor on, as the whole frame of a hashes message with the proof up to the
-    /// root, and moves the cursor behind them; `None` if no leaf is known from there on. `frame` of any session of the
-    /// torrent takes it without its first four bytes.
+    /// root, and moves the cursor behind them; `None` if no leaf is known from there on. `take_frame` of any session of
+    /// the torrent takes it.
     pub fn export(&self, cursor: &mut Cursor) -> Result<Option<Vec<u8>>, Error> {
         let mut room = vec![0; sys::BTCHECK_MOST_EXPORTED];
         let mut length = 0;

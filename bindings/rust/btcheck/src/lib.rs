@@ -23,22 +23,28 @@ mod create;
 mod drafting;
 mod error;
 mod files;
+mod frames;
 mod holdings;
 mod keeping;
 mod messages;
+mod places;
 mod refusals;
 mod root;
 mod session;
 
 pub use btcheck_sys::btcheck_ask as Ask;
+pub use btcheck_sys::btcheck_piece as Piece;
+pub use btcheck_sys::btcheck_piece_range as PieceRange;
 pub use check::Check;
 pub use create::create;
 pub use drafting::{Draft, DraftFile};
 pub use error::Error;
 pub use files::{File, Files, InfoHashes};
+pub use frames::{reject_frame, request_frame, Taken};
 pub use holdings::{HeldBlocks, Holdings, Run, Settled};
 pub use keeping::Cursor;
 pub use messages::{Blocks, Verdict};
+pub use places::FileCounts;
 pub use refusals::{BlockRefusal, Fault, FaultKind, HashRefusal, Key, TorrentRefusal};
 pub use root::{FileRoot, Root};
 pub use session::{Counts, Place, Session};
@@ -50,6 +56,12 @@ pub type Hash = [u8; HASH];
 pub const BLOCK: usize = btcheck_sys::BTCHECK_BLOCK;
 /// Bytes of a hash.
 pub const HASH: usize = btcheck_sys::BTCHECK_HASH;
+
+/// The version of the library that is linked as text, `1.1.0` say.
+pub fn version_text() -> String {
+    let [major, minor, patch] = version();
+    format!("{major}.{minor}.{patch}")
+}
 
 /// The three numbers of the version of the library that is linked.
 pub fn version() -> [u8; 3] {

@@ -34,12 +34,31 @@ pub enum Verdict {
 }
 
 impl Blocks {
+    /// The results, by the name that they have in all languages.
+    pub fn statuses(&self) -> &[Result<(), Error>] {
+        &self.results
+    }
+
     pub(crate) fn of(blocks: &sys::btcheck_blocks) -> Self {
         let results = blocks.statuses.iter().take(blocks.count as usize);
         Blocks {
             file: blocks.file,
             first: blocks.first,
             results: results.map(|&it| Error::of(it)).collect(),
+        }
+    }
+}
+
+impl Verdict {
+    pub(crate) fn of(verdict: &sys::btcheck_verdict) -> Self {
+        match verdict.kind {
+            sys::BTCHECK_STORED => Verdict::Stored(verdict.places),
+            sys::BTCHECK_BLOCKS => Verdict::Blocks(Blocks::of(&verdict.blocks)),
+            sys::BTCHECK_ANSWERED => Verdict::Answered,
+            sys::BTCHECK_REJECTED => Verdict::Rejected,
+            sys::BTCHECK_REJECT_NOTED => Verdict::RejectNoted,
+            sys::BTCHECK_KEEP_ALIVE => Verdict::KeepAlive,
+            _ => Verdict::Skipped(verdict.id),
         }
     }
 }
@@ -70,14 +89,6 @@ impl Session {
             sys::btcheck_session_frame(self.handle(), body.as_ptr(), body.len(), &mut verdict)
         };
         Error::of(status)?;
-        Ok(match verdict.kind {
-            sys::BTCHECK_STORED => Verdict::Stored(verdict.places),
-            sys::BTCHECK_BLOCKS => Verdict::Blocks(Blocks::of(&verdict.blocks)),
-            sys::BTCHECK_ANSWERED => Verdict::Answered,
-            sys::BTCHECK_REJECTED => Verdict::Rejected,
-            sys::BTCHECK_REJECT_NOTED => Verdict::RejectNoted,
-            sys::BTCHECK_KEEP_ALIVE => Verdict::KeepAlive,
-            _ => Verdict::Skipped(verdict.id),
-        })
+        Ok(Verdict::of(&verdict))
     }
 }

@@ -56,6 +56,16 @@ fn a_refusal_names_the_key() {
 }
 
 #[test]
+fn names_that_all_languages_have() {
+    let (mut session, content) = (opened(), file());
+    let hashes = session.info_hashes().unwrap();
+    assert_eq!(session.info_hash_v1(), Ok(Some(hashes.v1)));
+    assert_eq!(btcheck::version_text(), "1.1.0");
+    let blocks = session.take_blocks(0, 0, &content).unwrap();
+    assert_eq!(blocks.statuses(), &blocks.results[..]);
+}
+
+#[test]
 fn what_is_known_goes_to_another_session() {
     let (mut session, content) = (opened(), file());
     session
@@ -201,7 +211,7 @@ fn files_are_those_of_the_torrent() {
     assert_eq!(session.pieces(), Ok(2));
     assert_eq!(session.is_hybrid(), Ok(true));
     assert_eq!(session.name(), Ok("pair".into()));
-    assert_eq!(btcheck::version(), [1, 0, 0]);
+    assert_eq!(btcheck::version(), [1, 1, 0]);
 }
 
 #[test]

@@ -89,10 +89,10 @@ impl MemSink {
 }
 
 impl Sink for MemSink {
-    ghost use Rattle.benc.specs.MemDevices.{bytes_taken, flush_count, has_flushed, most_taken, room_left, sink_calls};
+    ghost use Rattle.benc.specs.MemDevices.{bytes_in_sink, flush_count, has_flushed, most_taken, room_left, sink_calls};
 
     ghost seen = { λ s. record {
-      written = Some (bytes_taken s);
+      written = Some (bytes_in_sink s);
       faults = (sink_calls s).faults;
       flushes = flush_count s;
       is_flushed = has_flushed s;
@@ -103,7 +103,7 @@ impl Sink for MemSink {
             n ≡ min (min (length buf.now) (most_taken self.old)) (room_left self.old)) }
         ensures bound { IfOk result (λ n. n ≤ length buf.now) }
         ensures some { IfOk result (λ n. 0 < length buf.now → 0 < n) }
-        ensures bytes { WriteAppends (Some (bytes_taken self.old)) (Some (bytes_taken self.new))
+        ensures bytes { WriteAppends (Some (bytes_in_sink self.old)) (Some (bytes_in_sink self.new))
             result buf.now }
         ensures room { FallsBy (room_left self.old) (room_left self.new) result }
         ensures full { OnErr result
@@ -132,7 +132,7 @@ impl Sink for MemSink {
     }
 
     fn flush(&mut self) -> Result<(), DeviceFault>
-        ensures bytes { Keeps (Some (bytes_taken self.old)) (Some (bytes_taken self.new)) }
+        ensures bytes { Keeps (Some (bytes_in_sink self.old)) (Some (bytes_in_sink self.new)) }
         ensures room { room_left self.new ≡ room_left self.old }
         ensures fails { FailsInTurn (sink_calls self.old) result }
         ensures later { (sink_calls self.new).before_fault

@@ -107,9 +107,9 @@ impl<'a> MemShelf<'a> {
 impl<'a> Shelf for MemShelf<'a> {
     type File = MemSource<'a>;
 
-    ghost use Rattle.folders.specs.MemShelfCalls.{Closes, Lists, OpensFile, contents_of, seen_of};
+    ghost use Rattle.folders.specs.MemShelfCalls.{Closes, Lists, OpensFile, seen_of, shelf_contents_of};
 
-    ghost contents = { λ s. contents_of (seen_of s) };
+    ghost contents = { λ s. shelf_contents_of (seen_of s) };
 
     ghost lists = { λ s r t. Lists (seen_of s) r (seen_of t) };
 

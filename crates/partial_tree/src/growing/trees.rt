@@ -25,14 +25,14 @@ impl<N: NodeMap> Model for GrowingTree<N> {
     ghost use Rattle.std.specs.Prelude.{◌≡◌, ◌≤◌};
     ghost use Rattle.std.specs.FinSet.{empty};
     ghost use Rattle.hashtree.specs.Tree.{block_count};
-    ghost use Rattle.partial_tree.specs.Grown.{GrownTree, IsGrowing, grown, leaves_in};
+    ghost use Rattle.partial_tree.specs.Grown.{GrownTree, IsGrowing, first_leaves, grown};
     ghost use Rattle.partial_tree.specs.Codes.{grown_tree_code};
 
     ghost Value = { GrownTree };
 
     ghost coded = { grown_tree_code };
 
-    ghost view = { λ t. grown t.shape (leaves_in (N.seen t.nodes).known t.count) };
+    ghost view = { λ t. grown t.shape (first_leaves (N.seen t.nodes).known t.count) };
 
     ghost invariant = { λ t. ((N.seen t.nodes).length ≡ t.shape)
         × (t.count ≤ block_count t.shape)
@@ -111,14 +111,14 @@ impl<N: NodeMap> Model for GrownTree<N> {
     ghost use Rattle.std.specs.FinSet.{empty};
     ghost use Rattle.hashtree.specs.Tree.{block_count};
     ghost use Rattle.node_maps.specs.Places.{tree_height};
-    ghost use Rattle.partial_tree.specs.Grown.{GrownTree as Grown, FollowsFromLeaves, grown, leaves_in};
+    ghost use Rattle.partial_tree.specs.Grown.{GrownTree as Grown, FollowsFromLeaves, grown, first_leaves};
     ghost use Rattle.partial_tree.specs.Codes.{grown_tree_code};
 
     ghost Value = { Grown };
 
     ghost coded = { grown_tree_code };
 
-    ghost view = { λ t. grown t.shape (leaves_in (N.seen t.nodes).known (block_count t.shape)) };
+    ghost view = { λ t. grown t.shape (first_leaves (N.seen t.nodes).known (block_count t.shape)) };
 
     ghost invariant = { λ t. ((N.seen t.nodes).length ≡ t.shape)
         × ((N.seen t.nodes).marked ≡ empty)

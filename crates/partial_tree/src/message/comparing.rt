@@ -1,80 +1,87 @@
-//! The first pass over what hashes claim: all of it is computed and compared with what is known,
-//! and nothing is written.
+//! What hashes claim, compared with what is known: nothing is written.
 
-ghost use Rattle.std.specs.Prelude.{◌≡◌, Some, IfSome, IfNone, OnSome};
-ghost use Rattle.node_maps.specs.Places.{tree_height};
+ghost use Rattle.std.specs.Prelude.{◌≡◌, ◌≤◌, ⊤, IfSome, IfNone};
 ghost use Rattle.node_maps.specs.Known.{look};
 ghost use Rattle.partial_tree.specs.Claims.{IsMismatch};
-ghost use Rattle.partial_tree.specs.Evidence.{claimed_by, IsClaimedPlace, AllHandled, BelowHandled, Grows, AreClaims, NotesNew};
+ghost use Rattle.partial_tree.specs.Evidence.{claimed_by, DiffersFrom, FindsClaims, IsInside, LeadsUp, Notes};
 
 use crate::message::evidence::Evidence;
-use crate::message::folding::{compare, fold};
+use crate::message::folding::fold;
 use crate::message::found::{Claim, NewClaims};
-use hashtree::{Hash, parent};
+use crate::message::visitor::Visitor;
 use node_maps::NodeMap;
+use std::alloc::Global;
 
-/// The hash that is claimed for a place, if what is claimed from there down differs nowhere from
-/// what is known. Notes the claims of places that are not known.
-#[cycle(trace)]
-pub(crate) fn trace<N: NodeMap>(
-    map: &N,
-    evidence: &Evidence,
-    found: &mut NewClaims,
-    layer: u32,
-    index: u64,
-) -> Option<Hash>
-    requires at { IsClaimedPlace (tree_height (N.seen map.now).length) evidence.now layer index }
-    requires sound { AreClaims (claimed_by evidence.now) found.old.claims.items }
-    requires notes_new { NotesNew (look (N.seen map.now).known) (claimed_by evidence.now)
-        found.old }
-    ensures value { IfSome result (λ v. claimed_by evidence.now layer index ≡ Some v) }
-    ensures handled { OnSome result (AllHandled (claimed_by evidence.now)
-        (look (N.seen map.now).known) found.new layer index) }
-    ensures differs { IfNone result (IsMismatch (look (N.seen map.now).known)
-        (claimed_by evidence.now)) }
-    ensures grows { Grows found.old found.new }
-    ensures sound { AreClaims (claimed_by evidence.now) found.new.claims.items }
-    ensures notes_new { NotesNew (look (N.seen map.now).known) (claimed_by evidence.now) found.new }
-{
-    let hash = derive(map, evidence, found, layer, index)?;
-    if !compare(map, found, Claim { layer, index, hash }) {
-        return None;
-    }
-    Some(hash)
+// The longest base range has this many places.
+const MOST_ASKED: usize = 8192;
+
+// The height of the highest tree.
+const MAX_HEIGHT: usize = 32;
+
+// How many claims are listed at most: those of the longest message. They take less than a
+// mebibyte.
+const MOST_LISTED: usize = 2 * MOST_ASKED + 2 * MAX_HEIGHT;
+
+// Compares each claim with what is known in a map that is lent, and notes it if nothing is known at
+// its place. A difference ends the visits.
+#[derive(Drop)]
+struct Compare<'a, N: NodeMap> {
+    map: &'a N,
+    found: NewClaims,
 }
 
-// The hash that is claimed for a place, given or computed, if what is claimed below it differs
-// nowhere from what is known. Notes the claims below it of places that are not known.
-#[cycle(trace)]
-fn derive<N: NodeMap>(
-    map: &N,
-    evidence: &Evidence,
-    found: &mut NewClaims,
-    layer: u32,
-    index: u64,
-) -> Option<Hash>
-    requires at { IsClaimedPlace (tree_height (N.seen map.now).length) evidence.now layer index }
-    requires sound { AreClaims (claimed_by evidence.now) found.old.claims.items }
-    requires notes_new { NotesNew (look (N.seen map.now).known) (claimed_by evidence.now)
-        found.old }
-    ensures value { IfSome result (λ v. claimed_by evidence.now layer index ≡ Some v) }
-    ensures handled { OnSome result (BelowHandled (claimed_by evidence.now)
-        (look (N.seen map.now).known) found.new layer index) }
-    ensures differs { IfNone result (IsMismatch (look (N.seen map.now).known)
-        (claimed_by evidence.now)) }
-    ensures grows { Grows found.old found.new }
-    ensures sound { AreClaims (claimed_by evidence.now) found.new.claims.items }
-    ensures notes_new { NotesNew (look (N.seen map.now).known) (claimed_by evidence.now) found.new }
-{
-    match evidence.given(layer, index) {
-        Some(hash) => Some(hash),
-        None => {
-            if layer == evidence.base + evidence.span {
-                return fold(map, evidence, found, layer, index);
+impl<'a, N: NodeMap> Visitor for Compare<'a, N> {
+    ghost use Rattle.std.proofs.Common.{subst};
+
+    ghost admits = { λ v c. ⊤ };
+
+    ghost visits = { λ v c w. (w.map.now ≡ v.map.now)
+        × Notes (N.seen v.map.now).known v.found c w.found };
+
+    ghost stops = { λ v c. DiffersFrom (N.seen v.map.now).known c };
+
+    fn visit(&mut self, claim: Claim) -> Option<()> {
+        match self.map.get(claim.layer, claim.index) {
+            Some(known) if known == claim.hash => Some(()),
+            Some(_) => None,
+            None => {
+                self.found.note(claim);
+                Some(())
             }
-            let left = trace(map, evidence, found, layer - 1, 2 * index)?;
-            let right = trace(map, evidence, found, layer - 1, 2 * index + 1)?;
-            Some(parent(&left, &right))
         }
     }
+
+    ghost admits_after = { λ v w c d is has. has };
+
+    ghost stops_before = { λ v w c d is differs.
+        subst (λ m. DiffersFrom (N.seen m).known d) is.0 differs };
+}
+
+/// What the evidence claims, up to the layer of the place to which it leads, at places that are not
+/// known. `None` if it differs somewhere from what is known.
+pub(crate) fn find_new<N: NodeMap>(
+    alloc: Global,
+    map: &N,
+    evidence: &Evidence,
+    layer: u32,
+) -> Option<NewClaims>
+    requires leads { LeadsUp evidence.now layer }
+    ensures found { IfSome result
+        (FindsClaims (look (N.seen map.now).known) (claimed_by evidence.now)) }
+    ensures differs { IfNone result (IsMismatch (look (N.seen map.now).known)
+        (claimed_by evidence.now)) }
+{
+    let found = NewClaims::new(alloc, room_for(evidence));
+    let mut compare = Compare { map, found };
+    fold(&mut compare, evidence, layer)?;
+    Some(compare.found)
+}
+
+// Room for all that a message claims: 16,448 places at most. None for a layer that claims more.
+fn room_for(evidence: &Evidence) -> usize
+    requires { IsInside evidence.now }
+    ensures { result ≤ 16448 }
+{
+    let most = (2usize << evidence.span) + 2 * MAX_HEIGHT;
+    if most <= MOST_LISTED { most } else { 0 }
 }

@@ -39,7 +39,7 @@ pub(crate) struct Evidence<'a> {
 impl<'a> Evidence<'a> {
     ghost use Rattle.node_maps.specs.Places.{IsKnown};
     ghost use Rattle.partial_tree.specs.Evidence.{range_of, hashes_of, given_by, row_first, row_height};
-    ghost use Rattle.partial_tree.specs.FoldedRows.{AreClaimedIn, place_in};
+    ghost use Rattle.partial_tree.specs.FoldedRows.{AreClaimedIn, place_in_row};
 
     /// The hash that is given for a place, if there is one.
     pub(crate) fn given(&self, layer: u32, index: u64) -> Option<Hash>
@@ -83,7 +83,7 @@ impl<'a> Evidence<'a> {
         requires node { row.now.node < 2 ^ 32 }
         requires layer { row.now.layer ≡ self.now.base }
         requires given { (j : ℕ) → j < 2 ^ row.now.depth
-            → IsKnown (given_by self.now) row.now.layer (place_in row.now j) }
+            → IsKnown (given_by self.now) row.now.layer (place_in_row row.now j) }
         ensures { AreClaimedIn (given_by self.now) row.now result }
     {
         let first = row.node * row.count();

@@ -1,109 +1,119 @@
-//! The fold of a base range: its hashes and those over it, row by row, of which up to eight are
-//! computed side by side. Each is compared with what is known, or noted.
+//! One pass over all that evidence claims: the hashes of the base range and those over it, row by
+//! row, of which up to eight are computed side by side, and then with each uncle the hash of the
+//! parent. Each goes to a visitor.
 
-ghost use Rattle.std.specs.Prelude.{◌≡◌, ◌+◌, ◌≤◌, None, Some, IfSome, IfNone, OnSome};
-ghost use Rattle.std.specs.Bool.{OnTrue, OnFalse};
-ghost use Rattle.node_maps.specs.Places.{tree_height, PartialTree};
-ghost use Rattle.node_maps.specs.Known.{look};
-ghost use Rattle.partial_tree.specs.Claims.{IsMismatch};
-ghost use Rattle.partial_tree.specs.Evidence.{claimed_by, given_by, IsClaimedPlace, BelowHandled, Grows, AreClaims, NotesNew, IsHandledClaim, DiffersFrom};
-ghost use Rattle.partial_tree.specs.FoldedRows.{AreClaimedIn, BelowRowHandled, IsClaimedRow, RowHandled};
+ghost use Rattle.std.specs.Prelude.{◌≡◌, ◌+◌, ◌%◌, Some, IfSome, IfNone, OnSome};
+ghost use Rattle.node_maps.specs.Digest.{join};
+ghost use Rattle.partial_tree.specs.Evidence.{claimed_by, node_over_base, LeadsUp};
+ghost use Rattle.partial_tree.specs.FoldedRows.{AreClaimedIn, IsClaimedRow, IsUnderUncle};
+ghost use Rattle.partial_tree.specs.Visits.{AdmitsAll, StopsAtClaim, VisitsAll, VisitsBelowRow, VisitsPair, VisitsRow};
 
-use crate::message::evidence::Evidence;
-use crate::message::found::{Claim, NewClaims};
+use crate::message::evidence::{Evidence, sibling};
+use crate::message::found::Claim;
 use crate::message::row::{EIGHT_DEPTH, Row, RowHashes, parents_of_row, parents_of_rows};
-use hashtree::Hash;
-use node_maps::NodeMap;
+use crate::message::visitor::Visitor;
+use hashtree::{Hash, parent};
 
-/// The hash that is claimed for the node over the base range, computed, if what is claimed below it
-/// differs nowhere from what is known. Notes the claims below it of places that are not known.
-pub(crate) fn fold<N: NodeMap>(
-    map: &N,
-    evidence: &Evidence,
-    found: &mut NewClaims,
-    layer: u32,
-    index: u64,
-) -> Option<Hash>
-    requires at { IsClaimedPlace (tree_height (N.seen map.now).length) evidence.now layer index }
-    requires not_given { given_by evidence.now layer index ≡ None }
-    requires cover { layer ≡ evidence.now.base + evidence.now.span }
-    requires sound { AreClaims (claimed_by evidence.now) found.old.claims.items }
-    requires notes_new { NotesNew (look (N.seen map.now).known) (claimed_by evidence.now)
-        found.old }
-    ensures value { IfSome result (λ v. claimed_by evidence.now layer index ≡ Some v) }
-    ensures handled { OnSome result (BelowHandled (claimed_by evidence.now)
-        (look (N.seen map.now).known) found.new layer index) }
-    ensures differs { IfNone result (IsMismatch (look (N.seen map.now).known)
-        (claimed_by evidence.now)) }
-    ensures grows { Grows found.old found.new }
-    ensures sound { AreClaims (claimed_by evidence.now) found.new.claims.items }
-    ensures notes_new { NotesNew (look (N.seen map.now).known) (claimed_by evidence.now) found.new }
+/// Hands each claim to the visitor, up to the layer of the place to which the evidence leads.
+/// `None` once a visit ended it.
+pub(crate) fn fold<V: Visitor>(visitor: &mut V, evidence: &Evidence, layer: u32) -> Option<()>
+    requires leads { LeadsUp evidence.now layer }
+    requires admits { AdmitsAll V.admits (claimed_by evidence.now) visitor.old }
+    ensures visited { OnSome result
+        (VisitsAll V.visits (claimed_by evidence.now) visitor.old visitor.new) }
+    ensures stopped { IfNone result
+        (StopsAtClaim V.stops (claimed_by evidence.now) visitor.old) }
 {
-    let top = Row {
-        layer,
+    let cover = Row {
+        layer: evidence.base + evidence.span,
         depth: 0,
-        node: index,
+        node: evidence.index >> evidence.span,
     };
-    let hashes = derive_row(map, evidence, found, top)?;
-    Some(hashes[0])
+    let mut hash = fold_row(visitor, evidence, cover)?[0];
+    'uncles: for below in cover.layer..layer {
+        hash = fold_uncle(visitor, evidence, below, &hash)?;
+    }
+    Some(())
 }
 
-// The hashes that are claimed for a row, if what is claimed from there down differs nowhere from
-// what is known. Notes the claims of places that are not known.
-#[cycle(fold)]
-fn trace_row<N: NodeMap>(
-    map: &N,
+// Hands the uncle of a layer to the visitor, and the parent over it and the node over the base
+// range, whose hash is given. Returns the parent's hash.
+fn fold_uncle<V: Visitor>(
+    visitor: &mut V,
     evidence: &Evidence,
-    found: &mut NewClaims,
-    row: Row,
-) -> Option<RowHashes>
-    requires at { IsClaimedRow (tree_height (N.seen map.now).length) evidence.now row }
-    requires sound { AreClaims (claimed_by evidence.now) found.old.claims.items }
-    requires notes_new { NotesNew (look (N.seen map.now).known) (claimed_by evidence.now)
-        found.old }
-    ensures value { IfSome result (AreClaimedIn (claimed_by evidence.now) row) }
-    ensures handled { OnSome result (RowHandled (claimed_by evidence.now)
-        (look (N.seen map.now).known) found.new row) }
-    ensures differs { IfNone result (IsMismatch (look (N.seen map.now).known)
-        (claimed_by evidence.now)) }
-    ensures grows { Grows found.old found.new }
-    ensures sound { AreClaims (claimed_by evidence.now) found.new.claims.items }
-    ensures notes_new { NotesNew (look (N.seen map.now).known) (claimed_by evidence.now) found.new }
+    layer: u32,
+    hash: &Hash,
+) -> Option<Hash>
+    requires at { IsUnderUncle evidence.now layer hash.now }
+    requires admits { AdmitsAll V.admits (claimed_by evidence.now) visitor.old }
+    ensures value { IfSome result (λ h. claimed_by evidence.now (layer + 1)
+        (node_over_base evidence.now (layer + 1)) ≡ Some h) }
+    ensures visited { OnSome result
+        (VisitsPair V.visits evidence.now layer visitor.old visitor.new) }
+    ensures stopped { IfNone result
+        (StopsAtClaim V.stops (claimed_by evidence.now) visitor.old) }
 {
-    let hashes = derive_row(map, evidence, found, row)?;
+    let node = evidence.index >> (layer - evidence.base);
+    let index = sibling(node);
+    let uncle = evidence.given(layer, index).unwrap();
+    visitor.visit(Claim {
+        layer,
+        index,
+        hash: uncle,
+    })?;
+    let hash = parent_of(node, hash, &uncle);
+    visitor.visit(Claim {
+        layer: layer + 1,
+        index: node / 2,
+        hash,
+    })?;
+    Some(hash)
+}
+
+// The parent of a node and its sibling.
+fn parent_of(node: u64, hash: &Hash, other: &Hash) -> Hash
+    ensures left { node % 2 ≡ 0 → result ≡ join hash.now other.now }
+    ensures right { node % 2 ≡ 1 → result ≡ join other.now hash.now }
+{
+    if node % 2 == 0 {
+        parent(hash, other)
+    } else {
+        parent(other, hash)
+    }
+}
+
+// Hands the claims of a row and below it to the visitor, and returns the row's hashes.
+#[cycle(fold)]
+fn fold_row<V: Visitor>(visitor: &mut V, evidence: &Evidence, row: Row) -> Option<RowHashes>
+    requires at { IsClaimedRow evidence.now row }
+    requires admits { AdmitsAll V.admits (claimed_by evidence.now) visitor.old }
+    ensures value { IfSome result (AreClaimedIn (claimed_by evidence.now) row) }
+    ensures visited { OnSome result
+        (VisitsRow V.visits (claimed_by evidence.now) row visitor.old visitor.new) }
+    ensures stopped { IfNone result
+        (StopsAtClaim V.stops (claimed_by evidence.now) visitor.old) }
+{
+    let hashes = fold_below(visitor, evidence, row)?;
     let layer = row.layer;
     let first = row.node * row.count();
     'places: for j in 0..row.count() {
         let index = first + j;
         let hash = hashes[j as usize];
-        if !compare(map, found, Claim { layer, index, hash }) {
-            return None;
-        }
+        visitor.visit(Claim { layer, index, hash })?;
     }
     Some(hashes)
 }
 
-// The hashes that are claimed for a row, given or computed, if what is claimed below it differs
-// nowhere from what is known. Notes the claims below it of places that are not known.
+// Hands the claims below a row to the visitor, and returns the row's hashes, given or computed.
 #[cycle(fold)]
-fn derive_row<N: NodeMap>(
-    map: &N,
-    evidence: &Evidence,
-    found: &mut NewClaims,
-    row: Row,
-) -> Option<RowHashes>
-    requires at { IsClaimedRow (tree_height (N.seen map.now).length) evidence.now row }
-    requires sound { AreClaims (claimed_by evidence.now) found.old.claims.items }
-    requires notes_new { NotesNew (look (N.seen map.now).known) (claimed_by evidence.now)
-        found.old }
+fn fold_below<V: Visitor>(visitor: &mut V, evidence: &Evidence, row: Row) -> Option<RowHashes>
+    requires at { IsClaimedRow evidence.now row }
+    requires admits { AdmitsAll V.admits (claimed_by evidence.now) visitor.old }
     ensures value { IfSome result (AreClaimedIn (claimed_by evidence.now) row) }
-    ensures handled { OnSome result (BelowRowHandled (claimed_by evidence.now)
-        (look (N.seen map.now).known) found.new row) }
-    ensures differs { IfNone result (IsMismatch (look (N.seen map.now).known)
-        (claimed_by evidence.now)) }
-    ensures grows { Grows found.old found.new }
-    ensures sound { AreClaims (claimed_by evidence.now) found.new.claims.items }
-    ensures notes_new { NotesNew (look (N.seen map.now).known) (claimed_by evidence.now) found.new }
+    ensures visited { OnSome result
+        (VisitsBelowRow V.visits (claimed_by evidence.now) row visitor.old visitor.new) }
+    ensures stopped { IfNone result
+        (StopsAtClaim V.stops (claimed_by evidence.now) visitor.old) }
 {
     if row.layer == evidence.base {
         return Some(evidence.base_row(&row));
@@ -112,34 +122,13 @@ fn derive_row<N: NodeMap>(
     if row.depth < EIGHT_DEPTH {
         let depth = row.depth + 1;
         let node = row.node;
-        let below = trace_row(map, evidence, found, Row { layer, depth, node })?;
+        let below = fold_row(visitor, evidence, Row { layer, depth, node })?;
         return Some(parents_of_row(&below, row.count() as usize));
     }
     let depth = row.depth;
     let node = 2 * row.node;
-    let left = trace_row(map, evidence, found, Row { layer, depth, node })?;
+    let left = fold_row(visitor, evidence, Row { layer, depth, node })?;
     let node = 2 * row.node + 1;
-    let right = trace_row(map, evidence, found, Row { layer, depth, node })?;
+    let right = fold_row(visitor, evidence, Row { layer, depth, node })?;
     Some(parents_of_rows(&left, &right))
-}
-
-/// Compares the hash that is claimed for a place with the known one, or notes the claim. False if
-/// the two differ.
-pub(crate) fn compare<N: NodeMap>(map: &N, found: &mut NewClaims, claim: Claim) -> bool
-    ensures same { OnTrue result (IsHandledClaim (N.seen map.now).known found.new claim) }
-    ensures differs { OnFalse result (DiffersFrom (N.seen map.now).known claim) }
-    ensures grows { Grows found.old found.new }
-    ensures sound { (C : PartialTree) → C claim.layer claim.index ≡ Some claim.hash
-        → AreClaims C found.old.claims.items → AreClaims C found.new.claims.items }
-    ensures notes_new { (C : PartialTree) → C claim.layer claim.index ≡ Some claim.hash
-        → NotesNew (look (N.seen map.now).known) C found.old
-        → NotesNew (look (N.seen map.now).known) C found.new }
-{
-    match map.get(claim.layer, claim.index) {
-        Some(known) => known == claim.hash,
-        None => {
-            found.note(claim);
-            true
-        }
-    }
 }

@@ -4,10 +4,12 @@ ghost use Rattle.std.specs.Prelude.{◌≡◌, ℕ, IfOk, IfErr, length};
 ghost use Rattle.node_maps.specs.Places.{tree_height, IsKnown, IsTreePlace};
 ghost use Rattle.node_maps.specs.Known.{look};
 ghost use Rattle.node_maps.specs.Nodes.{KeepsMarks};
+ghost use Rattle.partial_tree.specs.Claims.{IsAgreed};
+ghost use Rattle.partial_tree.specs.EndPads.{end_pads};
 ghost use Rattle.partial_tree.specs.LeafRows.{IsLeafRow, RowRefuses, TakesRow, piece_refusal};
 
 use crate::message::evidence::Evidence;
-use crate::message::storing::store;
+use crate::message::row_storing::store_row;
 use crate::nodes::TreeNodes;
 use crate::refusal::{HashRefusal, PieceRefusal};
 use hashtree::{Hash, zero};
@@ -16,8 +18,9 @@ use std::alloc::Global;
 
 impl<N: NodeMap> TreeNodes<N> {
     /// Takes the leaves under the node `first >> span` of layer `span`, and returns how many places
-    /// are newly known. Conditions: they are as many as blocks stand there, and what is known lies
-    /// in the tree.
+    /// are newly known. With the last block's leaf come the pads beside the file's end. Conditions:
+    /// they are as many as blocks stand there, and what is known lies in the tree and differs from
+    /// no such pad.
     pub(crate) fn take_leaves(
         &mut self,
         alloc: Global,
@@ -28,11 +31,12 @@ impl<N: NodeMap> TreeNodes<N> {
         requires row { IsLeafRow self.old.length first span (length hashes.now) }
         requires in_tree { (l i : ℕ) → IsKnown (look self.old.known) l i
             → IsTreePlace (tree_height self.old.length) l i }
+        requires pads { IsAgreed (look self.old.known) (end_pads self.old.length) }
         ensures stays { KeepsMarks self.old self.new }
-        ensures taken { IfOk result (λ c. TakesRow first span hashes.now
+        ensures taken { IfOk result (λ c. TakesRow self.old.length first span hashes.now
             self.old.known c self.new.known) }
         ensures refused { IfErr result (λ r.
-            RowRefuses (look self.old.known) first span hashes.now r
+            RowRefuses self.old.length (look self.old.known) first span hashes.now r
             × (self.new ≡ self.old)) }
     {
         let height = self.height();
@@ -48,7 +52,8 @@ impl<N: NodeMap> TreeNodes<N> {
             hashes,
             pad: zero(0),
         };
-        match store(alloc, &mut self.map, &evidence, span, node) {
+        let shape = self.shape;
+        match store_row(alloc, &mut self.map, &evidence, span, node, shape) {
             Ok(gained) => Ok(gained),
             Err(refusal) => Err(of_piece(refusal)),
         }

@@ -1,16 +1,16 @@
 //! Storing what hashes claim: all of it is compared first, then room is made, and only then is it
 //! written.
 
-ghost use Rattle.std.specs.Prelude.{◌≡◌, ◌⊎◌, ℕ, ◌+◌, ◌≤◌, OnOk, OnErr, IfOk, IfErr};
+ghost use Rattle.std.specs.Prelude.{◌≡◌, ◌⊎◌, ℕ, ◌+◌, ◌^◌, ◌<◌, ◌≤◌, OnOk, OnErr, IfOk, IfErr};
 ghost use Rattle.node_maps.specs.Places.{tree_height, IsTreePlace};
 ghost use Rattle.node_maps.specs.Known.{look};
 ghost use Rattle.node_maps.specs.Nodes.{KeepsMarks};
-ghost use Rattle.node_maps.specs.Room.{HasRoomFor};
+ghost use Rattle.node_maps.specs.Room.{HasRoomFor, KeepsRoom};
 ghost use Rattle.partial_tree.specs.Claims.{IsAgreed};
 ghost use Rattle.partial_tree.specs.Joins.{Joins};
-ghost use Rattle.partial_tree.specs.Evidence.{claimed_by, claimed_pages, LeadsTo, IsInside, AreClaims, AllHandled, StoreFault};
+ghost use Rattle.partial_tree.specs.Evidence.{claimed_by, claimed_pages, LeadsTo, LeadsUp, IsInside, FindsClaims, StoreFault};
 
-use crate::message::comparing::trace;
+use crate::message::comparing::find_new;
 use crate::message::evidence::Evidence;
 use crate::message::found::NewClaims;
 use crate::message::writing::{put_new, write_claimed};
@@ -18,16 +18,6 @@ use crate::refusal::HashRefusal;
 use hashtree::NoMemory;
 use node_maps::NodeMap;
 use std::alloc::Global;
-
-// The longest base range has this many places.
-const MOST_ASKED: usize = 8192;
-
-// The height of the highest tree.
-const MAX_HEIGHT: usize = 32;
-
-// How many claims are listed at most: those of the longest message. They take less than a
-// mebibyte.
-const MOST_LISTED: usize = 2 * MOST_ASKED + 2 * MAX_HEIGHT;
 
 /// Stores what the evidence claims, which leads to the place, and returns how many places are
 /// newly known. What is new is listed while it is compared, up to what the longest message claims;
@@ -53,10 +43,9 @@ pub(crate) fn store<N: NodeMap>(
         (claimed_by evidence.now) r
         × (N.seen map.new ≡ N.seen map.old)) }
 {
-    let mut found = NewClaims::new(alloc, room_for(evidence));
-    if trace(map, evidence, &mut found, layer, index).is_none() {
+    let Some(found) = find_new(alloc, map, evidence, layer) else {
         return Err(HashRefusal::Mismatch);
-    }
+    };
     if found.is_empty() {
         return Ok(0);
     }
@@ -64,7 +53,7 @@ pub(crate) fn store<N: NodeMap>(
         map.trim();
         return Err(HashRefusal::NoMemory);
     }
-    let gained = put_found(map, evidence, &found, layer, index);
+    let gained = put_found(map, evidence, &found, layer);
     map.trim();
     Ok(gained)
 }
@@ -94,51 +83,38 @@ pub(crate) fn store_agreed<N: NodeMap>(
         map.trim();
         return Err(refused);
     }
-    let gained = write_claimed(map, evidence, layer, index).1;
+    let gained = write_claimed(map, evidence, layer);
     map.trim();
     Ok(gained)
 }
 
-// Writes what was found new, or all that the evidence claims if the list is incomplete, and
-// returns how many places are newly known.
-fn put_found<N: NodeMap>(
+/// Writes what was found new, or all that the evidence claims if the list is incomplete, and
+/// returns how many places are newly known.
+pub(crate) fn put_found<N: NodeMap>(
     map: &mut N,
     evidence: &Evidence,
     found: &NewClaims,
     layer: u32,
-    index: u64,
 ) -> u64
-    requires low { tree_height (N.seen map.old).length ≤ 32 }
-    requires inside { IsInside evidence.now }
-    requires place { IsTreePlace (tree_height (N.seen map.old).length) layer index }
-    requires leads { LeadsTo evidence.now layer index }
+    requires leads { LeadsUp evidence.now layer }
     requires room { HasRoomFor (claimed_by evidence.now) (N.has_room map.old) }
-    requires sound { AreClaims (claimed_by evidence.now) found.now.claims.items }
-    requires handled { AllHandled (claimed_by evidence.now) (look (N.seen map.old).known) found.now
-        layer index }
+    requires found { FindsClaims (look (N.seen map.old).known) (claimed_by evidence.now) found.now }
     ensures stays { KeepsMarks (N.seen map.old) (N.seen map.new) }
     ensures held { N.held map.new ≡ N.held map.old }
+    ensures keeps { KeepsRoom (N.has_room map.old) (N.has_room map.new) }
     ensures stored { Joins (claimed_by evidence.now) (N.seen map.old).known (N.seen map.new).known
         result }
+    ensures few { result < 2 ^ 63 }
 {
     if found.incomplete {
-        return write_claimed(map, evidence, layer, index).1;
+        return write_claimed(map, evidence, layer);
     }
     put_new(map, &found.claims)
 }
 
-// Room for all that a message claims: 16,448 places at most. None for a layer that claims more.
-fn room_for(evidence: &Evidence) -> usize
-    requires { IsInside evidence.now }
-    ensures { result ≤ 16448 }
-{
-    let most = (2usize << evidence.span) + 2 * MAX_HEIGHT;
-    if most <= MOST_LISTED { most } else { 0 }
-}
-
-// Makes room for all that the evidence claims, which leads to the place: for each layer in one go,
-// and on no page that has no place of these rows.
-fn reserve_claimed<N: NodeMap>(
+/// Makes room for all that the evidence claims, which leads to the place: for each layer in one go,
+/// and on no page that has no place of these rows.
+pub(crate) fn reserve_claimed<N: NodeMap>(
     map: &mut N,
     evidence: &Evidence,
     layer: u32,

@@ -9,22 +9,43 @@ pub struct Amount(pub u64);
 
 impl fmt::Display for Amount {
     fn fmt<W: fmt::Write>(&self, f: &mut fmt::Formatter<W>) -> fmt::Result {
-        let mut whole = self.0;
-        let mut tenths = 0;
-        let mut unit = "B";
-        'units: for larger in UNITS {
-            if whole < 1024 {
-                break;
-            }
-            tenths = whole % 1024 * 10 / 1024;
-            whole /= 1024;
-            unit = larger;
+        let Scaled {
+            whole,
+            tenths,
+            unit,
+        } = in_unit(self.0);
+        match unit {
+            None => write!(f, "{whole} B"),
+            Some(unit) => write!(f, "{whole}.{tenths} {unit}"),
         }
-        if unit == "B" {
-            return write!(f, "{whole} B");
-        }
-        write!(f, "{whole}.{tenths} {unit}")
     }
+}
+
+// A number of bytes in its unit, bytes if none is given.
+#[derive(Clone, Copy)]
+struct Scaled {
+    whole: u64,
+    tenths: u64,
+    unit: Option<&'static str>,
+}
+
+fn in_unit(bytes: u64) -> Scaled {
+    let mut scaled = Scaled {
+        whole: bytes,
+        tenths: 0,
+        unit: None,
+    };
+    'units: for larger in UNITS {
+        if scaled.whole < 1024 {
+            break;
+        }
+        scaled = Scaled {
+            whole: scaled.whole / 1024,
+            tenths: scaled.whole % 1024 * 10 / 1024,
+            unit: Some(larger),
+        };
+    }
+    scaled
 }
 
 /// A number of seconds, as hours, minutes and seconds.

@@ -1,16 +1,17 @@
-use Rattle.std.proofs.Common.{◌≡◌, ◌<◌, ◌+◌, ◌-◌, ℕ, Bool, List, ◌∷◌, Bor, Some, length, map, rules, set, slice_get, subst, sym, ◌∙◌, ap, arith, refl}
+use Rattle.std.proofs.Common.{◌≡◌, ◌<◌, ◌≤◌, ◌+◌, ◌-◌, ℕ, Bool, List, ◌∷◌, Bor, Some, length, map, rules, set, slice_get, subst, sym, ◌∙◌, ap, arith, refl}
 use Rattle.std.proofs.lemmas.List.{length-map, length-set}
-use Rattle.std.proofs.lemmas.Option.{slice_get_read}
 use Rattle.part_drafts.specs.Parts.{KnownPaths}
-use Rattle.part_texts.specs.Divisions.{first_piece}
+use Rattle.part_texts.specs.Divisions.{capped, first_piece, hashed}
 use Rattle.part_texts.specs.Listings.{Listed}
 use Rattle.part_texts.specs.declared.division.Span.{Span}
+use Rattle.assembling.specs.Behind.{said_size}
 use Rattle.assembling.specs.Said.{EachSays, FitsCount}
+use Rattle.assembling.specs.Sizes.{row_size, rows_size}
+use Rattle.assembling.proofs.Behind.{all_passed, none_passed, one_passed}
 use Rattle.assembling.proofs.Fronts.{item_of}
 use Rattle.assembling.proofs.Joining.{legal_some}
 use Rattle.assembling.proofs.Passing.{IsUnderWay, all_taken, begun, held_size, map_set, part_read}
 use Rattle.assembling.proofs.Shares.{at_start, at_up}
-use Rattle.assembling.proofs.Unsaid.{all_passed, none_passed, one_passed, unread}
 use Rattle.assembling.proofs.all_rows.rows_of.Goals as goal
 
 counted : (under : KnownPaths) (p : ℕ) (hybrid : Bool) (total n parts before : ℕ) (files : List Listed) (texts : List (List ℕ)) → n ≡ parts
@@ -27,9 +28,8 @@ parts-init c =
     record {
       end = search rules;
       rows = refl;
-      places = refl;
       each = record { nodes = ap length c.new.ensures.items ∙ none; cuts = λ is. ap length c.new-2.ensures.items ∙ none };
-      passing = λ f fs same. none_passed d.piece_length c.args.hybrid d.total d.parts c.args.before f fs texts;
+      passing = none_passed (said_size d.piece_length c.args.hybrid d.total d.parts c.args.before c.args.bytes) texts;
       way = λ under f fs content same held.
           begun under d.piece_length c.args.hybrid d.total d.parts c.args.before f fs content _ texts c.requires.legal any
           c.new.ensures.items c.new-2.ensures.items
@@ -53,73 +53,64 @@ parts-preserved c =
     c.count-count.ensures ∙ ap (λ (s : Span). s.to - s.from) c.span.ensures in
     let there : slice_get (map (λ x. x.now) items) part ≡ Some entry.now = item_of (λ x. x.now) items part entry low
     ∙ ap (λ (x : Bor (List ℕ)). Some x.now) (sym c.index.ensures) in
-    let added = rw c.in-Some.is at c.in_ok-rest.ensures.count in
+    let added = c.in_ok-parts.ensures.count in
     let up = at_up p d.total d.parts c.args.before c.args.bytes (legal_some p c.requires.legal) part low_part in
     record {
       end = inv.end;
-      rows = length-set items part c.in-Some.rest ∙ inv.rows;
-      places = inv.places;
+      rows = length-set items part c.in_ok-parts.field-0 ∙ inv.rows;
       each = record {
         nodes = omega (arith, added.nodes, inv.each.nodes, span, up);
         cuts = λ is. omega (arith, added.cuts is, inv.each.cuts is, span, up);
       };
-      passing = λ f fs same.
-          let span_is : c.count-count.result ≡ first_piece p d.total d.parts c.args.before f.bytes (part + 1)
-          - first_piece p d.total d.parts c.args.before f.bytes part =
-          span ∙ ap (λ n. first_piece p d.total d.parts c.args.before n (part + 1) - first_piece p d.total d.parts c.args.before n part) (sym same) in
-          one_passed p c.args.hybrid d.total d.parts c.args.before f fs part (map (λ x. x.now) old) (map (λ x. x.now) items)
-          (map (λ x. x.now) (set items part c.in-Some.rest)) entry.now c.in-Some.rest.now c.requires.legal (inv.passing f fs same) there
-          (map_set (λ x. x.now) items part c.in-Some.rest)
-          (λ none. let read = rw c.in-Some.is at (c.in_ok-rest.ensures.nothing (span_is ∙ none)) in read.0)
-          (λ row more some fitting is. let read = rw c.in-Some.is at (c.in_ok-rest.ensures.said row more (subst (λ n. 0 < n) (sym span_is) some)
-          (subst (λ n. FitsCount n row) (sym span_is) fitting) is) in read.0);
+      passing = one_passed (said_size p c.args.hybrid d.total d.parts c.args.before c.args.bytes) part (map (λ x. x.now) old) (map (λ x. x.now) items)
+          (map (λ x. x.now) (set items part c.in_ok-parts.field-0)) entry.now c.in_ok-parts.field-0.now inv.passing there
+          (map_set (λ x. x.now) items part c.in_ok-parts.field-0)
+          (ap (λ n. length c.in_ok-parts.field-0.now + row_size c.args.hybrid n) (sym span) ∙ c.in_ok-parts.ensures.size);
       way = λ under f fs content same held.
           let span_is : c.count-count.result ≡ first_piece p d.total d.parts c.args.before f.bytes (part + 1)
           - first_piece p d.total d.parts c.args.before f.bytes part =
           span ∙ ap (λ n. first_piece p d.total d.parts c.args.before n (part + 1) - first_piece p d.total d.parts c.args.before n part) (sym same) in
           let any : 0 < length (map (λ x. x.now) old) = omega (arith, length-map old (λ x. x.now), c.requires.some) in
           let size = held_size under p c.args.hybrid d.total c.args.before f fs content (map (λ x. x.now) old) c.requires.legal any held in
-          part_read under p c.args.hybrid d.total d.parts c.args.before f fs content part entry.now c.in-Some.rest.now c.parts.rows c.read_row.new.rows
-          (map (λ x. x.now) items) (map (λ x. x.now) (set items part c.in-Some.rest)) c.requires.legal low_part held.known held.short size there
-          (map_set (λ x. x.now) items part c.in-Some.rest) (inv.way under f fs content same held)
-          (λ none. rw c.in-Some.is at (c.in_ok-rest.ensures.nothing (span_is ∙ none)))
-          (λ row more some fitting is. rw c.in-Some.is at (c.in_ok-rest.ensures.said row more (subst (λ n. 0 < n) (sym span_is) some)
-          (subst (λ n. FitsCount n row) (sym span_is) fitting) is));
+          part_read under p c.args.hybrid d.total d.parts c.args.before f fs content part entry.now c.in_ok-parts.field-0.now c.parts.rows c.read_row.new.rows
+          (map (λ x. x.now) items) (map (λ x. x.now) (set items part c.in_ok-parts.field-0)) c.requires.legal low_part held.known held.short size there
+          (map_set (λ x. x.now) items part c.in_ok-parts.field-0) (inv.way under f fs content same held)
+          (λ none. c.in_ok-parts.ensures.nothing (span_is ∙ none))
+          (λ row more some fitting is. c.in_ok-parts.ensures.said row more (subst (λ n. 0 < n) (sym span_is) some)
+          (subst (λ n. FitsCount n row) (sym span_is) fitting) is);
     }
 
-pub returns-in_default-clause-reason : goal.returns-in_default-clause-reason
-returns-in_default-clause-reason c = λ f fs same.
+pub read_row-requires : goal.read_row-requires
+read_row-requires c =
     let d = c.args.division.now in
     let p = d.piece_length in
     let inv = c.parts.invariant in
     let part = c.parts.part in
     let items = c.parts.parts.rows.items in
-    let old = c.args.parts.now.rows.items in
     let entry = c.index.result.now in
     let low : part < length items = omega (arith, c.parts-test.true, inv.end, inv.rows) in
+    let span : c.count-count.result ≡ first_piece p d.total d.parts c.args.before c.args.bytes (part + 1)
+    - first_piece p d.total d.parts c.args.before c.args.bytes part =
+    c.count-count.ensures ∙ ap (λ (s : Span). s.to - s.from) c.span.ensures in
     let there : slice_get (map (λ x. x.now) items) part ≡ Some entry.now = item_of (λ x. x.now) items part entry low
     ∙ ap (λ (x : Bor (List ℕ)). Some x.now) (sym c.index.ensures) in
-    let span_is : c.count-count.result ≡ first_piece p d.total d.parts c.args.before f.bytes (part + 1)
-    - first_piece p d.total d.parts c.args.before f.bytes part =
-    c.count-count.ensures ∙ ap (λ (s : Span). s.to - s.from) c.span.ensures
-    ∙ ap (λ n. first_piece p d.total d.parts c.args.before n (part + 1) - first_piece p d.total d.parts c.args.before n part) (sym same) in
-    let places : length c.parts.parts.places.items ≡ length items = ap (λ x. length x.items) inv.places ∙ c.requires.places ∙ sym inv.rows in
-    let at : slice_get c.args.parts.now.places.items part ≡ Some c.index-in_default.result.now = ap (λ x. slice_get x.items part) (sym inv.places)
-    ∙ slice_get_read c.parts.parts.places.items (length items) part c.index-in_default.result.now (sym places) low c.index-in_default.ensures in
-    unread p c.args.hybrid d.total d.parts c.args.before f fs (map (λ x. x.now) old) (map (λ x. x.now) items) part c.index-in_default.result.now entry.now
-    c.args.parts.now c.requires.legal (inv.passing f fs same) refl at there
-    (λ none. let read = rw c.in_default.is at (c.in_ok-rest.ensures.nothing (span_is ∙ none)) in read)
-    (λ row more some fitting is. let read = rw c.in_default.is at (c.in_ok-rest.ensures.said row more (subst (λ n. 0 < n) (sym span_is) some)
-    (subst (λ n. FitsCount n row) (sym span_is) fitting) is) in read)
+    let room = c.requires.room part entry.now (inv.passing.todo part entry.now (omega arith) there) in
+    subst (λ n. row_size c.args.hybrid n ≤ length entry.now) (sym span) room
 
-pub returns-clause-passes : goal.returns-clause-passes
-returns-clause-passes c = λ f fs same.
+pub returns-clause-long : goal.returns-clause-long
+returns-clause-long c = λ f fs same long.
     let d = c.args.division.now in
+    let p = d.piece_length in
     let inv = c.parts.invariant in
     let old = c.args.parts.now.rows.items in
+    let new = c.parts.parts.rows.items in
     let end : length (map (λ x. x.now) old) ≡ c.parts.part = omega (arith, length-map old (λ x. x.now), c.parts-test.false, c.parts.auto.part-end, inv.end) in
-    all_passed d.piece_length c.args.hybrid d.total d.parts c.args.before f fs (map (λ x. x.now) old) (map (λ x. x.now) c.parts.parts.rows.items) c.parts.part
-    end (inv.passing f fs same)
+    all_passed (said_size p c.args.hybrid d.total d.parts c.args.before c.args.bytes)
+    (λ q. rows_size p c.args.hybrid d.total d.parts q (capped c.args.before (hashed c.args.bytes)) fs) c.parts.part (map (λ x. x.now) old)
+    (map (λ x. x.now) new) (length-map old (λ x. x.now) ∙ sym inv.rows ∙ sym (length-map new (λ x. x.now))) end inv.passing
+    (λ q text at. long q text at
+    ∙ ap (λ n. said_size p c.args.hybrid d.total d.parts c.args.before n q
+    + rows_size p c.args.hybrid d.total d.parts q (capped c.args.before (hashed n)) fs) same)
 
 pub returns-clause-taken : goal.returns-clause-taken
 returns-clause-taken c = λ under f fs content same held.

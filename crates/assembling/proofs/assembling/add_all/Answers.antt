@@ -1,7 +1,7 @@
-use Rattle.std.proofs.Common.{◌≡◌, ◌<◌, ◌+◌, ◌∷◌, ℕ, Bor, List, Some, ap, arith, drop, get_or, length, map, rules, slice_get, subst, sym, take_all, ◌∙◌, ◌^◌}
+use Rattle.std.proofs.Common.{◌≡◌, ◌<◌, ◌+◌, ◌∷◌, [], ℕ, Bor, List, Some, ap, arith, drop, get_or, length, map, rules}
+use Rattle.std.proofs.Common.{slice_get, subst, sym, suc, take, take_all, zero, ◌∙◌, ◌^◌}
 use Rattle.std.proofs.Common.{inl, inr, refl}
 use Rattle.std.proofs.lemmas.List.{length-map}
-use Rattle.std.proofs.lemmas.Result.{err_from_is_err_and}
 use Rattle.std.proofs.lemmas.Bool.{cases_lt}
 use Rattle.std.specs.String.{string_bytes}
 use Rattle.drafts.specs.Outline.{empty_outline}
@@ -12,14 +12,15 @@ use Rattle.part_texts.specs.declared.listing.ListedFile.{ListedFile}
 use Rattle.part_texts.specs.declared.listing.Listing.{Listing}
 use Rattle.assembling.specs.Added.{HasAdded, IsWithListed}
 use Rattle.assembling.specs.Assembly.{RefusesListed}
+use Rattle.assembling.specs.Behind.{behind}
+use Rattle.assembling.specs.Late.{RefusesWhole}
 use Rattle.assembling.specs.Said.{EachSays}
 use Rattle.assembling.specs.Taking.{IsOfContent}
-use Rattle.assembling.proofs.Assembled.{all_gathered, files_from, held_at, one_further, says_as}
+use Rattle.chains.proofs.Cases.{drop_item}
+use Rattle.assembling.proofs.Assembled.{long_as, all_gathered, held_at, one_further, says_as}
 use Rattle.assembling.proofs.Drafts.{next_added}
 use Rattle.assembling.proofs.Fronts.{item_of, same_item}
-use Rattle.assembling.proofs.Refusing.{refused_content, too_long}
-use Rattle.assembling.specs.Unsaid.{behind}
-use Rattle.assembling.proofs.Unsaid.{named_before, passed_more, passes_as}
+use Rattle.assembling.proofs.Refusing.{refused_content, refused_whole, too_long}
 use Rattle.assembling.proofs.assembling.add_all.Goals as goal
 
 pub files-preserved : goal.files-preserved
@@ -34,23 +35,19 @@ files-preserved c =
       listing = search rules;
       end = search rules;
       rows = search rules;
-      places = search rules;
       piece_length = search rules;
       hybrid = search rules;
-      places_are = search rules;
-      passing =
+      long =
           let fs = map listed l.files.items in
           let f = listed file in
           let at : slice_get fs i ≡ Some f = item_of listed l.files.items i file lt ∙ ap (λ x. Some (listed x)) (sym is) in
           let kind = ap (λ (q : Listing). q.hybrid) c.files.invariant.listing in
-          passed_more d.piece_length l.hybrid d.total d.parts fs c.files.before c.saturating_add-before.result (drop i fs) (drop (i + 1) fs)
-          (behind c.args.parts) (behind c.files.parts) (behind c.rows_of.new.parts)
-          (length-map c.args.parts.rows.items (λ x. x.now) ∙ sym c.files.invariant.rows ∙ sym (length-map c.files.parts.rows.items (λ x. x.now)))
-          c.files.invariant.passing
-          (passes_as d.piece_length c.files.listing.hybrid l.hybrid d.total d.parts c.files.before (capped c.files.before (hashed f.bytes))
-          c.saturating_add-before.result (f ∷ drop (i + 1) fs) (drop i fs) (drop (i + 1) fs) (behind c.files.parts) (behind c.rows_of.new.parts) kind
-          (sym (files_from fs i f at)) (sym (c.saturating_add-before.ensures ∙ ap (capped c.files.before) c.hashed.ensures))
-          (c.in_ok-rows.ensures.passes f (drop (i + 1) fs) refl));
+          long_as d.piece_length d.total d.parts c.files.listing.hybrid l.hybrid (capped c.files.before (hashed f.bytes)) c.saturating_add-before.result
+          (drop (i + 1) fs) (drop (i + 1) fs) (behind c.rows_of.new.parts) kind
+          (sym (c.saturating_add-before.ensures ∙ ap (capped c.files.before) c.hashed.ensures)) refl
+          (c.in_ok-rows.ensures.long f (drop (i + 1) fs) refl
+          (long_as d.piece_length d.total d.parts l.hybrid c.files.listing.hybrid c.files.before c.files.before (drop i fs) (f ∷ drop (i + 1) fs)
+          (behind c.files.parts) (sym kind) refl (drop_item fs i f at) c.files.invariant.long));
       so_far = next_added (empty_outline (string_bytes l.name) l.piece_length l.hybrid) c.files.draft c.add_file.new.draft l.files.items i file lt
           c.files.invariant.so_far
           (subst (λ y. IsWithListed c.files.draft c.add_file.new.draft (listed y)) is c.in-Ok-add_file.ensures.added);
@@ -64,7 +61,7 @@ files-preserved c =
           let texts' = map (λ (x : Bor (List ℕ)). x.now) c.rows_of.new.parts.rows.items in
           let kind = ap (λ (q : Listing). q.hybrid) c.files.invariant.listing in
           let here = says_as under l.piece_length d.piece_length l.hybrid c.files.listing.hybrid (total_of fs) d.total (length texts) c.files.before
-          (drop i fs) (f ∷ drop (i + 1) fs) texts (sym c.requires.shared) (sym kind) (sym c.requires.total) (files_from fs i f at) so.says in
+          (drop i fs) (f ∷ drop (i + 1) fs) texts (sym c.requires.shared) (sym kind) (sym c.requires.total) (drop_item fs i f at) so.says in
           let taken = c.in_ok-rows.ensures.taken under f (drop (i + 1) fs) h.0 refl
           (record { says = here; known = h.2; short = c.in-Ok-add_file.ensures.short }) in
           let adds = c.in-Ok-add_file.ensures.content h.0
@@ -75,8 +72,9 @@ files-preserved c =
           (capped c.files.before (hashed f.bytes)) (drop (i + 1) fs) (drop (i + 1) fs) texts' c.requires.shared kind c.requires.total refl taken.later) so;
     }
 
-pub returns-in_err-rows-clause-reason : goal.returns-in_err-rows-clause-reason
-returns-in_err-rows-clause-reason c =
+-- there is room for what each part says of the next file
+pub rows_of-requires-clause-room : goal.rows_of-requires-clause-room
+rows_of-requires-clause-room c = λ part rest there.
     let l = c.args.listing in
     let d = c.args.division.now in
     let i = c.files.number in
@@ -87,11 +85,37 @@ returns-in_err-rows-clause-reason c =
     let f = listed file in
     let at : slice_get fs i ≡ Some f = item_of listed l.files.items i file lt ∙ ap (λ x. Some (listed x)) (sym is) in
     let kind = ap (λ (q : Listing). q.hybrid) c.files.invariant.listing in
-    let p = err_from_is_err_and c.from_residual.result c.from_residual.ensures.1 in
-    named_before d.piece_length c.files.listing.hybrid l.hybrid d.total d.parts fs c.files.before (f ∷ drop (i + 1) fs) (drop i fs) c.args.parts
-    c.files.parts _ p.0 c.from_residual.result p.1 p.2 kind (sym (files_from fs i f at)) c.files.invariant.places_are
-    (length-map c.args.parts.rows.items (λ x. x.now) ∙ sym c.files.invariant.rows ∙ sym (length-map c.files.parts.rows.items (λ x. x.now)))
-    c.files.invariant.passing (c.in_err-rows.ensures.reason f (drop (i + 1) fs) refl)
+    let long = long_as d.piece_length d.total d.parts l.hybrid c.files.listing.hybrid c.files.before c.files.before (drop i fs) (f ∷ drop (i + 1) fs)
+    (behind c.files.parts) (sym kind) refl (drop_item fs i f at) c.files.invariant.long in
+    omega (arith, long part rest there)
+
+-- the files before the next one were added
+added_so_far : (files : List ListedFile) (i : ℕ) → map listed (take i files) ≡ take i (map listed files)
+added_so_far files zero = refl
+added_so_far [] (suc i) = refl
+added_so_far (x ∷ files) (suc i) = ap (λ fs. listed x ∷ fs) (added_so_far files i)
+
+pub returns-in-Err-Refused-clause-reason : goal.returns-in-Err-Refused-clause-reason
+returns-in-Err-Refused-clause-reason c =
+    let l = c.args.listing in
+    let i = c.files.number in
+    let file = c.index-file.result.now in
+    let is : file ≡ get_or l.files.items i file = c.index-file.ensures ∙ ap (λ (q : Listing). get_or q.files.items i file) c.files.invariant.listing in
+    let lt : i < length l.files.items = omega (arith, c.files-test.true, c.files.invariant.end) in
+    record {
+      number = i;
+      file = listed file;
+      there = item_of listed l.files.items i file lt ∙ ap (λ x. Some (listed x)) (sym is);
+      path_is = ap (λ (x : ListedFile). path_bytes x.path) (c.swap_remove-refused.ensures.value
+          ∙ same_item c.files.listing.files.items i _ file (omega (arith, lt, ap (λ (q : Listing). length q.files.items) c.files.invariant.listing))
+          ∙ sym c.index-file.ensures);
+      draft = c.files.draft;
+      before = subst (λ fs. HasAdded (empty_outline (string_bytes l.name) l.piece_length l.hybrid) fs c.files.draft) (added_so_far l.files.items i)
+          c.files.invariant.so_far;
+      why = subst (RefusesWhole c.files.draft (listed file)) (sym c.in-Err-Refused.refusal-is)
+          (refused_whole c.files.draft (listed file) c.in-Err-Refused.field-0 c.in-Err-Refused.refusal c.in-Err-Refused.field-0-is
+          c.in-Err-Refused.ensures.refused);
+    }
 
 pub returns-clause-draft : goal.returns-clause-draft
 returns-clause-draft c =
@@ -126,7 +150,7 @@ returns-in-Err-Refused-clause-gathers c = λ under contents held given.
     let texts = map (λ (x : Bor (List ℕ)). x.now) c.files.parts.rows.items in
     let kind = ap (λ (q : Listing). q.hybrid) c.files.invariant.listing in
     let here = says_as under l.piece_length d.piece_length l.hybrid c.files.listing.hybrid (total_of fs) d.total (length texts) c.files.before
-    (drop i fs) (f ∷ drop (i + 1) fs) texts (sym c.requires.shared) (sym kind) (sym c.requires.total) (files_from fs i f at) so.says in
+    (drop i fs) (f ∷ drop (i + 1) fs) texts (sym c.requires.shared) (sym kind) (sym c.requires.total) (drop_item fs i f at) so.says in
     inr (record {
       number = i;
       file = f;

@@ -5,13 +5,10 @@ use Rattle.std.proofs.lemmas.Option.{same_Some, slice_get_read, slice_get_within
 use Rattle.part_texts.specs.Listings.{listed}
 use Rattle.assembling.specs.Sizes.{rows_size}
 use Rattle.assembling.proofs.Fronts.{item_of}
-use Rattle.assembling.proofs.RowTexts.{says_length}
 use Rattle.assembling.proofs.sizes.test_sizes.Goals as goal
 
 pub returns-then-index-size-clause-reason : goal.returns-then-index-size-clause-reason
 returns-then-index-size-clause-reason c =
-    let d = c.args.division.now in
-    let l = c.args.listing.now in
     let p = c.args.parts.now in
     let part = c.parts.part in
     let entry = c.index.result.now in
@@ -23,9 +20,8 @@ returns-then-index-size-clause-reason c =
       at = slice_get_read p.places.items (length p.rows.items) part c.index-then-index-size.result.now (sym c.requires.places) low
           c.index-then-index-size.ensures;
       there = item_of (λ x. x.now) p.rows.items part entry low ∙ ap (λ (x : Bor (List ℕ)). Some x.now) (sym c.index.ensures);
-      unsaid = λ under says.
-          let size = says_length under d.piece_length l.hybrid d.total d.parts part 0 (map listed l.files.items) entry.now c.requires.legal says in
-          is (omega (arith, size, c.size_of-size.ensures));
+      other = λ size. is (omega (arith, size, c.size_of-size.ensures));
+      before = λ q earlier less there. c.parts.invariant.sizes q earlier less there;
     }
 
 pub parts-preserved : goal.parts-preserved

@@ -1,7 +1,7 @@
 use Rattle.std.proofs.Common.{◌≡◌, ◌<◌, ℕ, List, Some, length, map, slice_get}
 use Rattle.part_texts.specs.Listings.{listed}
+use Rattle.assembling.specs.Behind.{behind}
 use Rattle.assembling.specs.Sizes.{rows_size}
-use Rattle.assembling.specs.Unsaid.{behind}
 use Rattle.assembling.proofs.sizes.test_sizes.Given as goal
 
 abbrev pub invariant-parts : goal.invariant-parts

@@ -1,4 +1,4 @@
-use Rattle.std.proofs.Common.{◌≡◌, ℕ, List, Option, ◌-◌, inl, length, map, take, [], ◌∷◌, ◌++◌, Some, None, Ok, option_copied, refl, sym, ap, ◌∙◌, arith}
+use Rattle.std.proofs.Common.{◌≡◌, ◌-◌, inl, length, map, take, [], ◌∷◌, ◌++◌, Ok, Err, option_copied, refl, sym, ap, ◌∙◌, arith}
 use Rattle.std.specs.Int.{w64}
 use Rattle.std.proofs.lemmas.Int.{to_z-of_z}
 use Rattle.std.proofs.lemmas.Result.{err_from_is_err_and}
@@ -20,15 +20,17 @@ use Rattle.benc.proofs.parser.+read.Goals as goal
 use Rattle.benc.proofs.parser.+read.Goals.{value-in_default-first-via-then-first-lt48, value-in_default-first-via-else-first-lt48+else-first-lt58}
 
 pub value-returns-in_default-clause-read : goal.value-returns-in_default-clause-read
-value-returns-in_default-clause-read t c = value_none c.args.room c.args.bytes.now (grind arith)
+value-returns-in_default-clause-read t c = value_none c.args.room c.args.bytes.now (grind arith) ∙ ap Err (sym c.at.ensures)
 
 pub value-returns-then-room-eq0-clause-read : goal.value-returns-then-room-eq0-clause-read
 value-returns-then-room-eq0-clause-read t c =
     list_too_deep c.args.room c.args.bytes.now c.in-Some.rest.now (omega arith) (at_front c.in-Some.ensures c.in-108.is)
+    ∙ ap Err (sym c.at-then-room-eq0.ensures)
 
 pub value-returns-then-room-eq0-2-clause-read : goal.value-returns-then-room-eq0-2-clause-read
 value-returns-then-room-eq0-2-clause-read t c =
     dict_too_deep c.args.room c.args.bytes.now c.in-Some.rest.now (omega arith) (at_front c.in-Some.ensures c.in-100.is)
+    ∙ ap Err (sym c.at-then-room-eq0-2.ensures)
 
 pub value-returns-in-Ok-clause-kept : goal.value-returns-in-Ok-clause-kept
 value-returns-in-Ok-clause-kept t c kept =
@@ -46,6 +48,7 @@ pub value-returns-in-Err-clause-read : goal.value-returns-in-Err-clause-read
 value-returns-in-Err-clause-read t c =
     let bytes = c.args.bytes.now in
     value_integer c.args.room bytes _ (at_front c.in-Some.ensures c.in-105.is) ∙ ap (λ r. begun_at bytes r >>= λ x. Ok (int x.0, x.1)) c.in-Err.ensures.read
+    ∙ ap Err (sym c.at-in-Err.ensures)
 
 pub value-returns-in-Ok-string-clause-kept : goal.value-returns-in-Ok-string-clause-kept
 value-returns-in-Ok-string-clause-kept t c kept =
@@ -62,9 +65,8 @@ value-returns-in-Ok-string-clause-read t c =
 
 pub value-returns-in-Err-string-clause-read : goal.value-returns-in-Err-string-clause-read
 value-returns-in-Err-string-clause-read t c =
-    let bytes = c.args.bytes.now in
-    value_text c.args.room bytes c.in-Some.rest.now c.in-Some.first (omega arith) (omega arith) c.in-Some.ensures
-    ∙ ap (λ r. begun_at bytes r >>= λ x. Ok (text x.0, x.1)) c.in-Err-string.ensures.read
+    value_text c.args.room c.args.bytes.now c.in-Some.rest.now c.in-Some.first (omega arith) (omega arith) c.in-Some.ensures
+    ∙ ap (λ r. begun_at c.args.bytes.now r >>= λ x. Ok (text x.0, x.1)) c.in-Err-string.ensures.read ∙ ap Err (sym c.at-in-Err-string.ensures)
 
 pub value-returns-in_default-first-clause-read : goal.value-returns-in_default-first-clause-read
 value-returns-in_default-first-clause-read t c =
@@ -72,14 +74,13 @@ value-returns-in_default-first-clause-read t c =
     (λ low high. elim c.in_default-first.branch [
       | value-in_default-first-via-then-first-lt48 w ↦ omega arith
       | value-in_default-first-via-else-first-lt48+else-first-lt58 w ↦ omega arith
-    ]) c.in-Some.ensures
+    ]) c.in-Some.ensures ∙ ap Err (sym c.at-in_default-first.ensures)
 
 pub value-returns-in_ok-found-in-108-clause-read : goal.value-returns-in_ok-found-in-108-clause-read
 value-returns-in_ok-found-in-108-clause-read t c =
-    let bytes = c.args.bytes.now in
     let rest = c.in-Some.rest.now in
-    left_mapped (items_behind (c.args.room - 1) rest) list (value_at c.args.room bytes) c.in_ok-found-in-108.after.now
-    (value_items c.args.room bytes rest (omega arith) (at_front c.in-Some.ensures c.in-108.is)) c.in_ok-found-in-108.ensures.read
+    left_mapped (items_behind (c.args.room - 1) rest) list (value_at c.args.room c.args.bytes.now) c.in_ok-found-in-108.after.now
+    (value_items c.args.room c.args.bytes.now rest (omega arith) (at_front c.in-Some.ensures c.in-108.is)) c.in_ok-found-in-108.ensures.read
 
 pub value-returns-in_ok-found-in-108-clause-kept : goal.value-returns-in_ok-found-in-108-clause-kept
 value-returns-in_ok-found-in-108-clause-kept t c kept =
@@ -89,17 +90,15 @@ value-returns-in_ok-found-in-108-clause-kept t c kept =
 
 pub value-returns-in_ok-found-in-108-clause-memory : goal.value-returns-in_ok-found-in-108-clause-memory
 value-returns-in_ok-found-in-108-clause-memory t c =
-    let bytes = c.args.bytes.now in
-    let rest = c.in-Some.rest.now in
-    refused_more _ _ (GrowsForItem (c.args.room - 1) bytes rest) (Reaches c.args.room bytes) c.in_ok-found-in-108.ensures.memory
-    (λ there r. list_reaches c.args.room bytes rest there (omega arith) (at_front c.in-Some.ensures c.in-108.is) r)
+    refused_more _ _ (GrowsForItem (c.args.room - 1) c.args.bytes.now c.in-Some.rest.now) (Reaches c.args.room c.args.bytes.now)
+    c.in_ok-found-in-108.ensures.memory
+    (λ there r. list_reaches c.args.room c.args.bytes.now c.in-Some.rest.now there (omega arith) (at_front c.in-Some.ensures c.in-108.is) r)
 
 pub value-returns-in_ok-found-in-100-clause-read : goal.value-returns-in_ok-found-in-100-clause-read
 value-returns-in_ok-found-in-100-clause-read t c =
-    let bytes = c.args.bytes.now in
     let rest = c.in-Some.rest.now in
-    left_mapped (pairs_behind (c.args.room - 1) rest) dict (value_at c.args.room bytes) c.in_ok-found-in-100.after.now
-    (value_pairs c.args.room bytes rest (omega arith) (at_front c.in-Some.ensures c.in-100.is)) c.in_ok-found-in-100.ensures.read
+    left_mapped (pairs_behind (c.args.room - 1) rest) dict (value_at c.args.room c.args.bytes.now) c.in_ok-found-in-100.after.now
+    (value_pairs c.args.room c.args.bytes.now rest (omega arith) (at_front c.in-Some.ensures c.in-100.is)) c.in_ok-found-in-100.ensures.read
 
 pub value-returns-in_ok-found-in-100-clause-kept : goal.value-returns-in_ok-found-in-100-clause-kept
 value-returns-in_ok-found-in-100-clause-kept t c kept =
@@ -109,10 +108,9 @@ value-returns-in_ok-found-in-100-clause-kept t c kept =
 
 pub value-returns-in_ok-found-in-100-clause-memory : goal.value-returns-in_ok-found-in-100-clause-memory
 value-returns-in_ok-found-in-100-clause-memory t c =
-    let bytes = c.args.bytes.now in
-    let rest = c.in-Some.rest.now in
-    refused_more _ _ (GrowsForPair (c.args.room - 1) bytes rest) (Reaches c.args.room bytes) c.in_ok-found-in-100.ensures.memory
-    (λ there r. dict_reaches c.args.room bytes rest there (omega arith) (at_front c.in-Some.ensures c.in-100.is) r)
+    refused_more _ _ (GrowsForPair (c.args.room - 1) c.args.bytes.now c.in-Some.rest.now) (Reaches c.args.room c.args.bytes.now)
+    c.in_ok-found-in-100.ensures.memory
+    (λ there r. dict_reaches c.args.room c.args.bytes.now c.in-Some.rest.now there (omega arith) (at_front c.in-Some.ensures c.in-100.is) r)
 
 pub value-returns-in_err-found-in-108-clause-read : goal.value-returns-in_err-found-in-108-clause-read
 value-returns-in_err-found-in-108-clause-read t c =
@@ -136,7 +134,8 @@ items-items-init t c = record {
 
 pub items-returns-in_default-clause-read : goal.items-returns-in_default-clause-read
 items-returns-in_default-clause-read t c =
-    let l = c.items in items_cut c.args.room c.args.bytes.now l.rest.now l.invariant.read.0 l.invariant.read.1 c.in_default.ensures
+    let l = c.items in
+    items_cut c.args.room c.args.bytes.now l.rest.now l.invariant.read.0 l.invariant.read.1 c.in_default.ensures ∙ ap Err (sym c.at.ensures)
 
 pub items-returns-then-first-eq101-clause-read : goal.items-returns-then-first-eq101-clause-read
 items-returns-then-first-eq101-clause-read t c =
@@ -201,7 +200,9 @@ pairs-pairs-init t c = record {
 
 pub pairs-returns-in_default-clause-read : goal.pairs-returns-in_default-clause-read
 pairs-returns-in_default-clause-read t c =
-    let l = c.pairs in pairs_cut c.args.room c.args.bytes.now l.rest.now (option_copied l.before) l.invariant.read.0 l.invariant.read.1 c.in_default.ensures
+    let l = c.pairs in
+    pairs_cut c.args.room c.args.bytes.now l.rest.now (option_copied l.before) l.invariant.read.0 l.invariant.read.1 c.in_default.ensures
+    ∙ ap Err (sym c.at.ensures)
 
 pub pairs-returns-then-first-eq101-clause-read : goal.pairs-returns-then-first-eq101-clause-read
 pairs-returns-then-first-eq101-clause-read t c =
@@ -222,7 +223,7 @@ pub pairs-returns-in-Err-clause-read : goal.pairs-returns-in-Err-clause-read
 pairs-returns-in-Err-clause-read t c =
     let l = c.pairs in
     pairs_keyless c.args.room c.args.bytes.now l.rest.now (option_copied l.before) l.invariant.read.0 c.in-Some.first c.in-Some.after.now c.in-Err.kind
-    l.invariant.read.1 c.in-Some.ensures c.if-first-eq101.false c.in-Err.ensures.read
+    l.invariant.read.1 c.in-Some.ensures c.if-first-eq101.false c.in-Err.ensures.read ∙ ap Err (sym c.at-in-Err.ensures)
 
 pub pairs-returns-in_err-item-clause-read : goal.pairs-returns-in_err-item-clause-read
 pairs-returns-in_err-item-clause-read t c =

@@ -6,7 +6,7 @@ use Rattle.benc.specs.Text.{spelling}
 use Rattle.benc.specs.Value.{Bencode}
 use Rattle.benc.specs.View.{Seen, view, pair_view, pairs_of}
 use Rattle.benc.specs.Parser.{GrowsForItem, GrowsForPair}
-use Rattle.benc.specs.Storing.{Keeps, Refused}
+use Rattle.benc.specs.Storing.{KeepsAll, Refused}
 use Rattle.benc.specs.Thrift.{AreThrifty, ArePairsThrifty, IsSmallRoom}
 use Rattle.benc.proofs.SoFar.{ItemsSoFar, PairsSoFar}
 use Rattle.benc.proofs.parser.+read.Given as goal
@@ -23,7 +23,7 @@ decreases-pairs l = 2 * l.room + 1
 -- what is read so far, of which all is there unless a growth was refused
 abbrev pub invariant-items-items : goal.invariant-items-items
 invariant-items-items l = record {
-  read : (vs : List Bencode) × ItemsSoFar l.room l.bytes l.rest vs × (Keeps l.store → vs ≡ map view l.found.items);
+  read : (vs : List Bencode) × ItemsSoFar l.room l.bytes l.rest vs × (KeepsAll l.store → vs ≡ map view l.found.items);
   refused : Refused l.fn.store l.store (GrowsForItem l.room l.start l.bytes);
   room : IsSmallRoom (vec_capacity l.found) (length l.found.items);
   thrifty : AreThrifty l.found.items;
@@ -34,7 +34,7 @@ decreases-items-items l = length l.rest
 
 abbrev pub invariant-pairs-pairs : goal.invariant-pairs-pairs
 invariant-pairs-pairs l = record {
-  read : (ps : List Seen) × PairsSoFar l.room l.bytes l.rest (option_copied l.before) ps × (Keeps l.store → ps ≡ map pair_view l.found.items)
+  read : (ps : List Seen) × PairsSoFar l.room l.bytes l.rest (option_copied l.before) ps × (KeepsAll l.store → ps ≡ map pair_view l.found.items)
       × IfSome (option_copied l.asked) (λ key. option_copied l.span ≡ option_map spelling (under key (pairs_of ps)));
   refused : Refused l.fn.store l.store (GrowsForPair l.room l.start l.bytes);
   room : IsSmallRoom (vec_capacity l.found) (length l.found.items);

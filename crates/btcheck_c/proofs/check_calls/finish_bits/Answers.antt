@@ -1,5 +1,5 @@
 use Rattle.std.proofs.Common.{◌≡◌, refl, inl, inr, arith}
-use Rattle.btcheck_c.specs.FileChecks.{bytes_left}
+use Rattle.btcheck_c.specs.FileChecks.{check_bytes_left}
 use Rattle.btcheck_c.proofs.check_calls.finish_bits.Goals as goal
 
 pub stop-requires : goal.stop-requires
@@ -14,7 +14,7 @@ returns-clause-done c =
 
 pub returns-then-left-eq0-clause-done : goal.returns-then-left-eq0-clause-done
 returns-then-left-eq0-clause-done c =
-    let none : bytes_left c.args.check.now ≡ 0 = omega (arith, c.left.ensures, c.if-left-eq0.true) in
+    let none : check_bytes_left c.args.check.now ≡ 0 = omega (arith, c.left.ensures, c.if-left-eq0.true) in
     inl (
       none,
       (

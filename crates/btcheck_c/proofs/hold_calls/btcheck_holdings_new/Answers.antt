@@ -1,6 +1,6 @@
 use Rattle.std.proofs.Common.{refl, sym, subst}
 use Rattle.btcheck_c.specs.Held.{StartsHolding}
-use Rattle.btcheck_c.specs.Holds.{IsFilled, Kept}
+use Rattle.btcheck_c.specs.Holds.{IsHandleFilled, Kept}
 use Rattle.btcheck_c.specs.declared.thing.Kind.TheVariants as kind
 use Rattle.btcheck_c.proofs.Starting.{started}
 use Rattle.btcheck_c.proofs.Throughs.{holds_nothing}
@@ -19,4 +19,4 @@ returns-in-Ok c =
     started kind.Holdings (StartsHolding c.args.bound) c.args.session.now.slot.held c.args.handle.now.slot.held c.fill.new.self.slot.held
     c.start_holdings.new.session.slot.held c.start_holdings.result c.fill.result free c.start_holdings.ensures
     (subst (λ made. Kept kind.Holdings made c.fill.result c.fill.new.self.slot.held) (sym c.in-Ok.is)
-    (subst (λ o. IsFilled (kind.Holdings c.in-Ok.held) o c.fill.result c.fill.new.self.slot.held) free c.fill.ensures))
+    (subst (λ o. IsHandleFilled (kind.Holdings c.in-Ok.held) o c.fill.result c.fill.new.self.slot.held) free c.fill.ensures))

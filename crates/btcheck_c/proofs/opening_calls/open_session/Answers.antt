@@ -8,4 +8,4 @@ pub returns-in-Err-new : goal.returns-in-Err-new
 returns-in-Err-new c = inr refl
 
 pub returns-in-Ok-new : goal.returns-in-Ok-new
-returns-in-Ok-new c = (c.in-Ok.torrent, (c.in-Ok.ensures.described, c.in-Ok-new.ensures.fresh))
+returns-in-Ok-new c = (c.in-Ok.torrent, (c.in-Ok.ensures.described, (c.in-Ok-new.ensures.fresh, c.recall_closed_trees.ensures)))

@@ -1,6 +1,6 @@
 use Rattle.std.proofs.Common.{refl, inl, inr}
 use Rattle.btcheck_c.specs.RootCalls.{RootMade}
-use Rattle.btcheck_c.specs.Holds.{Fills}
+use Rattle.btcheck_c.specs.Holds.{FillsHandle}
 use Rattle.btcheck_c.specs.declared.thing.Kind.TheVariants as kind
 use Rattle.btcheck_c.proofs.Throughs.{filled, holds_nothing, unfilled}
 use Rattle.btcheck_c.proofs.root_calls.btcheck_root_new.Goals as goal

@@ -1,10 +1,10 @@
-use Rattle.btcheck_c.specs.SessionCalls.{TakesHashes}
+use Rattle.btcheck_c.specs.SessionCalls.{SessionTakesHashes}
 use Rattle.btcheck_c.specs.declared.thing.Kind.TheVariants as kind
 use Rattle.btcheck_c.proofs.Throughs.{through}
 use Rattle.btcheck_c.proofs.session_calls.btcheck_session_take_hashes.Goals as goal
 
 pub returns-in-Session-clause-done : goal.returns-in-Session-clause-done
-returns-in-Session-clause-done c = through (TakesHashes (record {
+returns-in-Session-clause-done c = through (SessionTakesHashes (record {
   root = c.args.root.now;
   base = c.args.base;
   index = c.args.index;

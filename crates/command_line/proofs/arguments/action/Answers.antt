@@ -11,7 +11,8 @@ use Rattle.clap.specs.declared.error.Error.{Error}
 use Rattle.clap.specs.declared.error.kind.ErrorKind.TheVariants.{OutOfMemory}
 use Rattle.clap.specs.declared.parser.matches.ArgMatches.{ArgMatches}
 use Rattle.actions.specs.declared.command.Asked.{Asked}
-use Rattle.command_line.specs.CommandLine.{IsAskedBy, IsAskedIn, IsFoundIn, IsNothing, IsRefusalOf, IsTaken, IsUnaskedKind, program}
+use Rattle.command_line.specs.CommandLine.{AreWordsTaken, IsAskedBy, IsAskedIn, IsFoundIn, IsNothing, IsRefusalOf, program}
+use Rattle.command_line.specs.Reasons.{IsUnaskedKind}
 use Rattle.command_line.proofs.arguments.action.Goals as goal
 
 -- an error of the command that clap was given is one of the program
@@ -22,7 +23,7 @@ kind_in app words e same kinds =
 
 -- and what that command takes the program takes
 taken_in : (app : App) (words : List (List ℕ)) → app ≡ program
-    → (is_simple_and_free app ≡ true → fault_of app words ≡ []) → IsTaken words
+    → (is_simple_and_free app ≡ true → fault_of app words ≡ []) → AreWordsTaken words
 taken_in app words same none =
     subst (λ (a : App). is_simple_and_free a ≡ true → fault_of a words ≡ []) same none refl
 
@@ -43,20 +44,22 @@ returns-in_err-matches-clause-refused c =
     rw error.1 (inl (subst (HasKind (fault_of program words)) (sym error.2) kinds))
 
 -- an action of what was found is one that the words ask for
-asked_by : {E : Type 0} (r : Result Asked E) (words : List (List ℕ)) (found : Option (Text × List Row)) → found ≡ subcommand_of program words → IsTaken words
+asked_by : {E : Type 0} (r : Result Asked E) (words : List (List ℕ)) (found : Option (Text × List Row)) → found ≡ subcommand_of program words
+    → AreWordsTaken words
     → IfOk r (IsAskedIn found) → IfOk r (IsAskedBy words)
 asked_by (Ok a) words found same taken is = (taken, subst (λ f. IsAskedIn f a) same is)
 asked_by (Err e) words found same taken is = tt
 
 abbrev Unasked : Option (Text × List Row) → Error → Type 0
-Unasked found e = (kind_of e ≡ OutOfMemory) ⊎ (IsUnaskedKind (kind_of e) × IsNothing found)
+Unasked found e = (kind_of e ≡ OutOfMemory) ⊎ (IsUnaskedKind found (kind_of e) × IsNothing found)
 
 -- what was found is why they ask for none
-refusal_of : (r : Result Asked Error) (words : List (List ℕ)) (found : Option (Text × List Row)) → found ≡ subcommand_of program words → IsTaken words
+refusal_of : (r : Result Asked Error) (words : List (List ℕ)) (found : Option (Text × List Row)) → found ≡ subcommand_of program words → AreWordsTaken words
     → IfErr r (Unasked found) → IfErr r (λ e. IsRefusalOf words (kind_of e))
 refusal_of (Ok a) words found same taken is = tt
 refusal_of (Err e) words found same taken (inl memory) = inl (inl memory)
-refusal_of (Err e) words found same taken (inr why) = inr (taken, subst IsNothing same why.1, why.0)
+refusal_of (Err e) words found same taken (inr why) =
+    inr (taken, subst IsNothing same why.1, subst (λ f. IsUnaskedKind f (kind_of e)) same why.0)
 
 -- if they ask for one, memory was refused
 memory_of : (r : Result Asked Error) (words : List (List ℕ)) (found : Option (Text × List Row)) → found ≡ subcommand_of program words

@@ -6,8 +6,8 @@ use Rattle.command_line.proofs.definition.leaf.Goals as goal
 
 pub loop-name-init : goal.loop-name-init
 loop-name-init c =
-    let about = set_about c.new.result c.about.result c.args.row.now.about _ c.about.ensures (c.new.ensures.app, c.new.ensures.local) in
-    set_after_help c.about.result c.after_help-command.result c.args.row.now.help _ c.after_help-command.ensures about
+    let about = set_about c.new.result c.about.result c.in_short.result _ c.about.ensures (c.new.ensures.app, c.new.ensures.local) in
+    set_after_help c.about.result c.after_help-command.result c.at_length.result _ c.after_help-command.ensures about
 
 pub loop-name-preserved : goal.loop-name-preserved
 loop-name-preserved c =

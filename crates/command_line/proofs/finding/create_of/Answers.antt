@@ -1,15 +1,11 @@
 use Rattle.std.proofs.Common.{codes, refl}
 use Rattle.clap.specs.Matches.{found_of}
 use Rattle.clap.specs.Walk.{rows_of}
-use Rattle.command_line.proofs.CommandLine.{needs_created_part, needs_piece_length, needs_text}
+use Rattle.command_line.proofs.CommandLine.{needs_created_part, needs_piece_length, needs_places, needs_text}
 use Rattle.command_line.proofs.finding.create_of.Goals as goal
 
-pub returns-in_err-dir : goal.returns-in_err-dir
-returns-in_err-dir c = rw c.from_residual.ensures (needs_text (codes "create") (codes "DIR") (rows_of (found_of c.args.found.now)) refl (c.in_err-dir.ensures))
-
-pub returns-in_err-out : goal.returns-in_err-out
-returns-in_err-out c = rw c.from_residual-in_err-out.ensures (needs_text (codes "create") (codes "OUT") (rows_of (found_of c.args.found.now)) refl
-    (c.in_err-out.ensures))
+pub returns-in_err-origin : goal.returns-in_err-origin
+returns-in_err-origin c = rw c.from_residual.ensures (needs_places (rows_of (found_of c.args.found.now)) (c.in_err-origin.ensures))
 
 pub returns-in_err-name : goal.returns-in_err-name
 returns-in_err-name c = rw c.from_residual-in_err-name.ensures (needs_text (codes "create") (codes "name") (rows_of (found_of c.args.found.now)) refl

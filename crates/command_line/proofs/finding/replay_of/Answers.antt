@@ -23,6 +23,7 @@ returns c = (
     c.text-4.ensures,
     c.is_given-2.ensures,
     c.is_given-3.ensures,
+    c.is_given-5.ensures,
     c.is_given-4.ensures,
   ),
 )

@@ -18,7 +18,6 @@ returns-in-Ok c =
     let cases = c.in-Ok.ensures.cases in
     let file = c.index-files-place.result in
     inr (
-      c.args.place,
       listed file,
       c.in-Ok.path,
       item_of listed c.args.files.now c.args.place file c.requires ∙ ap (λ (x : ListedFile). Some (listed x)) (sym c.index-files-place.is),

@@ -1,8 +1,9 @@
-use Rattle.std.proofs.Common.{◌≡◌, Option, None, Some, false, true, refl, sym, ◌∙◌, arith}
+use Rattle.std.proofs.Common.{◌≡◌, Option, None, Some, false, true, refl, sym, subst, ◌∙◌, arith}
 use Rattle.std.specs.Prelude.{is_some}
-use Rattle.drafts.specs.DraftSeen.{kept_at, outline_file}
+use Rattle.drafts.specs.DraftSeen.{HaveOwnRooms, kept_at, outline_file}
 use Rattle.drafts.specs.declared.draft.KeptRoot.{KeptRoot}
 use Rattle.drafts.proofs.Kept.{keeps_empty, keeps_new, keeps_there}
+use Rattle.drafts.proofs.OwnRooms.{rooms_put}
 use Rattle.drafts.proofs.add.keep_root.Goals as goal
 use Rattle.drafts.proofs.add.keep_root.Goals.{then-file-eq0-via-then-file-eq0, then-file-eq0-via-else-file-eq0+then-contains_key}
 
@@ -30,3 +31,8 @@ returns-clause-kept c = λ d roots not.
     (omega (arith, c.if-file-eq0.false))
     (none_there (kept_at c.args.file.now.root c.args.roots.now.entries) (sym c.contains_key.ensures ∙ c.if-contains_key.false))
     c.in_ok-kept.ensures.length c.in_ok-kept.ensures.layer c.in_ok-insert.ensures.entries c.in_ok-insert.ensures.updates.0 c.in_ok-insert.ensures.ordered roots
+
+pub returns-clause-room : goal.returns-clause-room
+returns-clause-room c = λ own.
+    subst HaveOwnRooms (sym c.in_ok-insert.ensures.entries)
+    (rooms_put c.args.file.now.root c.in_ok-kept.kept c.args.roots.now.entries c.in_ok-kept.ensures.room own)

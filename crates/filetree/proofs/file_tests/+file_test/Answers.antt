@@ -1,4 +1,4 @@
-use Rattle.std.proofs.Common.{◌≡◌, ◌||◌, ◌+◌, true, false, arith, sym, ap, ◌∙◌, drop, rules}
+use Rattle.std.proofs.Common.{◌≡◌, ◌||◌, ◌+◌, false, arith, sym, ap, ◌∙◌, drop, rules}
 use Rattle.benc.specs.View.{pair_view, pairs_view, view}
 use Rattle.benc.specs.declared.value.Value.{the_lemmas}
 use Rattle.filetree.specs.FileTree.{is_nil, walks, walks_in}

@@ -1,6 +1,6 @@
 use Rattle.std.proofs.Common.{◌≡◌, ◌∙◌, ◌+◌, length, map, Ok, subst, arith}
 use Rattle.folders.specs.Shelf.{path_bytes}
-use Rattle.gathering.specs.Adding.{AddsLast, AddsRow, StopsIn}
+use Rattle.gathering.specs.Adding.{AddsContents, AddsLast, StopsIn}
 use Rattle.gathering.specs.Batches.{contents_of}
 use Rattle.gathering.proofs.Added.{batch_added, held_stops, last_found, same_kind}
 use Rattle.gathering.proofs.HeldFiles.{length-contents}
@@ -33,5 +33,5 @@ returns-clause-adds c contents are =
     let number : c.args.from + c.len.result ≡ c.args.from + length held =
     omega (arith, c.len.ensures, c.hash.ensures.count, length-contents c.args.batch.now c.requires.sound.placed) in
     batch_added d mid c.add_last.new.draft paths c.args.from held c.args.last c.add_last.result contents
-    (subst (λ cs. AddsRow d paths c.args.from cs mid (Ok tt)) c.hash.ensures.contents c.in_default.ensures.adds)
+    (subst (λ cs. AddsContents d paths c.args.from cs mid (Ok tt)) c.hash.ensures.contents c.in_default.ensures.adds)
     (subst (λ n. AddsLast mid paths n c.args.last c.add_last.new.draft c.add_last.result) number c.add_last.ensures.adds) are

@@ -1,5 +1,5 @@
 use Rattle.std.proofs.Common.{◌∙◌, map, sym, subst}
-use Rattle.hashtree.specs.Hashes.{AreHashes}
+use Rattle.hashtree.specs.Hashes.{AreOfHashLength}
 use Rattle.std.proofs.lemmas.Result.{err_from_is_err_and}
 use Rattle.pieces.specs.Pieces.{IsPieceLength}
 use Rattle.gathering.specs.Adding.{AddsFound}
@@ -23,7 +23,7 @@ add-requires c =
       cuts = has_cuts d _ _ _ file;
       fits = fits_layer d _ content _ c.deref-2.result.now (subst IsPieceLength (sym c.requires.piece_length) c.recall_legal.ensures) file
           (c.deref-2.ensures.value ∙ found.1.layer_is)
-          (subst AreHashes (c.deref.ensures.value ∙ sym c.deref-2.ensures.value) c.recall_hashes.ensures);
+          (subst AreOfHashLength (c.deref.ensures.value ∙ sym c.deref-2.ensures.value) c.recall_hashes.ensures);
     }
 
 pub returns : goal.returns

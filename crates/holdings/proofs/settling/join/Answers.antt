@@ -11,4 +11,5 @@ returns-in-Ok-clause-taken g c = record {
   count = c.in-Ok.field-0;
   taken = c.in-Ok.ensures.taken;
   known = c.in-Ok.ensures.known;
+  pads = c.in-Ok.ensures.end_pads;
 }

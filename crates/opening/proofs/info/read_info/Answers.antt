@@ -1,14 +1,14 @@
 use Rattle.std.proofs.Common.{◌++◌, rules}
 use Rattle.benc.specs.View.{view}
 use Rattle.opening.specs.Refusals.{version_rows, present_rows, kind_rows}
-use Rattle.opening.specs.Steps.{AreOfKind}
+use Rattle.opening.specs.Steps.{AreInfoKeys}
 use Rattle.filetree.proofs.Tables.{none_both, passes_behind}
 use Rattle.opening.proofs.info.read_info.Goals as goal
 
 pub returns : goal.returns
 returns c =
     let i = view c.args.info.now in
-    passes_behind (version_rows i ++ present_rows i) (kind_rows i) (AreOfKind i) c.all_of_kind.result
+    passes_behind (version_rows i ++ present_rows i) (kind_rows i) (AreInfoKeys i) c.all_of_kind.result
     (none_both (version_rows i) (present_rows i) c.in_ok-version.ensures.0 c.in_ok-present.ensures.0)
     (c.all_of_kind.ensures i c.in_ok-present.ensures.1)
 

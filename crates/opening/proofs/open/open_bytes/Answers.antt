@@ -9,12 +9,13 @@ use Rattle.opening.specs.Describes.{Describes, IsDescribed}
 use Rattle.opening.specs.Description.{Description}
 use Rattle.opening.specs.Refusals.{RefusesTorrent, max_torrent, table}
 use Rattle.opening.proofs.Growing.{wants_memory}
+use Rattle.opening.proofs.Legal.{legal_if_accepted}
 use Rattle.opening.proofs.open.open_bytes.Goals as goal
 
 -- what reading a value says of the bytes that spell it
 describes : (b : List ℕ) (v : Bencode) → length b ≤ max_torrent → Spells v b → (result : Result Description Refusal)
     → PassesUnlessNoMemory (table v) (IsDescribed v) result → IfOk result (λ t. Describes b t)
-describes b v small spelled (Ok t) passes = record { small = small; value = v; spelled = spelled; accepted = passes.0; described = passes.1 }
+describes b v small spelled (Ok t) passes = record { small = small; value = v; spelled = spelled; legal = legal_if_accepted v passes.0; described = passes.1 }
 describes b v small spelled (Err r) passes = tt
 
 refuses : (b : List ℕ) (v : Bencode) → length b ≤ max_torrent → Spells v b → (result : Result Description Refusal)

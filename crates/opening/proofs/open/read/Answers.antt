@@ -7,7 +7,7 @@ use Rattle.benc.specs.Value.{Bencode, Pairs, dict}
 use Rattle.benc.specs.View.{view, pairs_view}
 use Rattle.std.specs.Prelude.{codes}
 use Rattle.filetree.specs.Dictionary.{Ascends}
-use Rattle.filetree.specs.FileTree.{is_directory, listed, walks}
+use Rattle.filetree.specs.FileTree.{file_of_walk, is_directory, walks}
 use Rattle.filetree.specs.Tests.{NoneHolds}
 use Rattle.filetree.specs.TreeTests.{tree_rows}
 use Rattle.filetree.proofs.Ascending.{part_ascends}
@@ -30,7 +30,8 @@ use Rattle.opening.proofs.open.read.Goals as goal
 
 -- what the keys and the file tree gave
 is_read : (v : Bencode) (x : Listed) (layers : Pairs) → NoneHolds (all_key_rows v) × AreKeys v x.keys × (x.piece_length ≡ piece_length_in v)
-    × IsPieceLength x.piece_length × NoneHolds (tree_rows (pairs_view x.keys.tree.now)) × (x.files.items ≡ map listed (walks (pairs_view x.keys.tree.now)))
+    × IsPieceLength x.piece_length × NoneHolds (tree_rows (pairs_view x.keys.tree.now))
+    × (x.files.items ≡ map file_of_walk (walks (pairs_view x.keys.tree.now)))
     → layers ≡ pairs_seen x.keys.layers
     → IsReadFrom v x.piece_length (view x.keys.info.now) x.keys.name.now (pairs_view x.keys.tree.now) layers x.files.items
 is_read v x layers (keys, are, length, legal, trees, files) same = record {

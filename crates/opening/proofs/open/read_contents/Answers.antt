@@ -56,6 +56,7 @@ contents k layers fs gs ts (Ok c) same trees counts (rows, made) =
         numbers = subst (AreNumbers c.numbers) roots made.numbers;
         roots = subst (AreRoots fs) roots are.roots;
         pieces = are.pieces;
+        room = made.room;
       },
     )
 contents k layers fs gs ts (Err r) same trees counts passes = λ memory.

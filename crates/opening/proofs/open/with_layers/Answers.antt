@@ -51,8 +51,9 @@ returns-clause-passes c =
     let layers = layer_pairs c.args.layers.now in (
       subst (λ us. NoneHolds (layer_rows k layers us)) c.as_slice.ensures c.in_ok-test.ensures.0,
       record {
-        files = c.in_ok-files.ensures;
-        trees = c.in_ok-trees.ensures ∙ ap (map (tree_at k layers)) c.as_slice-2.ensures;
+        files = c.in_ok-files.ensures.files;
+        trees = c.in_ok-trees.ensures.trees ∙ ap (map (tree_at k layers)) c.as_slice-2.ensures;
         numbers = c.into_numbers.ensures;
+        room = (c.in_ok-files.ensures.room, c.in_ok-trees.ensures.room);
       },
     )

@@ -27,8 +27,8 @@ listed-preserved c =
     let sum : pieces_in p (x ∷ rest) ≡ pieces_of p x.length + pieces_in p rest = sum_by-cons (λ (f : ListedFile). pieces_of p f.length) x rest in
     let next = c.listed.first_piece + pieces_of p x.length in
     let file = c.placed.result in
-    let after : map file_entry c.push.new.self.items ≡ map file_entry c.listed.files.items ++ file_entry file ∷ [] =
-    ap (map file_entry) c.in_ok-push.ensures.items ∙ map-append file_entry c.listed.files.items (file ∷ []) in
+    let after : map file_entry c.push_reserved.new.self.items ≡ map file_entry c.listed.files.items ++ file_entry file ∷ [] =
+    ap (map file_entry) c.push_reserved.ensures.items ∙ map-append file_entry c.listed.files.items (file ∷ []) in
     let counted : c.listed.first_piece + pieces_of p x.length ≡ c.listed.first_piece + c.pieces-first_piece.result =
     ap (λ n. c.listed.first_piece + n) (sym c.pieces-first_piece.ensures) in
     record {
@@ -37,6 +37,8 @@ listed-preserved c =
           (c.listed.invariant.entries ∙ ap (λ xs. map file_entry c.listed.files.items ++ entries_from p ts c.listed.first_piece xs) split)
           ∙ ap (λ es. es ++ entries_from p ts (c.listed.first_piece + c.pieces-first_piece.result) rest) (sym after);
       pieces = omega (arith, total, sum, counted);
+      count = omega (arith, ap length split, c.push_reserved.ensures.len, c.listed.invariant.count);
+      room = c.push_reserved.ensures.capacity ∙ c.listed.invariant.room;
     }
 
 pub overflow_add-first_piece : goal.overflow_add-first_piece
@@ -58,10 +60,15 @@ listed-init c =
       entries = sym (ap (λ fs. map file_entry fs ++ entries_from p ts 0 (into_iter_items c.into_iter-file-iterator.result)) c.in_ok-files.ensures.items
           ∙ ap (λ xs. entries_from p ts 0 xs) all);
       pieces = omega (arith, ap (λ xs. pieces_in p xs) all);
+      count = omega (arith, ap length all, c.in_ok-files.ensures.len);
+      room = omega (arith, c.in_ok-files.ensures.exact, c.len.ensures, c.args.listed.ok);
     }
 
-pub returns : goal.returns
-returns c =
+pub returns-clause-files : goal.returns-clause-files
+returns-clause-files c =
     let fs = map file_entry c.listed.files.items in
     let none = nil_of (into_iter_items c.listed.file-iterator) (omega (arith, c.in-None.ensures.steps.0, c.listed.file-iterator.rest.ok)) in
     sym (c.listed.invariant.entries ∙ ap (λ xs. fs ++ entries_from c.args.piece_length c.args.roots.now c.listed.first_piece xs) none ∙ append-nil fs)
+
+pub returns-clause-room : goal.returns-clause-room
+returns-clause-room c = omega (arith, c.listed.invariant.room, c.listed.invariant.count, c.in-None.ensures.steps.0, c.listed.file-iterator.rest.ok)

@@ -2,7 +2,7 @@ use Rattle.std.proofs.Common.{◌≡◌, ◌∙◌, ◌<◌, ◌≤◌, ◌++◌
 use Rattle.std.proofs.lemmas.List.{take_all}
 use Rattle.hashtree.specs.Tree.{block_count, height, layer_of}
 use Rattle.opening.specs.PieceLayers.{piece_layer}
-use Rattle.part_drafts.specs.Rows.{joined}
+use Rattle.part_drafts.specs.Rows.{joined_hashes}
 use Rattle.part_drafts.proofs.Found.{nodes_of_many, nodes_of_one, put_ok}
 use Rattle.part_drafts.proofs.digests.put_nodes.Goals as goal
 
@@ -30,8 +30,8 @@ returns c = λ row hashes.
     let len : length row ≡ c.args.found.now.length = sym hashes.length_is in
     let low : c.height-layer.result ≤ height (block_count (length row)) =
     omega (arith, ap (λ n. height (block_count n)) len, own, c.if-height-layer.false) in
-    let all : c.nodes.text.items ≡ c.args.text.now.items ++ joined c.args.found.now.layer.items =
-    c.nodes.invariant ∙ ap (λ l. c.args.text.now.items ++ joined l) (take_all c.nodes.node-index c.args.found.now.layer.items (omega (
+    let all : c.nodes.text.items ≡ c.args.text.now.items ++ joined_hashes c.args.found.now.layer.items =
+    c.nodes.invariant ∙ ap (λ l. c.args.text.now.items ++ joined_hashes l) (take_all c.nodes.node-index c.args.found.now.layer.items (omega (
       arith,
       c.nodes-test.false,
       c.deref-node-items.ensures.len,

@@ -1,22 +1,20 @@
-use Rattle.std.proofs.Common.{◌∙◌, Ok, Some, ap, map, subst}
+use Rattle.std.proofs.Common.{◌∙◌, ap, inl, map, refl, subst, sym}
 use Rattle.std.specs.String.{string_bytes}
-use Rattle.folders.specs.Seeking.{from_offset}
-use Rattle.folders.specs.Shelf.{IsFound}
 use Rattle.part_texts.specs.Listings.{listed}
-use Rattle.part_drafts.specs.Rows.{ReadsCounted}
-use Rattle.part_drafts.proofs.Found.{row_found}
+use Rattle.part_drafts.specs.Steps.{FindsShare}
+use Rattle.part_drafts.proofs.Gathered.{share}
+use Rattle.part_drafts.proofs.Visited.{share_found_as}
 use Rattle.part_drafts.proofs.hashing.visit_row.Goals as goal
 
-pub returns-in-Ok-Some-Ok-Some-clause-found : goal.returns-in-Ok-Some-Ok-Some-clause-found
-returns-in-Ok-Some-Ok-Some-clause-found g c =
-    let visits = rw c.in-Ok-Some-Ok-Some.field-0-is at c.in-Ok-Some-Ok-Some.ensures.visits in
-    let under = (g.S.Shelf.contents c.args.shelf.now).under in
-    let seen = g.S.File.Source.seen in
-    let answer = c.in-Ok-Some-Ok-Some.field-0-0-is ∙ ap Ok c.in-Ok-Some-Ok-Some.field-0-0-0-is in
-    let reading = subst (λ a. ReadsCounted c.args.kind.now.piece_length c.args.kind.now.hybrid c.bytes.result c.args.span.ends a (seen visits.file)
-    (seen visits.handed.read))
-    answer visits.handed.reading in
-    let path = ap (map (λ s. s.now)) c.deref-2.ensures.value ∙ c.in_ok-path.ensures ∙ ap (map string_bytes) c.deref.ensures.value in
-    let found = subst (λ p. IsFound (from_offset c.offset-offset.result (under p)) (Some (seen visits.file).left)) path visits.found in
-    row_found under c.args.kind.now.piece_length c.args.kind.now.hybrid (listed c.args.file.now) c.args.span (seen visits.file) (seen visits.handed.read)
-    c.in-Ok-Some-Ok-Some.found c.bytes.result c.offset-offset.result found reading.0 c.bytes.ensures c.offset-offset.ensures
+pub returns-in_default-clause-found : goal.returns-in_default-clause-found
+returns-in_default-clause-found g c = record { touched = c.requires.touched; why = inl refl }
+
+pub returns-clause-found : goal.returns-clause-found
+returns-clause-found g c =
+    let p = c.args.kind.now.piece_length in
+    let x = share (listed c.args.file.now) c.args.span in
+    let path = ap (map (λ s. s.now)) c.deref-2.ensures.value ∙ c.in-Ok.ensures ∙ ap (map string_bytes) c.deref.ensures.value in
+    subst (FindsShare g.S.Shelf g.S.SeekShelf.opens_at g.S.File.Source.seen p c.args.kind.now.hybrid c.args.shelf.now x c.visit_at.new.shelf)
+    (sym c.found_of.ensures)
+    (share_found_as g.S.Shelf g.S.SeekShelf.opens_at g.S.File.Source.seen p c.args.kind.now.hybrid c.args.shelf.now x c.visit_at.new.shelf c.visit_at.result
+    _ c.offset-offset.result c.bytes.result c.requires.touched path c.offset-offset.ensures c.bytes.ensures c.visit_at.ensures.visits)

@@ -3,7 +3,7 @@ use Rattle.parts.specs.Joins.{IsJoin}
 use Rattle.parts.specs.Shares.{start}
 use Rattle.part_reports.specs.Lines.{MarkedPart, part_of}
 use Rattle.part_reports.specs.MarkedJoins.{AreMarksOf, AreReadAs}
-use Rattle.part_reports.specs.Marks.{HasRoom}
+use Rattle.part_reports.specs.Marks.{HasMarkRoom}
 use Rattle.part_reports.specs.Starts.{IsPassed}
 use Rattle.part_reports.proofs.joining.join_parts.Given as goal
 
@@ -15,4 +15,4 @@ invariant-parts l =
     × (l.start.place ≡ start l.torrent l.part l.numbers.count)
     × IsPassed l.torrent l.start (l.division.part_bytes * l.part)
     × AreMarksOf l.torrent parts l.joined
-    × HasRoom l.kind l.division.pieces l.joined.bad
+    × HasMarkRoom l.kind l.division.pieces l.joined.bad

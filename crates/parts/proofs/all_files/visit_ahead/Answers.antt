@@ -1,4 +1,4 @@
-use Rattle.std.proofs.Common.{◌≡◌, ◌∙◌, ◌+◌, ◌<◌, ◌^◌, [], is_some, length, ap, refl, sym, subst, arith}
+use Rattle.std.proofs.Common.{◌≡◌, ◌∙◌, ◌+◌, ◌<◌, ◌^◌, [], is_some, length, inr, ap, refl, sym, subst, arith}
 use Rattle.std.proofs.lemmas.List.{length-map}
 use Rattle.std.proofs.lemmas.Option.{same_Some, none-some}
 use Rattle.std.proofs.lemmas.Result.{err_from_is_err_and}
@@ -6,8 +6,7 @@ use Rattle.chains.proofs.Cases.{same_some}
 use Rattle.opening.specs.Seen.{file_entry, version1}
 use Rattle.opening.proofs.Placing.{file_there}
 use Rattle.parts.specs.Batches.{left}
-use Rattle.parts.specs.Checking.{shelf_and_sink}
-use Rattle.parts.specs.Looking.{EndsAhead}
+use Rattle.parts.specs.Checking.{EndsWhole, shelf_and_sink}
 use Rattle.parts.specs.Visiting.{whole_visiting}
 use Rattle.parts.specs.Words.{words_as}
 use Rattle.parts.specs.Worse.{worse_v1}
@@ -62,7 +61,7 @@ files-preserved g c =
     let there = file_there t c.files-entries.result.now n c.index-entries-number.result c.files-entries.ensures c.files-test.true c.index-entries-number.is in
     let checked = ahead_one g.S.Shelf g.S.File.Source.seen t words c.args.telling old c.files.shelf found.new.shelf (g.L.LineSink.seen c.files.out)
     (g.L.LineSink.seen c.tell.new.out) n c.files.files.items c.files.v1 (left c.files.ahead) (left found.new.ahead) f found.result
-    c.files.invariant.checked found.ensures.visits there c.in_ok-tell.ensures.tells in
+    c.requires.lines c.files.invariant.checked found.ensures.visits there c.in_ok-tell.ensures.tells in
     record {
       room = omega (arith, c.files.invariant.room, c.push_reserved.ensures.capacity);
       stays = found.ensures.stays ∙ c.files.invariant.stays;
@@ -85,10 +84,10 @@ returns-in_err-tell-clause-ends g c =
     let new = shelf_and_sink found.new.shelf (g.L.LineSink.seen c.tell.new.out) in
     let there = file_there t c.files-entries.result.now n c.index-entries-number.result c.files-entries.ensures c.files-test.true c.index-entries-number.is in
     let p = err_from_is_err_and c.from_residual.result c.from_residual.ensures.1 in
-    subst (λ r. EndsAhead g.S.Shelf g.S.File.Source.seen words t c.args.telling old new r) (sym p.1)
-    (ahead_stops g.S.Shelf g.S.File.Source.seen t words c.args.telling old c.files.shelf found.new.shelf (g.L.LineSink.seen c.files.out)
+    subst (λ r. EndsWhole g.S.Shelf g.S.File.Source.seen words t c.args.telling old new r) (sym p.1)
+    (inr (ahead_stops g.S.Shelf g.S.File.Source.seen t words c.args.telling old c.files.shelf found.new.shelf (g.L.LineSink.seen c.files.out)
     (g.L.LineSink.seen c.tell.new.out) n c.files.files.items c.files.v1 (left c.files.ahead) (left found.new.ahead) f found.result
-    c.in_err-tell.ensures.some c.requires.lines c.files.invariant.checked found.ensures.visits there c.in_err-tell.ensures.tells)
+    c.in_err-tell.ensures.some c.requires.lines c.files.invariant.checked found.ensures.visits found.ensures.few there c.in_err-tell.ensures.tells))
 
 pub returns-clause-ends : goal.returns-clause-ends
 returns-clause-ends g c =

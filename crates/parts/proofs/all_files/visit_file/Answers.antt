@@ -3,13 +3,15 @@ use Rattle.std.specs.Global.{Global}
 use Rattle.hashtree.specs.Bits.{AreClear}
 use Rattle.opening.specs.Seen.{file_entry}
 use Rattle.opening.specs.Description.{Description, FileEntry}
+use Rattle.folders.specs.Verdicts.{IsVerdict}
 use Rattle.folders.specs.Visits.{VisitsFor}
+use Rattle.parts.specs.Finding.{all_places}
 use Rattle.parts.specs.Parts.{piece_count}
 use Rattle.parts.specs.PieceReads.{ReadsPieces}
 use Rattle.parts.specs.declared.places.Span.{Span}
-use Rattle.parts.proofs.FoundFiles.{small_pieces}
+use Rattle.parts.proofs.FoundFiles.{finds_unreadable, small_pieces}
 use Rattle.parts.proofs.Visited.{found_there, whole_finds_it, whole_visits_it}
-use Rattle.parts.proofs.WholeFiles.{IsWholeSpan, whole_shape, whole_unreadable}
+use Rattle.parts.proofs.WholeFiles.{IsWholeSpan, whole_shape}
 use Rattle.parts.proofs.all_files.visit_file.Goals as goal
 
 -- the span of all pieces
@@ -89,8 +91,9 @@ returns-in-Ok-None-clause-visits g c =
 
 pub returns-in-Err-clause-found : goal.returns-in-Err-clause-found
 returns-in-Err-clause-found g c =
-    whole_unreadable c.args.torrent.now (file_entry c.args.file.now) ((g.S.Shelf.contents c.args.shelf.now).under c.args.file.now.path)
-    c.visit-visited.new.reader.bits.items c.not_whole-in-Err.result c.not_whole-in-Err.ensures.file c.not_whole-in-Err.ensures.v1
+    finds_unreadable c.args.torrent.now (all_places c.args.torrent.now) (file_entry c.args.file.now) (IsVerdict c.args.torrent.now)
+    ((g.S.Shelf.contents c.args.shelf.now).under c.args.file.now.path) c.visit-visited.new.reader.bits.items c.not_whole-in-Err.result (λ content. tt)
+    c.not_whole-in-Err.ensures.file c.not_whole-in-Err.ensures.v1
 
 pub returns-in-Err-clause-visits : goal.returns-in-Err-clause-visits
 returns-in-Err-clause-visits g c =

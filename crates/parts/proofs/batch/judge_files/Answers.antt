@@ -6,7 +6,7 @@ use Rattle.chains.proofs.Cases.{pushed_at}
 use Rattle.opening.specs.Seen.{file_entry}
 use Rattle.opening.proofs.Placing.{file_there}
 use Rattle.parts.specs.Batches.{left}
-use Rattle.parts.specs.Held.{IsJudged}
+use Rattle.parts.specs.Held.{IsFileJudged}
 use Rattle.parts.specs.declared.held.Held.TheVariants as held
 use Rattle.parts.specs.declared.batch.Kept.{Kept}
 use Rattle.parts.proofs.batch.judge_files.Goals as goal
@@ -62,9 +62,9 @@ files-preserved c =
                 let spot : k ≡ c.files.k = now.0 ∙ was.count in
                 let f_is : own ≡ f = same_Some own f (sym there ∙ ap (λ n. slice_get t.files (c.args.from + n)) (sym spot) ∙ at) in
                 let e_is = same_Some _ e (sym here ∙ ap (slice_get c.args.held.now.kept) (sym spot) ∙ kept) in
-                subst (λ w. IsJudged t f e.held (bytes_at c.args.room.now e.start f.length) w) now.1
-                (subst (λ (d : Kept). IsJudged t f d.held (bytes_at c.args.room.now d.start f.length) c.judge_held-verdicts.result) e_is
-                (subst (λ g. IsJudged t g (get_or c.args.held.now.kept c.files.k other).held (bytes_at c.args.room.now
+                subst (λ w. IsFileJudged t f e.held (bytes_at c.args.room.now e.start f.length) w) now.1
+                (subst (λ (d : Kept). IsFileJudged t f d.held (bytes_at c.args.room.now d.start f.length) c.judge_held-verdicts.result) e_is
+                (subst (λ g. IsFileJudged t g (get_or c.args.held.now.kept c.files.k other).held (bytes_at c.args.room.now
                 (get_or c.args.held.now.kept c.files.k other).start
                 g.length) c.judge_held-verdicts.result) f_is c.judge_held-verdicts.ensures.judged))
           ];

@@ -2,7 +2,7 @@ use Rattle.std.proofs.Common.{◌≡◌, ◌<◌, ℕ, [], length, slice_get, So
 use Rattle.block_windows.specs.Files.{bytes_at}
 use Rattle.opening.specs.Description.{FileEntry}
 use Rattle.parts.specs.Batches.{left}
-use Rattle.parts.specs.Held.{IsJudged}
+use Rattle.parts.specs.Held.{IsFileJudged}
 use Rattle.parts.specs.declared.batch.Kept.{Kept}
 use Rattle.parts.specs.declared.verdicts.Verdicts.{Verdicts}
 use Rattle.parts.proofs.batch.judge_files.Given as goal
@@ -13,5 +13,5 @@ invariant-files l = record {
   count : length (left l.ahead) ≡ l.k;
   none : l.bits.items ≡ [];
   judged : (k : ℕ) (f : FileEntry) (e : Kept) (v : Verdicts) → k < l.k → slice_get l.torrent.files (l.from + k) ≡ Some f → slice_get l.held.kept k ≡ Some e
-      → slice_get (left l.ahead) k ≡ Some v → IsJudged l.torrent f e.held (bytes_at l.room e.start f.length) v;
+      → slice_get (left l.ahead) k ≡ Some v → IsFileJudged l.torrent f e.held (bytes_at l.room e.start f.length) v;
 }

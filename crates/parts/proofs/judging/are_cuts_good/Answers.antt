@@ -3,11 +3,11 @@ use Rattle.std.specs.Option.{option_map}
 use Rattle.std.proofs.lemmas.List.{length-drop, length-take}
 use Rattle.std.proofs.lemmas.Option.{same_Some}
 use Rattle.block_windows.specs.Files.{bytes_at}
-use Rattle.cut_windows.specs.Windows.{AreListed, length_of_cuts}
+use Rattle.cut_windows.specs.Windows.{AreFileCutsListed, length_of_cuts}
 use Rattle.opening.specs.Seen.{file_entry, version1}
 use Rattle.pieces.specs.Pieces.{pieces_of}
 use Rattle.parts.specs.Parts.{IsVersion1Good, piece_count}
-use Rattle.parts.proofs.GoodCuts.{ends, good_cuts, row_length}
+use Rattle.parts.proofs.GoodCuts.{ends, good_cuts, row_length, said_listed}
 use Rattle.parts.proofs.judging.are_cuts_good.Goals as goal
 
 pub overflow_add-end : goal.overflow_add-end
@@ -55,8 +55,8 @@ are_listed-requires c =
     ∙ row_length w.pieces f.first_piece (f.first_piece + c.piece_count.result) (omega arith) (omega (arith, e.listed, c.piece_count.ensures)) in
     omega (arith, within, count, c.piece_count.ensures)
 
-pub returns-then-piece_length-end : goal.returns-then-piece_length-end
-returns-then-piece_length-end c on v hybrid k lt =
+pub returns-then-piece_length-end-clause-good : goal.returns-then-piece_length-end-clause-good
+returns-then-piece_length-end-clause-good c on v hybrid k lt =
     let t = c.args.torrent.now in
     let f = file_entry c.args.file.now in
     let file = c.requires.file in
@@ -70,10 +70,30 @@ returns-then-piece_length-end c on v hybrid k lt =
     let width : ℕ = f.first_piece + c.piece_count.result - f.first_piece in
     let same : c.piece_length.result * (f.first_piece + c.piece_count.result) ≡ t.piece_length * (f.first_piece + piece_count t f) =
     ap₂ (λ p j. p * (f.first_piece + j)) c.piece_length.ensures c.piece_count.ensures in
-    let found : AreListed (length_of_cuts c.args.cuts.now) c.listed.result.now bytes =
-    c.are_listed.ensures on c.args._room.now c.args._start f.length c.requires.stands (c.requires.hashed v hybrid) c.requires.inside in
-    let listed : AreListed t.piece_length (take width (drop f.first_piece w.pieces)) bytes =
-    subst (λ p. AreListed p (take width (drop f.first_piece w.pieces)) bytes) c.requires.piece_length
-    (subst (λ l. AreListed (length_of_cuts c.args.cuts.now) l bytes) c.listed.ensures found) in
+    let found : AreFileCutsListed (length_of_cuts c.args.cuts.now) c.listed.result.now bytes =
+    c.are_listed.ensures.listed on c.args._room.now c.args._start f.length c.requires.stands (c.requires.hashed v hybrid) c.requires.inside in
+    let listed : AreFileCutsListed t.piece_length (take width (drop f.first_piece w.pieces)) bytes =
+    subst (λ p. AreFileCutsListed p (take width (drop f.first_piece w.pieces)) bytes) c.requires.piece_length
+    (subst (λ l. AreFileCutsListed (length_of_cuts c.args.cuts.now) l bytes) c.listed.ensures found) in
     subst (λ u. IsVersion1Good t u f bytes k) is
     (good_cuts t w f bytes width long (omega (arith, c.piece_count.ensures)) e.listed (omega (arith, same, c.if-piece_length-end.true)) listed k lt)
+
+pub returns-then-piece_length-end-clause-always : goal.returns-then-piece_length-end-clause-always
+returns-then-piece_length-end-clause-always c whole good =
+    let v = version1 c.in-Some.v1.now in
+    let there = sym c.v1.ensures ∙ ap (option_map (λ v. version1 v.now)) c.in-Some.is in
+    let said = said_listed c.args.torrent.now v c.requires.file.0 (file_entry c.args.file.now) c.args._room.now c.listed.result.now c.args._start
+    (c.args.file.now.first_piece + c.piece_count.result - c.args.file.now.first_piece) (length_of_cuts c.args.cuts.now) c.recall_sound.ensures
+    c.requires.file.1 there c.requires.some c.requires.inside (omega (arith, c.piece_count.ensures)) c.requires.piece_length c.listed.ensures
+    (whole v there) (good v there) in
+    c.are_listed.ensures.always c.args._room.now c.args._start c.args.file.now.length c.requires.stands (c.requires.hashed v there) c.requires.inside
+    said.0 said.1
+
+pub returns-else-piece_length-end-clause-always : goal.returns-else-piece_length-end-clause-always
+returns-else-piece_length-end-clause-always c whole good =
+    absurd (omega (
+      arith,
+      ap₂ (λ p k. p * (c.args.file.now.first_piece + k)) c.piece_length.ensures c.piece_count.ensures,
+      whole (version1 c.in-Some.v1.now) (sym c.v1.ensures ∙ ap (option_map (λ v. version1 v.now)) c.in-Some.is),
+      c.if-piece_length-end.false,
+    ))

@@ -32,7 +32,7 @@ returns-then-eq c on =
     let bytes : List ℕ = bytes_at c.args.room.now c.args.start f.length in
     let long : length bytes ≡ f.length =
     length-take f.length (drop c.args.start c.args.room.now) ∙ omega (arith, length-drop c.args.start c.args.room.now, c.requires.inside) in
-    judged_good t file.0 f bytes c.recall_sound.ensures file.1 long (c.are_cuts_good.ensures on)
+    judged_good t file.0 f bytes c.recall_sound.ensures file.1 long (c.are_cuts_good.ensures.good on)
     (λ e there.
     let is = tree_there t f c.in-Some.number c.trees.result.now _ c.trees.ensures (c.recall_sound.ensures.files file.0 f file.1) c.in-Some.is in
     let tree = same_Some _ e (sym is ∙ there) in

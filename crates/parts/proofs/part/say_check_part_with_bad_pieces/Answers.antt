@@ -3,11 +3,13 @@ use Rattle.std.proofs.lemmas.Result.{err_from_is_err_and}
 use Rattle.parts.specs.Checking.{shelf_and_sink}
 use Rattle.parts.specs.MarkedChecks.{ChecksMarkedAs, ChecksMarkedPart}
 use Rattle.parts.specs.PartWords.{last_as, part_words}
-use Rattle.parts.specs.Shares.{share}
 use Rattle.parts.specs.Visiting.{EndsVisits, part_visiting}
 use Rattle.parts.specs.declared.telling.Telling.TheVariants as telling
-use Rattle.parts.proofs.MarkedVisits.{marked_prints, marks_all, stops_at_marks}
+use Rattle.parts.proofs.MarkedVisits.{marked_prints}
 use Rattle.parts.proofs.part.say_check_part_with_bad_pieces.Goals as goal
+
+pub visit_files-requires-clause-own : goal.visit_files-requires-clause-own
+visit_files-requires-clause-own g c = λ n f content v bits there marks. marks
 
 pub returns-in_err-report-clause-checks : goal.returns-in_err-report-clause-checks
 returns-in_err-report-clause-checks g c =
@@ -24,14 +26,13 @@ returns-in_err-report-clause-checks g c =
     let mid = shelf_and_sink c.args.shelf.now begun in
     let new = shelf_and_sink c.visit_files.new.shelf (seen c.visit_files.new.out) in
     let p = err_from_is_err_and c.from_residual-in_err-report.result c.from_residual-in_err-report.ensures.1 in
-    let r = share t part parts in
     let ends = subst (λ r. EndsVisits (part_visiting S opens_at files r t) words.check t (telling.RunsIn r) mid new (Err c.in_err-report.field-0.0))
     c.of_part-places.ensures c.in_err-report.ensures.ends in
     subst (ChecksMarkedAs words S opens_at files t part parts old new) (sym (p.1 ∙ ap Err p.2))
     (inr (inl (record {
       begun = begun;
       head = c.in_ok-say_bad_head.ensures;
-      stops = stops_at_marks words S opens_at files t (share t part parts) mid new ends;
+      stops = ends;
     })))
 
 pub returns-in_err-finish_after-clause-checks : goal.returns-in_err-finish_after-clause-checks
@@ -50,7 +51,6 @@ returns-in_err-finish_after-clause-checks g c =
     let mid = seen c.visit_files.new.out in
     let new = shelf_and_sink c.visit_files.new.shelf (seen c.finish_after.new.out) in
     let p = err_from_is_err_and c.from_residual-in_err-finish_after.result c.from_residual-in_err-finish_after.ensures.1 in
-    let places = share t part parts in
     let ends = subst (λ p. EndsVisits (part_visiting S opens_at files p t) words.check t (telling.RunsIn p) (shelf_and_sink c.args.shelf.now begun)
     (shelf_and_sink c.visit_files.new.shelf mid) (Ok r)) c.of_part-places.ensures c.in_ok-report.ensures.ends in
     subst (ChecksMarkedAs words S opens_at files t part parts old new) (sym (p.1 ∙ ap Err p.2))
@@ -60,7 +60,7 @@ returns-in_err-finish_after-clause-checks g c =
       verdicts = r.files.items;
       v1 = r.v1;
       mid = mid;
-      all = marks_all words S opens_at files t (share t part parts) r.files.items r.v1 _ _ ends;
+      all = ends;
       broke = c.in_err-finish_after.ensures mid (last_as words r.files.items r.v1) c.say_end-said.ensures;
     })))
 
@@ -77,14 +77,13 @@ returns-clause-checks g c =
     let r = c.in_ok-report.report in
     let begun = seen c.say_bad_head.new.out in
     let mid = seen c.visit_files.new.out in
-    let places = share t part parts in
     let ends = subst (λ p. EndsVisits (part_visiting S opens_at files p t) words.check t (telling.RunsIn p) (shelf_and_sink c.args.shelf.now begun)
     (shelf_and_sink c.visit_files.new.shelf mid) (Ok r)) c.of_part-places.ensures c.in_ok-report.ensures.ends in
     record {
       begun = begun;
       head = c.in_ok-say_bad_head.ensures;
       mid = mid;
-      all = marks_all words S opens_at files t (share t part parts) r.files.items r.v1 _ _ ends;
+      all = ends;
       end = c.in_ok-finish_after.ensures mid (last_as words r.files.items r.v1) c.say_end-said.ensures;
     }
 

@@ -4,6 +4,7 @@ use Rattle.hashtree.specs.Bits.{AreClear}
 use Rattle.opening.specs.Seen.{file_entry}
 use Rattle.folders.proofs.Places.{pieces_are_positive}
 use Rattle.folders.specs.SeekVisits.{VisitsForAt}
+use Rattle.parts.specs.Parts.{IsPartVerdict}
 use Rattle.parts.specs.PieceReads.{ReadsPieces}
 use Rattle.parts.specs.Spans.{first_in}
 use Rattle.parts.proofs.FoundFiles.{finds_unreadable, small_pieces}
@@ -89,8 +90,9 @@ returns-in-Ok-None-clause-visits g c =
 
 pub returns-in-Err-clause-found : goal.returns-in-Err-clause-found
 returns-in-Err-clause-found g c =
-    finds_unreadable c.args.torrent.now c.args._places (file_entry c.args.file.now) ((g.S.Shelf.contents c.args.shelf.now).under c.args.file.now.path)
-    c.visit_at-visited.new.reader.bits.items c.not_whole-in-Err.result c.not_whole-in-Err.ensures.file c.not_whole-in-Err.ensures.v1
+    finds_unreadable c.args.torrent.now c.args._places (file_entry c.args.file.now) (IsPartVerdict c.args.torrent.now c.args._places)
+    ((g.S.Shelf.contents c.args.shelf.now).under c.args.file.now.path) c.visit_at-visited.new.reader.bits.items c.not_whole-in-Err.result (λ content. tt)
+    c.not_whole-in-Err.ensures.file c.not_whole-in-Err.ensures.v1
 
 pub returns-in-Err-clause-visits : goal.returns-in-Err-clause-visits
 returns-in-Err-clause-visits g c =

@@ -6,7 +6,7 @@ use Rattle.wire.proofs.Giving.{Gave-take, Gave-trans}
 use Rattle.pieces.proofs.Cutting.{some_pieces}
 use Rattle.folders.proofs.Places.{pieces_are_positive}
 use Rattle.folders.proofs.Reports.{has_tree}
-use Rattle.parts.specs.RowChecks.{JudgesRow}
+use Rattle.parts.specs.RowChecks.{JudgesPieces}
 use Rattle.parts.proofs.SoFar.{agrees_end, agrees_more, all_read, as_long, begins, begins_before, row_too_short, row_whole, too_long}
 use Rattle.parts.proofs.row.read_pieces.Goals as goal
 
@@ -16,7 +16,7 @@ returns-in_default-clause-found g c =
     let f = file_entry c.args.file.now in
     let s = c.args.span in
     let S = g.F.Source in
-    let short = subst (JudgesRow t f s.from s.to (S.seen c.args.source.now) (S.seen c.judge.new.source) c.judge.new.bits.items) c.in_default.is
+    let short = subst (JudgesPieces t f s.from s.to (S.seen c.args.source.now) (S.seen c.judge.new.source) c.judge.new.bits.items) c.in_default.is
     c.in_ok-found.ensures.judged in
     record {
       rest = short.own;
@@ -30,7 +30,7 @@ returns-in_default-clause-taken g c =
     let f = file_entry c.args.file.now in
     let s = c.args.span in
     let S = g.F.Source in
-    let short = subst (JudgesRow t f s.from s.to (S.seen c.args.source.now) (S.seen c.judge.new.source) c.judge.new.bits.items) c.in_default.is
+    let short = subst (JudgesPieces t f s.from s.to (S.seen c.args.source.now) (S.seen c.judge.new.source) c.judge.new.bits.items) c.in_default.is
     c.in_ok-found.ensures.judged in
     λ at. omega (arith, at, short.gave.falls, short.short)
 
@@ -40,7 +40,7 @@ returns-then-not-span-clause-found g c =
     let f = file_entry c.args.file.now in
     let s = c.args.span in
     let S = g.F.Source in
-    let row = subst (JudgesRow t f s.from s.to (S.seen c.args.source.now) (S.seen c.judge.new.source) c.judge.new.bits.items) c.in-Some.is
+    let row = subst (JudgesPieces t f s.from s.to (S.seen c.args.source.now) (S.seen c.judge.new.source) c.judge.new.bits.items) c.in-Some.is
     c.in_ok-found.ensures.judged in
     let more = agrees_more _ _ row.own row.gave.given in
     let off : s.ends ≡ true → ⊥ = λ on. (let h = c.if-not-span.true in cc) in
@@ -63,7 +63,7 @@ returns-then-not-span-clause-taken g c =
     let f = file_entry c.args.file.now in
     let s = c.args.span in
     let S = g.F.Source in
-    let row = subst (JudgesRow t f s.from s.to (S.seen c.args.source.now) (S.seen c.judge.new.source) c.judge.new.bits.items) c.in-Some.is
+    let row = subst (JudgesPieces t f s.from s.to (S.seen c.args.source.now) (S.seen c.judge.new.source) c.judge.new.bits.items) c.in-Some.is
     c.in_ok-found.ensures.judged in
     omega (arith, row.gave.falls, row.judged.count)
 
@@ -73,7 +73,7 @@ returns-then-branch-gt0-clause-found g c =
     let f = file_entry c.args.file.now in
     let s = c.args.span in
     let S = g.F.Source in
-    let row = subst (JudgesRow t f s.from s.to (S.seen c.args.source.now) (S.seen c.judge.new.source) c.judge.new.bits.items) c.in-Some.is
+    let row = subst (JudgesPieces t f s.from s.to (S.seen c.args.source.now) (S.seen c.judge.new.source) c.judge.new.bits.items) c.in-Some.is
     c.in_ok-found.ensures.judged in
     let e = c.in_ok-read.ensures in
     let n = c.in_ok-read.field-0 in
@@ -101,7 +101,7 @@ returns-then-branch-gt0-clause-taken g c =
     let f = file_entry c.args.file.now in
     let s = c.args.span in
     let S = g.F.Source in
-    let row = subst (JudgesRow t f s.from s.to (S.seen c.args.source.now) (S.seen c.judge.new.source) c.judge.new.bits.items) c.in-Some.is
+    let row = subst (JudgesPieces t f s.from s.to (S.seen c.args.source.now) (S.seen c.judge.new.source) c.judge.new.bits.items) c.in-Some.is
     c.in_ok-found.ensures.judged in
     λ at. omega (arith, at, row.gave.falls, row.judged.count, c.in_ok-read.ensures.falls, c.if-branch-gt0.true)
 
@@ -111,7 +111,7 @@ returns-clause-found g c =
     let f = file_entry c.args.file.now in
     let s = c.args.span in
     let S = g.F.Source in
-    let row = subst (JudgesRow t f s.from s.to (S.seen c.args.source.now) (S.seen c.judge.new.source) c.judge.new.bits.items) c.in-Some.is
+    let row = subst (JudgesPieces t f s.from s.to (S.seen c.args.source.now) (S.seen c.judge.new.source) c.judge.new.bits.items) c.in-Some.is
     c.in_ok-found.ensures.judged in
     let e = c.in_ok-read.ensures in
     let n = c.in_ok-read.field-0 in
@@ -156,6 +156,6 @@ returns-clause-taken g c =
     let f = file_entry c.args.file.now in
     let s = c.args.span in
     let S = g.F.Source in
-    let row = subst (JudgesRow t f s.from s.to (S.seen c.args.source.now) (S.seen c.judge.new.source) c.judge.new.bits.items) c.in-Some.is
+    let row = subst (JudgesPieces t f s.from s.to (S.seen c.args.source.now) (S.seen c.judge.new.source) c.judge.new.bits.items) c.in-Some.is
     c.in_ok-found.ensures.judged in
     omega (arith, row.gave.falls, row.judged.count, c.in_ok-read.ensures.falls, c.if-branch-gt0.false)

@@ -6,12 +6,12 @@ use Rattle.chains.proofs.Cases.{same_some}
 use Rattle.opening.specs.Seen.{file_entry, version1}
 use Rattle.opening.proofs.Placing.{file_there, all_passed}
 use Rattle.parts.specs.Checking.{shelf_and_sink}
-use Rattle.parts.specs.Visiting.{EndsVisits}
+use Rattle.parts.specs.Visiting.{EndsVisits, VisitsFile}
 use Rattle.benc.specs.Device.{Broke, Sent}
 use Rattle.parts.specs.Telling.{HasBits, Tells, TellsFirst, Told}
 use Rattle.parts.specs.Words.{words_as}
 use Rattle.parts.specs.Worse.{worse_v1}
-use Rattle.parts.proofs.ToldFirst.{IsToldFirst, VisitsNext, length-told, stops_at, told_all, told_none, told_one}
+use Rattle.parts.proofs.ToldFirst.{IsToldFirst, length-told, stops_at, told_all, told_none, told_one}
 use Rattle.parts.proofs.visiting.visit_files.Goals as goal
 use Rattle.parts.proofs.visiting.visit_files.Goals.{in-Some, in-None}
 
@@ -63,8 +63,8 @@ files-preserved g c =
     let old = shelf_and_sink c.args.shelf.now (g.L.LineSink.seen c.args.out.now) in
     let mid = shelf_and_sink c.files.shelf (g.L.LineSink.seen c.files.out) in
     let new = shelf_and_sink found.new.shelf (g.L.LineSink.seen c.tell.new.out) in
-    let next : VisitsNext V (words_as g.L.LineSink.spelled) t c.args.telling mid n f found.result found.new.bits.items found.new.shelf = record {
-      there = file_there t c.files-entries.result.now n c.file-item.result c.files-entries.ensures c.files-test.true c.file-item.is;
+    let there = file_there t c.files-entries.result.now n c.file-item.result c.files-entries.ensures c.files-test.true c.file-item.is in
+    let next : VisitsFile V t c.files.shelf f found.new.bits.items found.result found.new.shelf = record {
       finds = found.ensures.found;
       visits = found.ensures.visits;
       counts = found.ensures.counts;
@@ -75,7 +75,7 @@ files-preserved g c =
     (Sent mid.1 (g.L.LineSink.seen c.tell.new.out)))
     c.deref.ensures.value c.in_ok-tell.ensures.tells in
     let checked = told_one V (words_as g.L.LineSink.spelled) t c.args.telling old mid n c.files.files.items c.files.v1 f found.result found.new.bits.items
-    found.new.shelf (g.L.LineSink.seen c.tell.new.out) next told c.files.invariant.checked in
+    found.new.shelf (g.L.LineSink.seen c.tell.new.out) c.requires.own there next told c.files.invariant.checked in
     record {
       room = omega (arith, c.files.invariant.room, c.push_reserved.ensures.capacity);
       bits = subst (λ k. HasBits t c.args.telling k) (sym found.ensures.capacity) c.files.invariant.bits;
@@ -94,8 +94,8 @@ returns-in_err-tell-clause-ends g c =
     let found = c.visit-found in
     let old = shelf_and_sink c.args.shelf.now (g.L.LineSink.seen c.args.out.now) in
     let mid = shelf_and_sink c.files.shelf (g.L.LineSink.seen c.files.out) in
-    let next : VisitsNext V (words_as g.L.LineSink.spelled) t c.args.telling mid n f found.result found.new.bits.items found.new.shelf = record {
-      there = file_there t c.files-entries.result.now n c.file-item.result c.files-entries.ensures c.files-test.true c.file-item.is;
+    let there = file_there t c.files-entries.result.now n c.file-item.result c.files-entries.ensures c.files-test.true c.file-item.is in
+    let next : VisitsFile V t c.files.shelf f found.new.bits.items found.result found.new.shelf = record {
       finds = found.ensures.found;
       visits = found.ensures.visits;
       counts = found.ensures.counts;
@@ -110,7 +110,7 @@ returns-in_err-tell-clause-ends g c =
     found.result.file b
     (Broke mid.1 (g.L.LineSink.seen c.tell.new.out))) c.deref.ensures.value c.in_err-tell.ensures.tells in
     let stops = stops_at V (words_as g.L.LineSink.spelled) t c.args.telling old mid n c.files.files.items c.files.v1 f found.result found.new.bits.items
-    found.new.shelf (g.L.LineSink.seen c.tell.new.out) few c.in_err-tell.ensures.some next told so_far in
+    found.new.shelf (g.L.LineSink.seen c.tell.new.out) few c.in_err-tell.ensures.some c.requires.own there next told so_far in
     subst (λ r. EndsVisits V (words_as g.L.LineSink.spelled) t c.args.telling old (shelf_and_sink found.new.shelf (g.L.LineSink.seen c.tell.new.out)) r)
     (sym p.1) stops
 

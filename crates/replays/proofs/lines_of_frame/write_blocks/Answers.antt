@@ -8,12 +8,12 @@ use Rattle.benc.specs.Device.{Sent}
 use Rattle.lines.specs.Rows.{Row, Spelling}
 use Rattle.printing.proofs.Parts.{item_next, sent_fault, sent_next}
 use Rattle.session.specs.Blocks.{BlocksSeen}
-use Rattle.replays.specs.ReplayRows.{entry_lines_as, entry_row}
+use Rattle.replays.specs.ReplayRows.{entry_lines_as, frame_entry_row}
 use Rattle.replays.proofs.lines_of_frame.write_blocks.Goals as goal
 
 -- the line of an entry, and those behind it
 next_entry : (spelled : Spelling) (n : ℕ) (v : BlocksSeen) (i : ℕ) (r : Option BlockRefusal) (line : Row) → slice_get v.refusals i ≡ Some r
-    → line ≡ entry_row n v i r
+    → line ≡ frame_entry_row n v i r
     → entry_lines_as spelled n v i (drop i v.refusals) ≡ spelled line ++ entry_lines_as spelled n v (i + 1) (drop (i + 1) v.refusals)
 unfolding entry_lines_as
 next_entry spelled n v i r line at is =

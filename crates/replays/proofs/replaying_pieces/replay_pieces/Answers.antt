@@ -1,15 +1,8 @@
 use Rattle.std.proofs.Common.{rules}
-use Rattle.replays.proofs.AsTexts.{pieces_cut, pieces_report}
 use Rattle.replays.proofs.replaying_pieces.replay_pieces.Goals as goal
 
 pub returns-in-Some-clause-report : goal.returns-in-Some-clause-report
-returns-in-Some-clause-report g c = rw c.in-Some.is (pieces_report _ _ _ (search rules))
+returns-in-Some-clause-report g c = rw c.in-Some.is (search rules)
 
 pub returns-in-Some-clause-cut_report : goal.returns-in-Some-clause-cut_report
-returns-in-Some-clause-cut_report g c = rw c.in-Some.is (pieces_cut _ _ _ (search rules))
-
-pub returns-clause-report : goal.returns-clause-report
-returns-clause-report g c = pieces_report _ _ _ (search rules)
-
-pub returns-clause-cut_report : goal.returns-clause-cut_report
-returns-clause-cut_report g c = pieces_cut _ _ _ (search rules)
+returns-in-Some-clause-cut_report g c = rw c.in-Some.is (search rules)

@@ -2,7 +2,7 @@ use Rattle.std.proofs.Common.{◌≡◌, ◌∙◌, length, map, ap, refl, subst
 use Rattle.std.proofs.lemmas.List.{length-map}
 use Rattle.opening.specs.Seen.{file_entry}
 use Rattle.opening.proofs.Placing.{file_there}
-use Rattle.seeding.specs.Together.{HoldsFrom, StandsHashed, left}
+use Rattle.seeding.specs.Together.{HoldsFrom, StandsHashed, held_left}
 use Rattle.seeding.proofs.HeldSeeds.{if_ok_then, next_stated, on_err_then, seeds_alone, seeds_next, stops_alone, stops_next}
 use Rattle.seeding.proofs.HeldTogether.{next_held, none_held}
 use Rattle.seeding.proofs.seeding.seed_next.Goals as goal
@@ -40,7 +40,7 @@ seed_held-requires-clause-held g c =
     (omega (arith, c.requires.there, ap length files, length-map c.files.result.now file_entry)) c.index-files-number.is in
     let (s, holds) = c.requires.held in
     let next = next_held shelf seen fs (StandsHashed blocks) c.args.number s f c.in-Some.one
-    (left c.take.new.self) c.args.shelf.now there (subst (λ hs. HoldsFrom shelf seen (StandsHashed blocks) fs c.args.number s hs
+    (held_left c.take.new.self) c.args.shelf.now there (subst (λ hs. HoldsFrom shelf seen (StandsHashed blocks) fs c.args.number s hs
     c.args.shelf.now) c.in-Some.ensures.some holds) in (
       next.content,
       next.is,
@@ -61,7 +61,7 @@ returns-in-Some-clause-seeds g c =
     (omega (arith, c.requires.there, ap length files, length-map c.files.result.now file_entry)) c.index-files-number.is in
     if_ok_then _ _ c.seed_held.result c.seed_held.ensures.seeds (λ seeded given s holds.
     let next = next_held shelf seen fs (StandsHashed blocks) c.args.number s f c.in-Some.one
-    (left c.take.new.self) c.args.shelf.now there (subst (λ hs. HoldsFrom shelf seen (StandsHashed blocks) fs c.args.number s hs
+    (held_left c.take.new.self) c.args.shelf.now there (subst (λ hs. HoldsFrom shelf seen (StandsHashed blocks) fs c.args.number s hs
     c.args.shelf.now) c.in-Some.ensures.some holds) in
     seeds_next shelf seen fs c.args.number f there K c.seed_held.new.session s
     c.args.shelf.now blocks c.in-Some.one c.take.new.self c.in-Some.ensures.few next seeded (given next.content next.is
@@ -81,7 +81,7 @@ returns-in-Some-clause-no_memory g c =
     (omega (arith, c.requires.there, ap length files, length-map c.files.result.now file_entry)) c.index-files-number.is in
     on_err_then _ _ c.seed_held.result c.seed_held.ensures.no_memory (λ given s holds.
     let next = next_held shelf seen fs (StandsHashed blocks) c.args.number s f c.in-Some.one
-    (left c.take.new.self) c.args.shelf.now there (subst (λ hs. HoldsFrom shelf seen (StandsHashed blocks) fs c.args.number s hs
+    (held_left c.take.new.self) c.args.shelf.now there (subst (λ hs. HoldsFrom shelf seen (StandsHashed blocks) fs c.args.number s hs
     c.args.shelf.now) c.in-Some.ensures.some holds) in
     stops_next shelf seen fs c.args.number f there K c.seed_held.new.session s
     c.args.shelf.now blocks c.in-Some.one c.take.new.self c.in-Some.ensures.few next (given next.content next.is
@@ -103,7 +103,7 @@ returns-in-None-clause-seeds g c =
     seeds_alone shelf seen fs c.args.number f there K c.seed_file.new.session s
     c.seed_file.new.shelf (record { files = c.take.new.self; blocks = blocks }) (c.in-None.ensures.none refl).0 c.args.shelf.now
     (none_held shelf seen fs (StandsHashed blocks) c.args.number s c.args.shelf.now
-    (left c.args.held.now.files) (c.in-None.ensures.none refl).1 holds) seeded step)
+    (held_left c.args.held.now.files) (c.in-None.ensures.none refl).1 holds) seeded step)
 
 pub returns-in-None-clause-no_memory : goal.returns-in-None-clause-no_memory
 returns-in-None-clause-no_memory g c =
@@ -120,4 +120,4 @@ returns-in-None-clause-no_memory g c =
     stops_alone shelf seen fs c.args.number f there K c.seed_file.new.session s
     c.seed_file.new.shelf (record { files = c.take.new.self; blocks = blocks }) (c.in-None.ensures.none refl).0 c.args.shelf.now
     (none_held shelf seen fs (StandsHashed blocks) c.args.number s c.args.shelf.now
-    (left c.args.held.now.files) (c.in-None.ensures.none refl).1 holds) stops)
+    (held_left c.args.held.now.files) (c.in-None.ensures.none refl).1 holds) stops)

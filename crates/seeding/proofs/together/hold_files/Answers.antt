@@ -3,7 +3,7 @@ use Rattle.std.proofs.lemmas.List.{length_push}
 use Rattle.block_windows.specs.Files.{IsWithin}
 use Rattle.opening.specs.Seen.{file_entry}
 use Rattle.opening.proofs.Placing.{file_there}
-use Rattle.seeding.specs.Together.{HoldsFrom, Stands, left}
+use Rattle.seeding.specs.Together.{HoldsFrom, Stands, held_left}
 use Rattle.seeding.proofs.HeldTogether.{holds_more, holds_none, stands_later}
 use Rattle.seeding.proofs.together.hold_files.Goals as goal
 
@@ -24,7 +24,7 @@ files-preserved g c =
     let f = file_entry c.index-entries-number.result in
     let was = c.files.invariant in
     let one = c.hold_in-one in
-    let held = left c.files.held.files in
+    let held = held_left c.files.held.files in
     let room = c.files.room.items in
     let room' = one.new.room.items in
     let used' = c.files.used + c.index-entries-number.result.length in

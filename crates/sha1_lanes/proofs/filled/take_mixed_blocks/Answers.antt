@@ -1,13 +1,13 @@
 use Rattle.std.proofs.Common.{◌≡◌, ℕ, ◌+◌, ◌*◌, ◌++◌, take, drop, replicate, slice_index, ap, ◌∙◌, arith}
 use Rattle.sha1.specs.Sha1.{word_at}
-use Rattle.sha1_lanes.specs.Batches.{message_at}
+use Rattle.lanes.specs.Lanes.{bytes_at}
 use Rattle.lanes.proofs.Messages.{word_of_bytes}
 use Rattle.sha1_lanes.proofs.Zeros.{byte_with_zeros}
 use Rattle.sha1_lanes.proofs.filled.take_mixed_blocks.Goals as goal
 
 pub returns : goal.returns
 returns c j lt zeros =
-    let own = message_at c.args.buffer.now (slice_index c.args.starts.now j) (slice_index c.args.sizes.now j) in
+    let own = bytes_at c.args.buffer.now (slice_index c.args.starts.now j) (slice_index c.args.sizes.now j) in
     let m = own ++ replicate {A = ℕ} zeros 0 in
     let at = c.args.at in
     let row = c.places.row in

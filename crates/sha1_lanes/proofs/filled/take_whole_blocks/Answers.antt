@@ -1,6 +1,6 @@
 use Rattle.std.proofs.Common.{◌≡◌, ℕ, ◌+◌, ◌*◌, ◌≤◌, ◌++◌, take, drop, replicate, slice_index, ap, ◌∙◌, arith}
 use Rattle.sha1.specs.Sha1.{word_at}
-use Rattle.sha1_lanes.specs.Batches.{message_at}
+use Rattle.lanes.specs.Lanes.{bytes_at}
 use Rattle.lanes.proofs.Messages.{byte_of_message, word_of_bytes}
 use Rattle.sha1_lanes.proofs.Zeros.{byte_with_zeros}
 use Rattle.sha1_lanes.proofs.filled.take_whole_blocks.Goals as goal
@@ -10,7 +10,7 @@ returns c j lt zeros =
     let bytes = c.args.buffer.now in
     let start = slice_index c.args.starts.now j in
     let size = slice_index c.args.sizes.now j in
-    let own = message_at bytes start size in
+    let own = bytes_at bytes start size in
     let m = own ++ replicate {A = ℕ} zeros 0 in
     let at = c.args.at in
     let whole : at + 64 ≤ size = c.requires.whole j lt in

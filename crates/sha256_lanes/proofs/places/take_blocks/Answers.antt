@@ -1,12 +1,12 @@
 use Rattle.std.proofs.Common.{◌≡◌, ◌+◌, ◌*◌, take, drop, slice_index, ap, ◌∙◌, arith}
 use Rattle.sha2.specs.Sha256.{padded_message, word_at}
-use Rattle.sha256_lanes.specs.Lanes.{message_at}
+use Rattle.lanes.specs.Lanes.{bytes_at}
 use Rattle.lanes.proofs.Messages.{word_of_bytes}
 use Rattle.sha256_lanes.proofs.places.take_blocks.Goals as goal
 
 pub returns : goal.returns
 returns c j lt short =
-    let m = padded_message (message_at c.args.buffer.now (slice_index c.args.starts.now j) (slice_index c.args.sizes.now j)) in
+    let m = padded_message (bytes_at c.args.buffer.now (slice_index c.args.starts.now j) (slice_index c.args.sizes.now j)) in
     let at = 64 * c.args.block in
     let row = c.places.row in
     c.compress.ensures j lt (take 64 (drop at m)) (λ k below.

@@ -5,7 +5,7 @@ use Rattle.benc.proofs.Out.{Wrote-then, Wrote-part}
 use Rattle.lines.specs.Rows.{Spelling, spell}
 use Rattle.lines.specs.Table.{files_row, hash_v2_row, name_row, piece_length_row}
 use Rattle.opening.specs.Description.{Description}
-use Rattle.torrent_lines.specs.Rows.{entry_rows, hybrid_rows, show_rows}
+use Rattle.torrent_lines.specs.Rows.{entry_rows, show_rows, v1_hash_rows}
 use Rattle.torrent_lines.proofs.showing.say_torrent.Goals as goal
 
 -- the lines behind the name, behind the piece length, and so on
@@ -16,7 +16,7 @@ abbrev after_hybrid : Spelling → Description → List ℕ
 after_hybrid spelled t = spelled (files_row (length t.files)) ++ after_count spelled t
 
 abbrev after_hash : Spelling → Description → List ℕ
-after_hash spelled t = spell spelled (hybrid_rows t.v1 t.info_hash_v1) ++ after_hybrid spelled t
+after_hash spelled t = spell spelled (v1_hash_rows t.v1 t.info_hash_v1) ++ after_hybrid spelled t
 
 abbrev after_length : Spelling → Description → List ℕ
 after_length spelled t = spelled (hash_v2_row t.info_hash_v2) ++ after_hash spelled t
@@ -27,7 +27,7 @@ after_name spelled t = spelled (piece_length_row t.piece_length) ++ after_length
 lines_are : (spelled : Spelling) (t : Description) → spell spelled (show_rows t) ≡ spelled (name_row t.name) ++ after_name spelled t
 lines_are spelled t =
     ap (λ rest. spelled (name_row t.name) ++ (spelled (piece_length_row t.piece_length) ++ (spelled (hash_v2_row t.info_hash_v2) ++ rest)))
-    (flat_map-append spelled (hybrid_rows t.v1 t.info_hash_v1) (files_row (length t.files) ∷ entry_rows t.trees t.files))
+    (flat_map-append spelled (v1_hash_rows t.v1 t.info_hash_v1) (files_row (length t.files) ∷ entry_rows t.trees t.files))
 
 pub returns-in_err-say_name : goal.returns-in_err-say_name
 returns-in_err-say_name g c =
@@ -61,7 +61,7 @@ returns-in_err-say_hybrid g c =
     Wrote-then _ _ _ _ (spelled (name_row t.name)) (after_name spelled t) _ (lines_are spelled t) c.in_ok-say_name.ensures
     (Wrote-then _ _ _ _ (spelled (piece_length_row t.piece_length)) (after_length spelled t) _ refl c.in_ok-say_piece_length.ensures
     (Wrote-then _ _ _ _ (spelled (hash_v2_row t.info_hash_v2)) (after_hash spelled t) _ refl c.in_ok-say_hash.ensures
-    (Wrote-part _ p.0 _ _ (spell spelled (hybrid_rows t.v1 t.info_hash_v1)) (after_hybrid spelled t) _ refl p.1 c.in_err-say_hybrid.ensures)))
+    (Wrote-part _ p.0 _ _ (spell spelled (v1_hash_rows t.v1 t.info_hash_v1)) (after_hybrid spelled t) _ refl p.1 c.in_err-say_hybrid.ensures)))
 
 pub returns-in_err-say_count : goal.returns-in_err-say_count
 returns-in_err-say_count g c =
@@ -71,7 +71,7 @@ returns-in_err-say_count g c =
     Wrote-then _ _ _ _ (spelled (name_row t.name)) (after_name spelled t) _ (lines_are spelled t) c.in_ok-say_name.ensures
     (Wrote-then _ _ _ _ (spelled (piece_length_row t.piece_length)) (after_length spelled t) _ refl c.in_ok-say_piece_length.ensures
     (Wrote-then _ _ _ _ (spelled (hash_v2_row t.info_hash_v2)) (after_hash spelled t) _ refl c.in_ok-say_hash.ensures
-    (Wrote-then _ _ _ _ (spell spelled (hybrid_rows t.v1 t.info_hash_v1)) (after_hybrid spelled t) _ refl c.in_ok-say_hybrid.ensures
+    (Wrote-then _ _ _ _ (spell spelled (v1_hash_rows t.v1 t.info_hash_v1)) (after_hybrid spelled t) _ refl c.in_ok-say_hybrid.ensures
     (Wrote-part _ p.0 _ _ (spelled (files_row (length t.files))) (after_count spelled t) _ refl p.1 c.in_err-say_count.ensures))))
 
 pub returns : goal.returns
@@ -81,6 +81,6 @@ returns g c =
     Wrote-then _ _ _ _ (spelled (name_row t.name)) (after_name spelled t) _ (lines_are spelled t) c.in_ok-say_name.ensures
     (Wrote-then _ _ _ _ (spelled (piece_length_row t.piece_length)) (after_length spelled t) _ refl c.in_ok-say_piece_length.ensures
     (Wrote-then _ _ _ _ (spelled (hash_v2_row t.info_hash_v2)) (after_hash spelled t) _ refl c.in_ok-say_hash.ensures
-    (Wrote-then _ _ _ _ (spell spelled (hybrid_rows t.v1 t.info_hash_v1)) (after_hybrid spelled t) _ refl c.in_ok-say_hybrid.ensures
+    (Wrote-then _ _ _ _ (spell spelled (v1_hash_rows t.v1 t.info_hash_v1)) (after_hybrid spelled t) _ refl c.in_ok-say_hybrid.ensures
     (Wrote-then _ _ _ _ (spelled (files_row (length t.files))) (after_count spelled t) _ refl c.in_ok-say_count.ensures
     (rw (sym c.files.ensures) (rw (sym c.trees.ensures) c.say_files.ensures))))))

@@ -4,7 +4,7 @@ use Rattle.wire.specs.declared.form.Direction.TheVariants.{In}
 use Rattle.wire.proofs.Heads.{Holds-longest}
 use Rattle.wire.proofs.RecordParts.{longest_frame, next_after_header, stops_after_header, stops_behind_half, stops_in_half, gave_header, half_is, half_is_not}
 use Rattle.wire.proofs.Stopping.{device}
-use Rattle.wire.specs.RecordReader.{HoldsFrom}
+use Rattle.wire.specs.RecordReader.{HasDirectedHead}
 use Rattle.wire.proofs.record.read_marked.Goals as goal
 
 pub returns-in_err-read_exact-clause-bytes : goal.returns-in_err-read_exact-clause-bytes
@@ -35,7 +35,7 @@ returns-in_ok-read_directed-clause-bytes g c = λ start first.
     let S = g.R.Source in
     let head = gave_header start (S.seen c.args.source.now) (S.seen c.read_exact.new.source) c.read_exact.new.buf (half_is _ c.if-eq.ensures) first
     c.in_ok-read_exact.ensures.bytes in
-    next_after_header (HoldsFrom c.read_directed.new.kept.items) start (S.seen c.read_exact.new.source) (S.seen c.read_directed.new.source)
+    next_after_header (HasDirectedHead c.read_directed.new.kept.items) start (S.seen c.read_exact.new.source) (S.seen c.read_directed.new.source)
     c.in_ok-read_directed.field-0 head c.in_ok-read_directed.ensures.bytes
 
 pub returns-in_ok-skip-clause-bytes : goal.returns-in_ok-skip-clause-bytes

@@ -1,7 +1,7 @@
 use Rattle.std.proofs.Common.{rules, ◌≡◌, ◌∙◌, ◌+◌, ◌-◌, ℕ, List, length, take, drop, ap, ap₂, sym, arith}
 use Rattle.std.proofs.lemmas.List.{length-drop, length-take}
 use Rattle.hashtree.specs.Tree.{block_count, height, root_over}
-use Rattle.sha256_lanes.specs.Lanes.{message_at}
+use Rattle.lanes.specs.Lanes.{bytes_at}
 use Rattle.block_windows.proofs.FileBlocks.{leaves_there}
 use Rattle.block_windows.proofs.files.Window.root.Goals as goal
 
@@ -11,7 +11,7 @@ returns c buffer start has hashed inside =
     let first : ℕ = c.args.first in
     let size : ℕ = c.args.size in
     let blocks : ℕ = c.div_ceil-blocks.result in
-    let file : List ℕ = message_at buffer start size in
+    let file : List ℕ = bytes_at buffer start size in
     let size_is : length file ≡ size = length-take size (drop start buffer) ∙ omega (arith, inside, length-drop start buffer) in
     let count : blocks ≡ block_count size = omega (arith, c.div_ceil-blocks.ensures) in
     let whole : length w.leaves ≡ 64 = search rules in

@@ -1,4 +1,4 @@
-use Rattle.std.proofs.Common.{true≢false, refl, sym, ◌∙◌}
+use Rattle.std.proofs.Common.{true≢false, refl, sym, ◌∙◌, arith}
 use Rattle.std.proofs.lemmas.Slice.Eq.{bytes_eq-Decides}
 use Rattle.btcheck_c.proofs.FileVerdicts.{anew, bad_root, by_layer, good_root}
 use Rattle.btcheck_c.proofs.file_check.FileCheck.finish.Goals as goal
@@ -12,9 +12,9 @@ returns-in-None-clause-verdict c =
 pub returns-then-eq-clause-verdict : goal.returns-then-eq-clause-verdict
 returns-then-eq-clause-verdict c =
     good_root c.args.self.now c.in-Some.root c.finish.result.0 c.finish.result.1 c.finish.new.good
-    c.args.good.now c.set_first.new.bits c.finish.result.2 c.in-Some.is c.requires c.finish.ensures.found
+    c.args.good.now c.set_bit.new.bits c.finish.result.2 c.in-Some.is c.requires c.finish.ensures.found
     ((bytes_eq-Decides c.finish.result.1 c.in-Some.root).0 (sym c.eq.ensures ∙ c.if-eq.true))
-    c.set_first.ensures.size c.set_first.ensures.set c.set_first.ensures.others
+    c.set_bit.ensures.size (λ some. c.set_bit.ensures.set (omega (arith, some))) c.set_bit.ensures.others
 
 pub returns-else-eq-clause-verdict : goal.returns-else-eq-clause-verdict
 returns-else-eq-clause-verdict c =

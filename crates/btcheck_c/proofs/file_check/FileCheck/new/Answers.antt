@@ -1,4 +1,4 @@
-use Rattle.std.proofs.Common.{◌≡◌, ◌-◌, IfSome, length, refl, ap, ◌∙◌, subst, arith}
+use Rattle.std.proofs.Common.{rules, ◌≡◌, ◌-◌, IfSome, length, refl, ap, ◌∙◌, subst, arith}
 use Rattle.hashtree.specs.Tree.{block_count, height}
 use Rattle.pieces.specs.Pieces.{IsPieceLength}
 use Rattle.pieces.proofs.Legal.{legal_bounds}
@@ -19,3 +19,6 @@ new-requires-clause-whole c =
     c.requires.within c.requires.sound.layer_length c.row_hashes-hashes.ensures.one c.row_hashes-hashes.ensures.many in
     hashes_whole p n c.unwrap.result c.unwrap-shape.result c.height-layer.result from to hashes legal c.requires.order c.requires.within count piece shape
     c.height-layer.ensures.enough c.height-layer.ensures.least
+
+pub returns : goal.returns
+returns c = record { against = search rules; count = c.in_ok-new.ensures.count; given = c.in_ok-new.ensures.given }

@@ -1,7 +1,7 @@
 use Rattle.std.proofs.Common.{◌<◌, inl, inr, sym, ◌∙◌, subst, arith}
 use Rattle.std.proofs.lemmas.Bool.{cases_lt, false≢true}
 use Rattle.std.proofs.lemmas.Result.{IfOk-weaker, on_err_weaker}
-use Rattle.hashtree.specs.LayerBuilder.{byte_count}
+use Rattle.hashtree.specs.LayerBuilder.{layer_byte_count}
 use Rattle.gathering.specs.Hashing.{EndsWithHashes}
 use Rattle.drafting.specs.Stages.{FoundOf}
 use Rattle.drafting.proofs.Finding.{found_coming, found_empty, lacks_at_end}
@@ -22,7 +22,7 @@ returns-else-is_empty-clause-found c =
 pub returns-else-is_empty-clause-memory : goal.returns-else-is_empty-clause-memory
 returns-else-is_empty-clause-memory c =
     let h = c.in-Coming.hashing in
-    let some : 0 < byte_count h.tree = elim (cases_lt 0 (byte_count h.tree)) [
+    let some : 0 < layer_byte_count h.tree = elim (cases_lt 0 (layer_byte_count h.tree)) [
       | inl more ↦ more
       | inr none ↦ absurd (false≢true (sym c.if-is_empty.false ∙ c.is_empty.ensures.1 (omega (arith, none))))
     ] in

@@ -80,7 +80,7 @@ returns-in_err-file c =
     let p = err_from_is_err_and c.from_residual-in_err-file.result c.from_residual-in_err-file.ensures.1 in
     subst (Adds c.args.self.now f c.args.layer.now c.args.self.now) (sym p.1)
     (answers c.args.self.now c.args.self.now f c.args.layer.now (Err p.0) (none_holds c.args.self.now f c.in-Some.place passed
-    (subst (λ ps. IsPlaceOf f.path ps c.in-Some.place) paths c.in-Some.ensures.place)) tt (p.2 ∙ c.in_err-file.ensures) refl)
+    (subst (λ ps. IsPlaceOf f.path ps c.in-Some.place) paths c.in-Some.ensures.place)) tt (p.2 ∙ c.in_err-file.ensures.given) refl)
 
 pub place_among-requires : goal.place_among-requires
 place_among-requires c =
@@ -99,11 +99,11 @@ insert-requires-clause-place c =
     let paths : map (λ (g : OutlineFile). g.path) (map outline_file c.deref.result.now) ≡ paths_in c.args.self.now =
     ap (λ (fs : List DraftFile). map (λ (g : OutlineFile). g.path) (map outline_file fs)) c.deref.ensures.value ∙ ap paths_in c.self.view_is
     in
-    subst (λ (g : OutlineFile). IsPlaceOf g.path (paths_in c.args.self.now) c.in-Some.place) (sym c.in_ok-file.ensures)
+    subst (λ (g : OutlineFile). IsPlaceOf g.path (paths_in c.args.self.now) c.in-Some.place) (sym c.in_ok-file.ensures.given)
     (subst (λ ps. IsPlaceOf f.path ps c.in-Some.place) paths c.in-Some.ensures.place)
 
 pub insert-requires-clause-path : goal.insert-requires-clause-path
-insert-requires-clause-path c = subst (λ (g : OutlineFile). IsFilePath g.path) (sym c.in_ok-file.ensures) c.in_ok-test_path.ensures
+insert-requires-clause-path c = subst (λ (g : OutlineFile). IsFilePath g.path) (sym c.in_ok-file.ensures.given) c.in_ok-test_path.ensures
 
 pub insert-requires-clause-tests : goal.insert-requires-clause-tests
 insert-requires-clause-tests c =
@@ -118,14 +118,14 @@ insert-requires-clause-tests c =
     let paths : map (λ (g : OutlineFile). g.path) (map outline_file c.deref.result.now) ≡ paths_in c.args.self.now =
     ap (λ (fs : List DraftFile). map (λ (g : OutlineFile). g.path) (map outline_file fs)) c.deref.ensures.value ∙ ap paths_in c.self.view_is
     in
-    subst (λ g. NoneHolds (add_rows c.args.self.now g)) (sym c.in_ok-file.ensures)
+    subst (λ g. NoneHolds (add_rows c.args.self.now g)) (sym c.in_ok-file.ensures.given)
     (none_holds c.args.self.now f c.in-Some.place passed (subst (λ ps. IsPlaceOf f.path ps c.in-Some.place) paths c.in-Some.ensures.place))
 
 pub insert-requires-clause-fits : goal.insert-requires-clause-fits
 insert-requires-clause-fits c =
     let root_length : length c.args.root ≡ 32 = search rules in
     let padded_length : length c.args.v1.now.padded ≡ 20 = search rules in
-    subst (λ g. IsGiven c.args.self.now g c.args.layer.now) (sym c.in_ok-file.ensures)
+    subst (λ g. IsGiven c.args.self.now g c.args.layer.now) (sym c.in_ok-file.ensures.given)
     (fits_given c.args.self.now (map (λ s. s.now) c.args.path.now) c.args.length c.args.root c.args.v1.now c.args.layer.now root_length
     (subst (All (λ h. length h ≡ 20)) c.deref-2.ensures.value c.are_digests.ensures) padded_length c.requires)
 
@@ -144,5 +144,5 @@ returns c =
     in
     answers c.args.self.now _ f c.args.layer.now c.insert.result
     (none_holds c.args.self.now f c.in-Some.place passed (subst (λ ps. IsPlaceOf f.path ps c.in-Some.place) paths c.in-Some.ensures.place))
-    (subst (λ g. OnOk c.insert.result (IsWith c.args.self.now c.insert.new.self g c.args.layer.now)) c.in_ok-file.ensures c.insert.ensures.added)
+    (subst (λ g. OnOk c.insert.result (IsWith c.args.self.now c.insert.new.self g c.args.layer.now)) c.in_ok-file.ensures.given c.insert.ensures.added)
     c.insert.ensures.refused c.insert.ensures.unchanged

@@ -3,13 +3,15 @@ use Rattle.std.specs.List.{insert}
 use Rattle.std.specs.String.{string_bytes}
 use Rattle.std.proofs.lemmas.Bool.{false≢true}
 use Rattle.std.proofs.lemmas.List.{length-map}
+use Rattle.std.proofs.lemmas.List.Elements.{All-same}
 use Rattle.chains.proofs.Cases.{on_err}
 use Rattle.filetree.specs.Tests.{NoneHolds}
 use Rattle.drafts.specs.Adding.{IsGiven, IsWith, add_rows}
-use Rattle.drafts.specs.DraftSeen.{IsKept, outline, outline_file}
+use Rattle.drafts.specs.DraftSeen.{HasOwnRoom, IsDraftKept, outline, outline_file}
 use Rattle.drafts.specs.Orders.{IsPlaceOf}
 use Rattle.drafts.specs.Outline.{Outline, OutlineFile}
 use Rattle.drafts.proofs.Kept.{put_file}
+use Rattle.drafts.proofs.OwnRooms.{all_put}
 use Rattle.drafts.proofs.draft.Draft.insert.Goals as goal
 
 pub insert-requires : goal.insert-requires
@@ -20,9 +22,11 @@ insert-requires c =
 pub invariant_of-self : goal.invariant_of-self
 invariant_of-self c =
     let i = c.self.inside in (
-      subst (λ fs. IsKept (string_bytes i.name) i.piece_length i.hybrid fs i.roots.entries i.pieces) (sym c.in_err-reserve_thrifty.ensures.items)
+      subst (λ fs. IsDraftKept (string_bytes i.name) i.piece_length i.hybrid fs i.roots.entries i.pieces) (sym c.in_err-reserve_thrifty.ensures.items)
           c.self.invariant.0,
       c.reserve_thrifty.ensures.room c.self.invariant.1,
+      All-same HasOwnRoom _ _ c.in_err-reserve_thrifty.ensures.items c.self.invariant.2,
+      c.self.invariant.3,
     )
 
 pub returns-in_err-reserve_thrifty-clause-unchanged : goal.returns-in_err-reserve_thrifty-clause-unchanged
@@ -34,9 +38,11 @@ returns-in_err-reserve_thrifty-clause-unchanged c =
 pub invariant_of-self-in_err-keep_root : goal.invariant_of-self-in_err-keep_root
 invariant_of-self-in_err-keep_root c =
     let i = c.self.inside in (
-      subst₂ (λ fs es. IsKept (string_bytes i.name) i.piece_length i.hybrid fs es i.pieces) (sym c.in_ok-reserve_thrifty.ensures.items)
+      subst₂ (λ fs es. IsDraftKept (string_bytes i.name) i.piece_length i.hybrid fs es i.pieces) (sym c.in_ok-reserve_thrifty.ensures.items)
           (sym c.in_err-keep_root.ensures.unchanged) c.self.invariant.0,
       c.reserve_thrifty.ensures.room c.self.invariant.1,
+      All-same HasOwnRoom _ _ c.in_ok-reserve_thrifty.ensures.items c.self.invariant.2,
+      c.keep_root.ensures.room c.self.invariant.3,
     )
 
 pub returns-in_err-keep_root-clause-unchanged : goal.returns-in_err-keep_root-clause-unchanged
@@ -68,6 +74,10 @@ invariant_of-self-2 c =
         c.in_ok-insert.ensures.len,
         c.reserve_thrifty.ensures.room c.self.invariant.1,
       ),
+      All-same HasOwnRoom _ _
+          (c.in_ok-insert.ensures.items ∙ ap (λ fs. insert fs c.args.place c.args.file) c.in_ok-reserve_thrifty.ensures.items)
+          (all_put HasOwnRoom c.args.place c.args.file i.files.items c.requires.own_room c.self.invariant.2),
+      c.keep_root.ensures.room c.self.invariant.3,
     )
 
 pub returns-clause-added : goal.returns-clause-added

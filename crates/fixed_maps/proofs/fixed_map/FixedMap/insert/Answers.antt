@@ -1,4 +1,5 @@
 use Rattle.std.proofs.Common.{◌≡◌, ℕ, ◌+◌, ◌<◌, ◌++◌, ◌∷◌, List, None, length, refl, sym, ap, ◌∙◌, subst, arith}
+use Rattle.std.specs.Vec.{vec_capacity}
 use Rattle.std.specs.FinMap.{from_sorted, get, insert, len}
 use Rattle.fixed_maps.specs.Tiers.{TierSeen, IsSpotOf, AreRising, flat, room_of, before_spot, after_spot}
 use Rattle.fixed_maps.specs.FixedMaps.{FixedMapSeen, map_of, map_room, IsFixedMap}
@@ -39,12 +40,13 @@ invariant_of-self c =
     let new = subst (λ (m : FixedMapSeen). get (map_of m) c.args.key ≡ None) (sym c.self.view_is) c.requires.new in
     let long : length us ≡ c.self.inside.tiers.len = omega (arith, c.put_at.auto.tiers, c.deref_mut.ensures.len) in
     let room = c.put_at.ensures.room ∙ ap room_of c.deref_mut.ensures.value in
-    subst (λ vs. IsFixedMap vs (c.self.inside.len + 1)) (sym (refilled c.self.inside.tiers.len us ts long))
+    subst (λ vs. IsFixedMap vs (c.self.inside.len + 1) (vec_capacity c.self.inside.tiers)) (sym (refilled c.self.inside.tiers.len us ts long))
     (record {
       some = let some = c.self.invariant.some in let size = c.self.inside.tiers.ok.0 in omega (arith, long, some, size);
       rising = inserted-rising ts c.args.key a b spot c.self.invariant.rising us c.args.value new put;
       count_is = ap (λ n. n + 1) c.self.invariant.count_is ∙ sym (inserted-count ts c.args.key a b spot c.self.invariant.rising us c.args.value new put);
       low = let most = c.self.invariant.low in omega (arith, room, most);
+      exact = let was = c.self.invariant.exact in let size = c.self.inside.tiers.ok.0 in omega (arith, was, long, size);
     })
 
 pub returns-clause-map : goal.returns-clause-map

@@ -1,5 +1,6 @@
 use Rattle.std.proofs.Common.{◌≡◌, ℕ, ◌+◌, ◌-◌, ◌≤◌, ◌<◌, ◌++◌, List, Some, None, true, false, length, sym, ap, ◌∙◌, subst, arith}
 use Rattle.std.specs.Ordering.{eq_by_cmp, is_eq}
+use Rattle.std.specs.Vec.{vec_capacity}
 use Rattle.std.specs.FinMap.{from_sorted, remove}
 use Rattle.node_maps.specs.Known.{place_cmp}
 use Rattle.fixed_maps.specs.Tiers.{Entry, TierSeen, IsSpotOf, flat, room_of, before_spot, after_spot_but_one}
@@ -49,12 +50,13 @@ invariant_of-self c =
     let less = removed-count ts c.args.key a b spot c.self.invariant.rising us e at own out in
     let count = c.self.invariant.count_is in
     let room = c.take_at.ensures.room ∙ ap room_of c.deref_mut.ensures.value in
-    subst (λ vs. IsFixedMap vs (c.self.inside.len - 1)) (sym (refilled c.self.inside.tiers.len us ts long))
+    subst (λ vs. IsFixedMap vs (c.self.inside.len - 1) (vec_capacity c.self.inside.tiers)) (sym (refilled c.self.inside.tiers.len us ts long))
     (record {
       some = let some = c.self.invariant.some in let size = c.self.inside.tiers.ok.0 in omega (arith, long, some, size);
       rising = removed-rising ts c.args.key a b spot c.self.invariant.rising us e at own out;
       count_is = omega (arith, less, count);
       low = let most = c.self.invariant.low in omega (arith, room, most);
+      exact = let was = c.self.invariant.exact in let size = c.self.inside.tiers.ok.0 in omega (arith, was, long, size);
     })
 
 pub returns-then-is_eq-clause-map : goal.returns-then-is_eq-clause-map

@@ -1,7 +1,7 @@
 use Rattle.std.proofs.Common.{rules, ◌≡◌, ◌∙◌, ◌+◌, ◌≤◌, ℕ, List, length, take, refl, sym, ap, subst}
 use Rattle.std.specs.Vec.{with_items}
 use Rattle.block_windows.specs.Files.{IsWithin, bytes_at}
-use Rattle.cut_windows.specs.Windows.{IsWithin as AreCutsWithin}
+use Rattle.cut_windows.specs.Windows.{AreCutsWithin}
 use Rattle.gathering.proofs.HeldFiles.{filled_items, held_more}
 use Rattle.gathering.proofs.batch.Batch.hold.Goals as goal
 

@@ -3,7 +3,7 @@ use Rattle.std.specs.FinMap.{get, len, remove}
 use Rattle.std.proofs.lemmas.List.{length-set, length-replicate}
 use Rattle.node_maps.specs.Digest.{Hash}
 use Rattle.fixed_maps.specs.FixedMaps.{map_of}
-use Rattle.holdings.specs.Holdings.{PieceSeen, HoldingsSeen, IsLowPiece, Begins, seen_at, seen_holdings}
+use Rattle.holdings.specs.Holdings.{PieceSeen, HoldingsSeen, IsLowPiece, BeginsPiece, seen_at, seen_holdings}
 use Rattle.holdings.proofs.KeptPieces.{begun, begun-full, begins-with, kept-begun, kept-exchanged}
 use Rattle.holdings.proofs.holdings.Holdings.begin.Goals as goal
 
@@ -28,7 +28,7 @@ pub returns-in_default-clause-kept : goal.returns-in_default-clause-kept
 returns-in_default-clause-kept c =
     let q : ℕ × ℕ = (c.args.piece.tree, c.args.piece.first) in
     let absent = subst (λ (h : HoldingsSeen). get h.pieces q ≡ None) (sym c.self.view_is) c.requires.new in
-    subst (λ (v : HoldingsSeen). Begins v q c.args.piece.size c.args.block c.args.digest None
+    subst (λ (v : HoldingsSeen). BeginsPiece v q c.args.piece.size c.args.block c.args.digest None
     (seen_holdings c.enroll.new.pieces c.self.inside.most (c.self.inside.clock + 1))) c.self.view_is
     (begun c.self.inside.pieces c.enroll.new.pieces c.self.inside.most c.self.inside.clock q c.args.piece.size c.args.block c.args.digest absent
     (subst (λ o. IfNone o (len c.self.inside.pieces.pieces < c.self.inside.most)) c.in_default.is c.giving_way-victim.ensures.room) c.enroll.ensures.piece)
@@ -49,7 +49,7 @@ returns-clause-kept c =
     let q : ℕ × ℕ = (c.args.piece.tree, c.args.piece.first) in
     let absent = subst (λ (h : HoldingsSeen). get h.pieces q ≡ None) (sym c.self.view_is) c.requires.new in
     let (x, there, newest, run) = c.in-Some.ensures.there in
-    subst (λ (v : HoldingsSeen). Begins v q c.args.piece.size c.args.block c.args.digest (Some c.in-Some.victim.run)
+    subst (λ (v : HoldingsSeen). BeginsPiece v q c.args.piece.size c.args.block c.args.digest (Some c.in-Some.victim.run)
     (seen_holdings c.withdraw.new.pieces c.self.inside.most (c.self.inside.clock + 1))) c.self.view_is
     (begun-full c.self.inside.pieces c.withdraw.new.pieces c.self.inside.most c.self.inside.clock q c.args.piece.size c.args.block c.args.digest
     c.enroll.new.pieces c.in-Some.victim.key x c.in-Some.victim.run absent c.in-Some.ensures.full there

@@ -31,4 +31,5 @@ invariant_of-result c =
       few = let none = ap len c.in_ok-new.ensures.none ∙ len-empty place_cmp PieceSeen in omega (arith, none);
       room = let room = c.in_ok-new.ensures.room in omega (arith, room);
       ages_room = let room = c.in_ok-new-2.ensures.room in omega (arith, room);
+      few_ages = c.in_ok-new-2.ensures.most;
     }

@@ -1,90 +1,21 @@
-use Rattle.std.proofs.Common.{◌≡◌, ◌⊎◌, inl, inr, ℕ, suc, ◌+◌, ◌-◌, ◌*◌, ◌<◌, ◌≤◌, ◌++◌, List, take, drop, set, get_or, Option, Some, None, IfNone, length}
-use Rattle.std.proofs.Common.{refl, sym, ap, ap₂, ◌∙◌, subst, arith}
-use Rattle.std.specs.FinMap.{get, insert, remove, len}
-use Rattle.fixed_maps.specs.FixedMaps.{map_of}
-use Rattle.holdings.specs.Cells.{Cells}
-use Rattle.holdings.specs.Holdings.{PieceSeen, KeptPieces, seen_at, with_table_piece}
-use Rattle.holdings.specs.Tables.{RowOf, seen_row, seen_rows}
-use Rattle.holdings.proofs.Rows.{row-some, row-none, row-size, row-of, none-if, len-rows}
+use Rattle.std.proofs.Common.{◌≤◌, length, sym, arith}
+use Rattle.holdings.specs.Tables.{seen_row}
+use Rattle.holdings.proofs.Rows.{none-if, none-there, row-cut, row-there}
 use Rattle.holdings.proofs.piece_table.PieceTable.cells_of.Goals as goal
 
-pub returns-in_err-row-clause-none : goal.returns-in_err-row-clause-none
-returns-in_err-row-clause-none c = none-if c.from_residual.result (subst (λ (m : KeptPieces). seen_at m c.args.key ≡ None) c.self.view_is
-    (row-none c.self.inside.cells.items c.self.inside.newest.items c.self.inside.width (map_of c.self.inside.order) c.args.key
-    (sym c.in_err-row.ensures)))
-
-pub overflow_mul-start : goal.overflow_mul-start
-overflow_mul-start c =
-    let cells = c.self.inside.cells.items in
-    let newest = c.self.inside.newest.items in
-    let w = c.self.inside.width in
-    let m = map_of c.self.inside.order in
-    let p : RowOf = (c.in_ok-row.row, c.in_ok-row.size) in
-    let there : get m c.args.key ≡ Some p = sym c.in_ok-row.ensures in
-    let inside = c.self.invariant.inside c.args.key p there in
-    let low = c.self.invariant.low c.args.key p there in
-    let whole = c.self.inside.cells.ok in
-    let small = c.self.inside.cells.small in
-    omega (arith, inside, whole, small)
-
-pub overflow_add-result : goal.overflow_add-result
-overflow_add-result c =
-    let cells = c.self.inside.cells.items in
-    let newest = c.self.inside.newest.items in
-    let w = c.self.inside.width in
-    let m = map_of c.self.inside.order in
-    let p : RowOf = (c.in_ok-row.row, c.in_ok-row.size) in
-    let there : get m c.args.key ≡ Some p = sym c.in_ok-row.ensures in
-    let inside = c.self.invariant.inside c.args.key p there in
-    let low = c.self.invariant.low c.args.key p there in
-    let whole = c.self.inside.cells.ok in
-    let small = c.self.inside.cells.small in
-    omega (arith, inside, low, whole, small)
-
-pub offset_bounds-deref-start : goal.offset_bounds-deref-start
-offset_bounds-deref-start c =
-    let cells = c.self.inside.cells.items in
-    let newest = c.self.inside.newest.items in
-    let w = c.self.inside.width in
-    let m = map_of c.self.inside.order in
-    let p : RowOf = (c.in_ok-row.row, c.in_ok-row.size) in
-    let there : get m c.args.key ≡ Some p = sym c.in_ok-row.ensures in
-    let inside = c.self.invariant.inside c.args.key p there in
-    let low = c.self.invariant.low c.args.key p there in
-    let whole = c.self.inside.cells.ok in
-    let small = c.self.inside.cells.small in
-    let long = c.deref.ensures.len in
-    let bytes = c.deref.type_inv.1 in
-    omega (arith, inside, low, whole, long, bytes)
-
-pub slice_bounds-result-end : goal.slice_bounds-result-end
-slice_bounds-result-end c =
-    let cells = c.self.inside.cells.items in
-    let newest = c.self.inside.newest.items in
-    let w = c.self.inside.width in
-    let m = map_of c.self.inside.order in
-    let p : RowOf = (c.in_ok-row.row, c.in_ok-row.size) in
-    let there : get m c.args.key ≡ Some p = sym c.in_ok-row.ensures in
-    let inside = c.self.invariant.inside c.args.key p there in
-    let low = c.self.invariant.low c.args.key p there in
-    let whole = c.self.inside.cells.ok in
-    let small = c.self.inside.cells.small in
-    let long = c.deref.ensures.len in
-    omega (arith, inside, low, whole, long)
+pub returns-in_err-start-clause-none : goal.returns-in_err-start-clause-none
+returns-in_err-start-clause-none c =
+    let s = c.self.inside in
+    none-if c.from_residual.result
+    (none-there s.order s.cells.items s.newest.items s.width s.room c.args.self.now c.self.view_is c.args.key c.in_err-start.ensures.none)
 
 pub returns-clause-some : goal.returns-clause-some
 returns-clause-some c =
-    let cells = c.self.inside.cells.items in
-    let newest = c.self.inside.newest.items in
-    let w = c.self.inside.width in
-    let m = map_of c.self.inside.order in
-    let p : RowOf = (c.in_ok-row.row, c.in_ok-row.size) in
-    let there : get m c.args.key ≡ Some p = sym c.in_ok-row.ensures in
-    let inside = c.self.invariant.inside c.args.key p there in
-    let low = c.self.invariant.low c.args.key p there in
-    let whole = c.self.inside.cells.ok in
-    let small = c.self.inside.cells.small in (
-      seen_row cells newest w p,
-      subst (λ (k : KeptPieces). seen_at k c.args.key ≡ Some (seen_row cells newest w p)) c.self.view_is (row-some cells newest w m c.args.key p there),
-      ap₂ (λ n (xs : Cells). take n (drop (p.0 * w) xs)) (omega arith) (sym c.deref.ensures.value),
+    let s = c.self.inside in
+    let at = c.in_ok-start.ensures.some in
+    let whole : c.len.result ≤ length s.cells.items = omega arith in (
+      seen_row s.cells.items s.newest.items s.width (c.in_ok-start.field-0-0, at.size),
+      row-there s.order s.cells.items s.newest.items s.width s.room c.args.self.now c.self.view_is c.args.key c.len.result _ _ _ at whole,
+      sym (row-cut s.order s.cells.items s.newest.items s.width s.room c.args.self.now c.self.view_is c.args.key c.len.result _ _ _ at whole
+          c.deref.result.now c.deref.ensures.value).cut,
     )

@@ -28,13 +28,14 @@ invariant_of-result c =
       low = λ q p at. absurd (none q p at);
       inside = λ q p at. absurd (none q p at);
       timed = λ q p at. absurd (none q p at);
-      count = ap (count_by is_some) c.in_ok-rows.ensures.empty ∙ sym (ap len c.in_ok-new.ensures.none ∙ len-empty place_cmp RowOf);
-      all = let none = ap (count_by is_some) c.in_ok-rows.ensures.empty in omega (arith, none);
-      room_rows = c.in_ok-rows.ensures.capacity;
+      count = ap (count_by is_some) c.in_ok-rows.ensures.none ∙ sym (ap len c.in_ok-new.ensures.none ∙ len-empty place_cmp RowOf);
+      all = let none = ap (count_by is_some) c.in_ok-rows.ensures.none in omega (arith, none);
+      room_rows = sym c.in_ok-rows.ensures.exact;
       room_map = c.in_ok-new.ensures.room;
+      few_map = c.in_ok-new.ensures.most;
       wide = let b = c.in-Some.ensures.1 in let d = c.in_ok-with_capacity.ensures.exact in
-          subst (λ n. n * c.args.width ≤ vec_capacity c.in_ok-with_capacity.field-0) c.capacity.ensures.value (omega (arith, b, d));
-      long = let d = c.in_ok-with_capacity-2.ensures.exact in let e = c.capacity-2.ensures.value in omega (arith, d, e);
+          subst (λ n. n * c.args.width ≡ vec_capacity c.in_ok-with_capacity.field-0) (sym c.in_ok-rows.ensures.exact) (omega (arith, b, d));
+      long = let d = c.in_ok-with_capacity-2.ensures.exact in let e = c.in_ok-rows.ensures.exact in omega (arith, d, e);
     }
 
 pub returns-clause-none : goal.returns-clause-none

@@ -68,6 +68,7 @@ invariant_of-self c =
       all = let was = c.self.invariant.all in let same = c.try_remove.ensures.capacity in omega (arith, fewer, was, same);
       room_rows = let was = c.self.invariant.room_rows in let same = c.try_remove.ensures.capacity in omega (arith, was, same);
       room_map = let was = c.self.invariant.room_map in let same = c.remove.ensures.room in omega (arith, was, same);
-      wide = subst (λ n. n * c.self.inside.width ≤ vec_capacity c.self.inside.cells) (sym c.try_remove.ensures.capacity) c.self.invariant.wide;
+      few_map = let was = c.self.invariant.few_map in let same = c.remove.ensures.room in omega (arith, was, same);
+      wide = subst (λ n. n * c.self.inside.width ≡ vec_capacity c.self.inside.cells) (sym c.try_remove.ensures.capacity) c.self.invariant.wide;
       long = let was = c.self.invariant.long in let same = c.try_remove.ensures.capacity in omega (arith, was, same);
     }

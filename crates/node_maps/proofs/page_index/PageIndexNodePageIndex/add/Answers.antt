@@ -1,7 +1,7 @@
 use Rattle.std.proofs.Common.{◌≡◌, ℕ, ◌/◌, ◌^◌, Some, length, sym, ap, ◌∙◌, subst, arith}
 use Rattle.std.specs.List.{insert}
 use Rattle.std.proofs.lemmas.Result.{on_ok_weaker, on_err_weaker}
-use Rattle.node_maps.specs.Rising.{AreRising, IsNumberAt, IsGapFor}
+use Rattle.node_maps.specs.Rising.{AreNumbersRising, IsNumberAt, IsGapFor}
 use Rattle.node_maps.specs.Pages.{find_under, AreInUse}
 use Rattle.node_maps.proofs.Rising.{rising-insert, insert-beside, within_items}
 use Rattle.node_maps.proofs.InUse.{in_use-set, in_use-insert}
@@ -26,7 +26,7 @@ invariant_of-self-in-Err g c =
     ∙ ap (λ xs. insert xs c.in-Err.at c.add-in-Err.new.self) c.make_room.ensures.items in
     record {
       low = s.low;
-      rising = subst AreRising (sym numbers) (rising-insert s.numbers.items key c.in-Err.at gap s.rising);
+      rising = subst AreNumbersRising (sym numbers) (rising-insert s.numbers.items key c.in-Err.at gap s.rising);
       beside = ap length lists ∙ insert-beside s.numbers.items s.lists.items s.rising s.beside key c.in-Err.at gap c.add-in-Err.new.self
           ∙ sym (ap length numbers);
     }

@@ -1,6 +1,6 @@
 use Rattle.std.proofs.Common.{◌≡◌, ℕ, ◌/◌, ◌^◌, None, length, set, sym, ap, ◌∙◌, subst}
 use Rattle.std.specs.List.{remove}
-use Rattle.node_maps.specs.Rising.{AreRising, IsNumberAt, IsGapFor}
+use Rattle.node_maps.specs.Rising.{AreNumbersRising, IsNumberAt, IsGapFor}
 use Rattle.node_maps.specs.Pages.{find_under}
 use Rattle.node_maps.proofs.Rising.{rising-remove, remove-beside, set-beside}
 use Rattle.node_maps.proofs.Pages.{under_gap, under-set, under-emptied, absent-changed, on_true}
@@ -16,7 +16,7 @@ invariant_of-self g c =
     let lists : c.remove-then-is_empty-2.new.self.items ≡ remove ds c.in-Ok.at = c.remove-then-is_empty-2.ensures.items in
     record {
       low = s.low;
-      rising = subst AreRising (sym numbers) (rising-remove s.numbers.items c.in-Ok.at is.in_range s.rising);
+      rising = subst AreNumbersRising (sym numbers) (rising-remove s.numbers.items c.in-Ok.at is.in_range s.rising);
       beside = ap length lists
           ∙ remove-beside s.numbers.items ds s.rising (set-beside s.numbers.items s.lists.items s.rising s.beside key c.in-Ok.at c.remove.new.self) key
           c.in-Ok.at is

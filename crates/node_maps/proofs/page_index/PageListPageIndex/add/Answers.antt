@@ -1,7 +1,7 @@
 use Rattle.std.proofs.Common.{◌≡◌, ℕ, List, length, is_some, sym, ap, ◌∙◌, subst, arith}
 use Rattle.std.specs.List.{insert}
 use Rattle.std.proofs.lemmas.Bool.{false≢true}
-use Rattle.node_maps.specs.Rising.{AreRising, IsNumberAt, IsGapFor, page_numbered}
+use Rattle.node_maps.specs.Rising.{AreNumbersRising, IsNumberAt, IsGapFor, page_numbered}
 use Rattle.node_maps.specs.declared.page.Page.{Page}
 use Rattle.node_maps.proofs.Rising.{rising-insert, insert-beside, insert-found, found_some}
 use Rattle.node_maps.proofs.page_index.PageListPageIndex.add.Goals as goal
@@ -44,6 +44,6 @@ invariant_of-self-in-Err c =
     let pages : c.insert_reserved-in-Err.new.items.items ≡ insert ps c.in-Err.at c.args.page = c.insert_reserved-in-Err.ensures.items
     ∙ ap (λ xs. insert xs c.in-Err.at c.args.page) c.make_room.ensures.items in
     record {
-      rising = subst AreRising (sym numbers) (rising-insert ns q c.in-Err.at gap s.rising);
+      rising = subst AreNumbersRising (sym numbers) (rising-insert ns q c.in-Err.at gap s.rising);
       beside = ap length pages ∙ insert-beside ns ps s.rising s.beside q c.in-Err.at gap c.args.page ∙ sym (ap length numbers);
     }

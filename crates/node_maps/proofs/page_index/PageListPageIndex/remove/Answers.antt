@@ -1,7 +1,7 @@
 use Rattle.std.proofs.Common.{◌≡◌, ℕ, List, length, sym, ap, ◌∙◌, subst}
 use Rattle.std.specs.List.{remove}
 use Rattle.node_maps.specs.declared.page.Page.{Page}
-use Rattle.node_maps.specs.Rising.{AreRising, IsNumberAt, IsGapFor, page_numbered}
+use Rattle.node_maps.specs.Rising.{AreNumbersRising, IsNumberAt, IsGapFor, page_numbered}
 use Rattle.node_maps.proofs.Rising.{rising-remove, remove-found, remove-beside, found_gap}
 use Rattle.node_maps.proofs.Pages.{absent-changed}
 use Rattle.node_maps.proofs.page_index.PageListPageIndex.remove.Goals as goal
@@ -15,7 +15,7 @@ invariant_of-self c =
     let numbers : c.remove.new.self.items ≡ remove ns c.in-Ok.at = c.remove.ensures.items in
     let pages : c.remove-in-Ok.new.self.items ≡ remove ps c.in-Ok.at = c.remove-in-Ok.ensures.items in
     record {
-      rising = subst AreRising (sym numbers) (rising-remove ns c.in-Ok.at is.in_range s.rising);
+      rising = subst AreNumbersRising (sym numbers) (rising-remove ns c.in-Ok.at is.in_range s.rising);
       beside = ap length pages ∙ remove-beside ns ps s.rising s.beside c.args.number c.in-Ok.at is ∙ sym (ap length numbers);
     }
 

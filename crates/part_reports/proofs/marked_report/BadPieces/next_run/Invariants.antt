@@ -1,5 +1,5 @@
 use Rattle.std.proofs.Common.{ℕ, ◌-◌, ◌<◌, ◌≤◌}
-use Rattle.part_reports.specs.Marks.{AreUnmarked, IsMarked}
+use Rattle.part_reports.specs.Marks.{AreUnmarked, IsPieceMarked}
 use Rattle.part_reports.proofs.marked_report.BadPieces.next_run.Given as goal
 
 abbrev pub invariant-good : goal.invariant-good
@@ -15,7 +15,7 @@ abbrev pub invariant-bad : goal.invariant-bad
 invariant-bad l = record {
   some : l.first < l.end;
   within : l.end ≤ l.to;
-  marked : (piece : ℕ) → l.first ≤ piece → piece < l.end → IsMarked l.self piece;
+  marked : (piece : ℕ) → l.first ≤ piece → piece < l.end → IsPieceMarked l.self piece;
 }
 
 abbrev pub decreases-bad : goal.decreases-bad

@@ -5,7 +5,7 @@ use Rattle.opening.specs.Description.{FileEntry}
 use Rattle.opening.specs.Seen.{file_entry}
 use Rattle.opening.specs.declared.torrent.File.{File}
 use Rattle.parts.specs.Parts.{place_count, piece_count}
-use Rattle.parts.specs.Shares.{place_in}
+use Rattle.parts.specs.Shares.{piece_at_byte}
 use Rattle.parts.proofs.SharedPlaces.{place_here, sum_next}
 use Rattle.part_reports.proofs.PassedFiles.{byte_length, in_torrent, next_passed, next_place, place_behind, same_default}
 use Rattle.part_reports.proofs.starts.Division.start_at.Goals as goal
@@ -22,7 +22,7 @@ files-init c =
     record {
       within = passed.within;
       passed = omega (arith, passed.bytes_is, passed.before);
-      place = subst (λ k. place_in pl past (drop file t.files) (c.args.byte - k) ≡ place_in pl past t.files c.args.byte)
+      place = subst (λ k. piece_at_byte pl past (drop file t.files) (c.args.byte - k) ≡ piece_at_byte pl past t.files c.args.byte)
           (sym passed.bytes_is) (place_behind pl past t.files file c.args.byte passed.within le);
     }
 

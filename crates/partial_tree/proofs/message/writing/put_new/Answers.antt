@@ -14,6 +14,7 @@ loop-claim-preserved g c =
     record {
       stays = stays-both put.stays before.stays;
       held = put.held ∙ before.held;
+      keeps = λ l i has. put.keeps l i (before.keeps l i has);
       known = ap (λ m. insert_new m (drop (c.loop-claim.claim-index + 1) cs)) put.known
           ∙ insert_new-step (g.N.NodeMap.seen c.loop-claim.map).known cs c.loop-claim.claim-index none c.loop-claim-test.true
           ∙ before.known;

@@ -1,6 +1,7 @@
 use Rattle.std.proofs.Common.{◌≡◌, ◌≤◌, ◌+◌, drop, All}
 use Rattle.std.specs.FinMap.{len}
 use Rattle.node_maps.specs.Nodes.{KeepsMarks}
+use Rattle.node_maps.specs.Room.{KeepsRoom}
 use Rattle.partial_tree.specs.declared.message.found.Claim.{Claim}
 use Rattle.partial_tree.specs.Joins.{insert_new}
 use Rattle.partial_tree.proofs.message.writing.put_new.Given as goal
@@ -12,6 +13,7 @@ invariant-loop-claim g l =
     record {
       stays : KeepsMarks (M.seen l.initial.map) (M.seen l.map);
       held : M.held l.map ≡ M.held l.initial.map;
+      keeps : KeepsRoom (M.has_room l.initial.map) (M.has_room l.map);
       known : insert_new (M.seen l.map).known (drop l.claim-index l.claims) ≡ insert_new (M.seen l.initial.map).known l.claims;
       gained : len (M.seen l.map).known ≡ len (M.seen l.initial.map).known + l.gained;
       bound : l.gained ≤ l.claim-index;

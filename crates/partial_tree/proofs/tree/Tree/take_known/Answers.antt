@@ -31,7 +31,7 @@ returns-in-Some-clause-refused g c =
       (
         c.requires.top,
         false-piece (info_of c.args.self.now) m c.requires.good.closed c.args.first c.args.span c.args.bytes.now c.requires.row c.requires.top
-            c.requires.known c.in-Some.field-0 found.0 differs,
+            c.requires.known c.requires.pads c.in-Some.field-0 found.0 differs,
       ),
       refl,
     )
@@ -49,7 +49,7 @@ returns-clause-taken g c =
       between = c.args.self.now;
       joins = (
         known-piece (info_of c.args.self.now) m c.requires.good.closed c.args.first c.args.span c.args.bytes.now c.requires.row c.requires.top
-            c.requires.known fits,
+            c.requires.known c.requires.pads fits,
         refl,
       );
       marks = subst (λ n. TreeMarksRun c.args.self.now c.args.first n c.mark_leaves.new.self) c.blocks_in.ensures c.mark_leaves.ensures.marked;

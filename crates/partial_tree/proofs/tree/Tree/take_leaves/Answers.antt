@@ -5,9 +5,17 @@ use Rattle.node_maps.specs.Places.{tree_height}
 use Rattle.partial_tree.specs.Kept.{KeptTree, kept, IsGoodTree}
 use Rattle.partial_tree.specs.LeafRows.{TreeTakesRow, IsLeafRow}
 use Rattle.partial_tree.proofs.Ranges.{pow_more}
+use Rattle.node_maps.specs.Known.{look}
+use Rattle.partial_tree.proofs.EndPads.{pads-agree}
 use Rattle.partial_tree.proofs.TakenRows.{row-len, good_row}
 use Rattle.partial_tree.proofs.Counting.{counted_more, counted_same}
 use Rattle.partial_tree.proofs.tree.Tree.take_leaves.Goals as goal
+
+pub take_leaves-requires-clause-pads : goal.take_leaves-requires-clause-pads
+take_leaves-requires-clause-pads g c =
+    let good : IsGoodTree (kept c.self.inside.root c.self.inside.nodes.length c.self.inside.nodes.known c.self.inside.nodes.marked) =
+    subst IsGoodTree (sym c.self.view_is) c.requires.good in
+    pads-agree (record { root = c.self.inside.root; length = c.self.inside.nodes.length }) (look c.self.inside.nodes.known) good.closed
 
 pub invariant_of-self : goal.invariant_of-self
 invariant_of-self g c =

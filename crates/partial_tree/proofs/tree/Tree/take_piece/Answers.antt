@@ -3,7 +3,9 @@ use Rattle.hashtree.specs.Tree.{block_count}
 use Rattle.node_maps.specs.Digest.{Hash}
 use Rattle.node_maps.specs.Places.{tree_height}
 use Rattle.partial_tree.specs.Kept.{KeptTree, info_of}
-use Rattle.partial_tree.specs.LeafRows.{IsLeafRow, TreeTakesRow, TreeMarksRun}
+use Rattle.partial_tree.specs.LeafRows.{IsLeafRow, row_claims, row_pads, row_joins, TreeTakesRow, TreeMarksRun}
+use Rattle.partial_tree.specs.Claims.{HasNew}
+use Rattle.partial_tree.proofs.PadRows.{new-second}
 use Rattle.partial_tree.specs.LeafPieces.{leaves_in}
 use Rattle.partial_tree.proofs.TakenRows.{row-knows, row-small}
 use Rattle.std.proofs.lemmas.Nat.{one_shl}
@@ -15,6 +17,7 @@ use Rattle.node_maps.specs.Runs.{AreKnown}
 use Rattle.partial_tree.proofs.Ranges.{pow_more}
 use Rattle.partial_tree.proofs.LeafPieces.{piece-small, piece-new, piece-row, length-leaves}
 use Rattle.partial_tree.proofs.tree.Tree.take_piece.Goals as goal
+use Rattle.partial_tree.proofs.tree.Tree.take_piece.Goals.{else-knows_leaves-via-then-knows_leaves+else-has_row_pads, else-knows_leaves-via-else-knows_leaves}
 
 pub take_leaves-requires-clause-row : goal.take_leaves-requires-clause-row
 take_leaves-requires-clause-row g c =
@@ -61,13 +64,27 @@ knows_leaves-requires g c =
     let span : 2 ^ c.args.span ≤ 2 ^ 32 = pow_more c.args.span 32 (omega (arith, low, c.requires.row.span_inside)) in
     subst (λ w. c.args.first + w < 2 ^ 64) (sym width) (omega (arith, small, span))
 
+pub has_row_pads-requires-clause-range : goal.has_row_pads-requires-clause-range
+has_row_pads-requires-clause-range g c =
+    let low : tree_height c.args.self.now.length ≤ 32 = subst (λ (v : KeptTree). tree_height v.length ≤ 32) c.self.view_is c.self.invariant.low in
+    let small = piece-small c.args.self.now.length c.args.first c.args.span c.args.bytes.now c.requires.row low in
+    let span : 2 ^ c.args.span ≤ 2 ^ 32 = pow_more c.args.span 32 (omega (arith, low, c.requires.row.span_inside)) in
+    omega (arith, small, span)
+
 pub returns-in_default-clause-refused : goal.returns-in_default-clause-refused
 returns-in_default-clause-refused g c =
     let m = c.args.self.now.state.known in
+    let len = c.args.self.now.length in
     let low : tree_height c.args.self.now.length ≤ 32 = subst (λ (v : KeptTree). tree_height v.length ≤ 32) c.self.view_is c.self.invariant.low in
     let width : 1 * 2 ^ c.args.span % 2 ^ 64 ≡ 2 ^ c.args.span = one_shl c.args.span 64 (omega (arith, low, c.requires.row.span_inside)) in
     let v = some_of c.hash.result (c.is_none.ensures ∙ ap not c.if-is_none.false) in
     let top : IsKnown (look m) c.args.span (c.args.first / 2 ^ c.args.span) = (v.0, sym c.hash.ensures ∙ v.1) in
-    let unknown : ¬ AreKnown (look m 0) c.args.first (2 ^ c.args.span) = λ known.
-    false≢true (sym c.if-knows_leaves.false ∙ c.knows_leaves.ensures.1 (subst (AreKnown (look m 0) c.args.first) (sym width) known)) in
-    ((top, piece-new (info_of c.args.self.now) (look m) c.args.first c.args.span c.args.bytes.now c.requires.row unknown), refl)
+    let new : HasNew (look m) (row_joins len c.args.first c.args.span (leaves_in c.args.bytes.now)) = elim c.else-knows_leaves.branch [
+      | else-knows_leaves-via-then-knows_leaves+else-has_row_pads w ↦
+          new-second (look m) (row_claims c.args.first c.args.span (leaves_in c.args.bytes.now)) (row_pads len c.args.first c.args.span)
+          w.if-has_row_pads.ensures.new
+      | else-knows_leaves-via-else-knows_leaves w ↦
+          piece-new (info_of c.args.self.now) (look m) c.args.first c.args.span c.args.bytes.now c.requires.row (λ known.
+          false≢true (sym w.if-knows_leaves.false ∙ c.knows_leaves.ensures.1 (subst (AreKnown (look m 0) c.args.first) (sym width) known)))
+    ] in
+    ((top, new), refl)

@@ -1,20 +1,11 @@
 use Rattle.std.proofs.Common.{◌*◌, [], refl, sym, subst, arith}
 use Rattle.std.proofs.lemmas.List.{drop_all}
 use Rattle.std.proofs.lemmas.Option.{none-some}
-use Rattle.pieces.specs.Cutting.{IsCutting}
-use Rattle.pieces.proofs.FedStages.{begun_in_step}
+use Rattle.pieces.specs.CutStreams.{Runs}
 use Rattle.pieces.proofs.v1_feed.V1Feed.over.Goals as goal
 
-pub invariant_of-result : goal.invariant_of-result
-invariant_of-result c = record {
-  in_stream = omega arith;
-  counted = omega (arith, c.new.ensures.empty);
-  in_step = λ s is. ((c.requires.begun s is).0, begun_in_step s (c.requires.begun s is).0, c.new.ensures.empty);
-  stopped = λ bad. absurd (bad refl);
-}
-
-pub returns : goal.returns
-returns c = record {
+pub returns-clause-begins : goal.returns-clause-begins
+returns-clause-begins c = record {
   total_is = refl;
   given_is = refl;
   content = record {
@@ -28,8 +19,6 @@ returns c = record {
       within = λ i is. absurd (none-some i is);
       differs = λ i is. absurd (none-some i is);
     };
-    running = λ _ _. subst (IsCutting c.new.result) (sym (drop_all (c.args.piece_length * 0) [] (omega arith))) c.new.ensures.running;
-    staged = λ s is. ((c.requires.begun s is).1, c.new.ensures.running);
-    stopped = λ bad. absurd (bad refl);
+    runs = λ _. subst (Runs c.new.result c.args.piece_length) (sym (drop_all (c.args.piece_length * 0) [] (omega arith))) c.new.ensures.begins;
   };
 }

@@ -2,8 +2,8 @@ use Rattle.std.proofs.Common.{refl, ap, sym, ◌+◌}
 use Rattle.pieces.proofs.Fed.{fed_skipped}
 use Rattle.pieces.proofs.v1_feed.V1Feed.skip.Goals as goal
 
-pub returns : goal.returns
-returns c = λ bytes counted.
+pub returns-clause-feeds : goal.returns-clause-feeds
+returns-clause-feeds c = λ bytes counted.
     let given = ap (λ k. c.args.self.now.given + k) (sym counted) in
     record {
       same_total = refl;

@@ -35,7 +35,7 @@ returns-then-is_some c =
     let done = c.parts.done in
     let rest = c.args.n - done in
     feeds_both c.args.self.now c.parts.self c.skip.new.self (replicate done 0) (replicate rest 0) _ (zeros_rest done c.args.n c.parts.invariant.within)
-    c.parts.invariant.feeds (c.skip.ensures (replicate rest 0) (length-replicate {A = ℕ} rest 0))
+    c.parts.invariant.feeds (c.skip.ensures.feeds (replicate rest 0) (length-replicate {A = ℕ} rest 0))
 
 pub returns : goal.returns
 returns c =

@@ -11,7 +11,7 @@ pub take_from-requires-clause-block : goal.take_from-requires-clause-block
 take_from-requires-clause-block g c =
     let f : IsBlockPlace (g.T.HoldsTorrent.described c.self.inside.torrent) c.args.index 0 c.in-Some.file c.in-Some.first =
     subst (λ (x : Description). IsBlockPlace x c.args.index 0 c.in-Some.file c.in-Some.first) c.lend-torrent.ensures c.in-Some.ensures.found in
-    subst (λ (v : SessionSeen). HasBlock v.torrent c.in-Some.file c.in-Some.first) c.self.view_is (f.file, f.there, f.in_file)
+    subst (λ (v : SessionSeen). HasBlock v.torrent c.in-Some.file c.in-Some.first) c.self.view_is (f.entry, f.there, f.in_file)
 
 pub take_from-requires-clause-aligned : goal.take_from-requires-clause-aligned
 take_from-requires-clause-aligned g c =
@@ -19,7 +19,8 @@ take_from-requires-clause-aligned g c =
     let f : IsBlockPlace d c.args.index 0 c.in-Some.file c.in-Some.first =
     subst (λ (x : Description). IsBlockPlace x c.args.index 0 c.in-Some.file c.in-Some.first) c.lend-torrent.ensures c.in-Some.ensures.found in
     subst (λ (v : SessionSeen). c.in-Some.first % 2 ^ piece_layer v.torrent.piece_length ≡ 0) c.self.view_is
-    (first-aligned d.piece_length (subst IsSound c.lend-torrent.ensures c.recall_sound.ensures).legal c.args.index f.file.first_piece c.in-Some.first f.address)
+    (first-aligned d.piece_length (subst IsSound c.lend-torrent.ensures c.recall_sound.ensures).legal c.args.index f.entry.first_piece c.in-Some.first
+    f.address)
 
 pub returns-in-Err-clause-refused : goal.returns-in-Err-clause-refused
 returns-in-Err-clause-refused g c =

@@ -18,7 +18,7 @@ pub mark_in_file-requires-clause-block : goal.mark_in_file-requires-clause-block
 mark_in_file-requires-clause-block g c =
     let f : IsBlockPlace (g.T.HoldsTorrent.described c.self.inside.torrent) c.args.index c.args.begin c.in-Some.file c.in-Some.number =
     subst (λ (d : Description). IsBlockPlace d c.args.index c.args.begin c.in-Some.file c.in-Some.number) c.lend.ensures c.in-Some.ensures.found in
-    subst (λ (v : SessionSeen). HasBlock v.torrent c.in-Some.file c.in-Some.number) c.self.view_is (f.file, f.there, f.in_file)
+    subst (λ (v : SessionSeen). HasBlock v.torrent c.in-Some.file c.in-Some.number) c.self.view_is (f.entry, f.there, f.in_file)
 
 pub returns-in_default-clause-refused : goal.returns-in_default-clause-refused
 returns-in_default-clause-refused g c =

@@ -20,13 +20,13 @@ returns-in-None-clause-refused g c =
     let f : IsBlockPlace d c.args.index c.args.begin c.in-Some.file c.in-Some.first =
     subst (λ (x : Description). IsBlockPlace x c.args.index c.args.begin c.in-Some.file c.in-Some.first) c.lend-torrent.ensures c.in-Some.ensures.found in
     let (p, same) = in_file_of c.self.inside.asks d ts c.self.invariant (subst IsSound c.lend-torrent.ensures c.recall_sound.ensures) c.in-Some.file
-    c.in-Some.first f.file f.there f.in_file in
+    c.in-Some.first f.entry f.there f.in_file in
     let at : place_of d c.args.index c.args.begin ≡ Some (c.in-Some.file, c.in-Some.first) =
     ap (λ (x : Description). place_of x c.args.index c.args.begin) (sym c.lend-torrent.ensures) ∙ sym c.place.ensures.value ∙ c.in-Some.is in
-    let there_lent : slice_get c.lend-torrent.result.now.files c.in-Some.file ≡ Some f.file =
-    subst (λ (x : Description). slice_get x.files c.in-Some.file ≡ Some f.file) (sym c.lend-torrent.ensures) f.there in
+    let there_lent : slice_get c.lend-torrent.result.now.files c.in-Some.file ≡ Some f.entry =
+    subst (λ (x : Description). slice_get x.files c.in-Some.file ≡ Some f.entry) (sym c.lend-torrent.ensures) f.there in
     let none : (k : ℕ) → ¬ IsBlockRun p.tree.length c.in-Some.first (length c.args.bytes.now) k = λ k run.
-    none-some k (sym c.in-None.is ∙ c.block_run.ensures.only f.file k there_lent (subst (λ n. IsBlockRun n c.in-Some.first
+    none-some k (sym c.in-None.is ∙ c.block_run.ensures.only f.entry k there_lent (subst (λ n. IsBlockRun n c.in-Some.first
     (length c.args.bytes.now) k) same run))
     in
     let refused : AreRefused (seen d c.self.inside.asks ts) c.args.index c.args.begin c.args.bytes.now BadSize =
@@ -40,14 +40,14 @@ returns-in-Some-block_run-clause-taken g c =
     let f : IsBlockPlace d c.args.index c.args.begin c.in-Some.file c.in-Some.first =
     subst (λ (x : Description). IsBlockPlace x c.args.index c.args.begin c.in-Some.file c.in-Some.first) c.lend-torrent.ensures c.in-Some.ensures.found in
     let (p, same) = in_file_of c.self.inside.asks d ts c.self.invariant (subst IsSound c.lend-torrent.ensures c.recall_sound.ensures) c.in-Some.file
-    c.in-Some.first f.file f.there f.in_file in
+    c.in-Some.first f.entry f.there f.in_file in
     let at : place_of d c.args.index c.args.begin ≡ Some (c.in-Some.file, c.in-Some.first) =
     ap (λ (x : Description). place_of x c.args.index c.args.begin) (sym c.lend-torrent.ensures) ∙ sym c.place.ensures.value ∙ c.in-Some.is in
-    let there_lent : slice_get c.lend-torrent.result.now.files c.in-Some.file ≡ Some f.file =
-    subst (λ (x : Description). slice_get x.files c.in-Some.file ≡ Some f.file) (sym c.lend-torrent.ensures) f.there in
+    let there_lent : slice_get c.lend-torrent.result.now.files c.in-Some.file ≡ Some f.entry =
+    subst (λ (x : Description). slice_get x.files c.in-Some.file ≡ Some f.entry) (sym c.lend-torrent.ensures) f.there in
     let run : IsBlockRun p.tree.length c.in-Some.first (length c.args.bytes.now) c.in-Some-block_run.count =
     subst (λ n. IsBlockRun n c.in-Some.first (length c.args.bytes.now) c.in-Some-block_run.count) (sym same)
-    (c.in-Some-block_run.ensures.found f.file there_lent)
+    (c.in-Some-block_run.ensures.found f.entry there_lent)
     in
     let here : place_of c.args.self.now.torrent c.args.index c.args.begin ≡ Some (c.in-Some.file, c.in-Some.first) =
     subst (λ (v : SessionSeen). place_of v.torrent c.args.index c.args.begin ≡ Some (c.in-Some.file, c.in-Some.first)) c.self.view_is at in
@@ -63,25 +63,25 @@ pub mark_run-requires : goal.mark_run-requires
 mark_run-requires g c =
     let f : IsBlockPlace (g.T.HoldsTorrent.described c.self.inside.torrent) c.args.index c.args.begin c.in-Some.file c.in-Some.first =
     subst (λ (x : Description). IsBlockPlace x c.args.index c.args.begin c.in-Some.file c.in-Some.first) c.lend-torrent.ensures c.in-Some.ensures.found in
-    let there_lent : slice_get c.lend-torrent.result.now.files c.in-Some.file ≡ Some f.file =
-    subst (λ (x : Description). slice_get x.files c.in-Some.file ≡ Some f.file) (sym c.lend-torrent.ensures) f.there in
+    let there_lent : slice_get c.lend-torrent.result.now.files c.in-Some.file ≡ Some f.entry =
+    subst (λ (x : Description). slice_get x.files c.in-Some.file ≡ Some f.entry) (sym c.lend-torrent.ensures) f.there in
     subst (λ (v : SessionSeen). HasRun v.torrent c.in-Some.file c.in-Some.first (length c.args.bytes.now) c.in-Some-block_run.count) c.self.view_is
-    (f.file, f.there, c.in-Some-block_run.ensures.found f.file there_lent)
+    (f.entry, f.there, c.in-Some-block_run.ensures.found f.entry there_lent)
 
 pub block_run-requires-clause-there : goal.block_run-requires-clause-there
 block_run-requires-clause-there g c =
     let f : IsBlockPlace (g.T.HoldsTorrent.described c.self.inside.torrent) c.args.index c.args.begin c.in-Some.file c.in-Some.first =
     subst (λ (x : Description). IsBlockPlace x c.args.index c.args.begin c.in-Some.file c.in-Some.first) c.lend-torrent.ensures c.in-Some.ensures.found in
     subst (λ (x : Description). c.in-Some.file < length x.files) (sym c.lend-torrent.ensures)
-    (slice_get_within (g.T.HoldsTorrent.described c.self.inside.torrent).files c.in-Some.file f.file f.there)
+    (slice_get_within (g.T.HoldsTorrent.described c.self.inside.torrent).files c.in-Some.file f.entry f.there)
 
 pub block_run-requires-clause-in_file : goal.block_run-requires-clause-in_file
 block_run-requires-clause-in_file g c =
     let f : IsBlockPlace (g.T.HoldsTorrent.described c.self.inside.torrent) c.args.index c.args.begin c.in-Some.file c.in-Some.first =
     subst (λ (x : Description). IsBlockPlace x c.args.index c.args.begin c.in-Some.file c.in-Some.first) c.lend-torrent.ensures c.in-Some.ensures.found in
-    let there_lent : slice_get c.lend-torrent.result.now.files c.in-Some.file ≡ Some f.file =
-    subst (λ (x : Description). slice_get x.files c.in-Some.file ≡ Some f.file) (sym c.lend-torrent.ensures) f.there in
-    λ h at. subst (λ (e : FileEntry). c.in-Some.first < block_count e.length) (same_Some f.file h (sym there_lent ∙ at)) f.in_file
+    let there_lent : slice_get c.lend-torrent.result.now.files c.in-Some.file ≡ Some f.entry =
+    subst (λ (x : Description). slice_get x.files c.in-Some.file ≡ Some f.entry) (sym c.lend-torrent.ensures) f.there in
+    λ h at. subst (λ (e : FileEntry). c.in-Some.first < block_count e.length) (same_Some f.entry h (sym there_lent ∙ at)) f.in_file
 
 pub returns-in_default-clause-refused : goal.returns-in_default-clause-refused
 returns-in_default-clause-refused g c =

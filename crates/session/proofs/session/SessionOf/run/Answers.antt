@@ -6,8 +6,9 @@ use Rattle.session.specs.declared.verdict.Verdict.{Verdict}
 use Rattle.chains.specs.Chain.{Chain}
 use Rattle.session.specs.Session.{HasHashes, Step}
 use Rattle.session.specs.SafeStep.{IsSafeStep}
+use Rattle.chains.proofs.Cases.{All-next}
 use Rattle.chains.proofs.Chains.{Chain-next, Chain-weaker}
-use Rattle.session.proofs.RoundRuns.{All-take-more, run-gaps, round-fewer}
+use Rattle.session.proofs.RoundRuns.{run-gaps, round-fewer}
 use Rattle.session.proofs.session.SessionOf.run.Goals as goal
 
 pub messages-preserved : goal.messages-preserved
@@ -17,7 +18,7 @@ messages-preserved g c = record {
       (Chain-next IsSafeStep c.args.self.now c.messages.self c.step.new.self c.args.messages.now c.messages.message-index c.messages.verdicts.items _
       c.step.result
       c.messages-test.true c.messages.invariant.run c.step.ensures.is_safe);
-  hashes = All-take-more c.args.messages.now c.messages.message-index _ c.messages-test.true c.messages.invariant.hashes c.recall_message_hashes.ensures;
+  hashes = All-next HasHashes c.args.messages.now c.messages.message-index _ c.messages-test.true c.messages.invariant.hashes c.recall_message_hashes.ensures;
   stated = omega (arith, c.push_reserved.ensures.len, c.messages.invariant.stated);
   room = omega (arith, c.push_reserved.ensures.capacity, c.messages.invariant.room);
 }

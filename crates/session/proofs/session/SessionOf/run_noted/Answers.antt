@@ -7,8 +7,9 @@ use Rattle.session.specs.declared.verdict.Verdict.{Verdict}
 use Rattle.chains.specs.Chain.{Chain}
 use Rattle.session.specs.Noted.{NotedStep, IsSafeNotedStep}
 use Rattle.session.specs.NotedRounds.{HasDirectedHashes}
+use Rattle.chains.proofs.Cases.{All-next}
 use Rattle.chains.proofs.Chains.{Chain-next, Chain-weaker}
-use Rattle.session.proofs.NotedRounds.{All-take-noted, run-noted-gaps, run-noted-open, noted-round-fewer}
+use Rattle.session.proofs.NotedRounds.{run-noted-gaps, run-noted-open, noted-round-fewer}
 use Rattle.session.proofs.session.SessionOf.run_noted.Goals as goal
 
 pub messages-preserved : goal.messages-preserved
@@ -18,7 +19,8 @@ messages-preserved g c = record {
       (Chain-next IsSafeNotedStep c.args.self.now c.messages.self c.step_noted.new.self c.args.messages.now c.messages.direction-index c.messages.verdicts.items
       _ c.step_noted.result
       c.messages-test.true c.messages.invariant.run c.step_noted.ensures.is_safe);
-  hashes = All-take-noted c.args.messages.now c.messages.direction-index _ c.messages-test.true c.messages.invariant.hashes c.recall_message_hashes.ensures;
+  hashes = All-next HasDirectedHashes c.args.messages.now c.messages.direction-index _ c.messages-test.true c.messages.invariant.hashes
+      c.recall_message_hashes.ensures;
   stated = omega (arith, c.push_reserved.ensures.len, c.messages.invariant.stated);
   room = omega (arith, c.push_reserved.ensures.capacity, c.messages.invariant.room);
 }

@@ -1,10 +1,14 @@
 use Rattle.session.proofs.OneTree.{gaps-after}
-use Rattle.session.proofs.TakenLeaves.{leaves-keep, leaves-known, true-leaves}
+use Rattle.session.proofs.TakenLeaves.{leaves-bring, leaves-keep, leaves-known, true-leaves}
 use Rattle.session.proofs.session.SessionOf.take_leaves.Goals as goal
 
 pub returns-clause-known : goal.returns-clause-known
 returns-clause-known g c =
     leaves-known c.args.self.now c.args.tree c.args.first c.args.leaves.now c.join_leaves.new.self c.join_leaves.result c.join_leaves.ensures.taken
+
+pub returns-clause-end_pads : goal.returns-clause-end_pads
+returns-clause-end_pads g c =
+    leaves-bring c.args.self.now c.args.tree c.args.first c.args.leaves.now c.join_leaves.new.self c.join_leaves.result c.join_leaves.ensures.taken
 
 pub returns-clause-keeps_known : goal.returns-clause-keeps_known
 returns-clause-keeps_known g c =

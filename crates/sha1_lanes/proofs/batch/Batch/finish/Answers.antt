@@ -1,10 +1,11 @@
 use Rattle.std.proofs.Common.{ℕ, List, ◌*◌, length, ap, ◌∙◌}
+use Rattle.lanes.specs.Lanes.{bytes_in}
 use Rattle.sha1.specs.Sha1.{compress, digest_bytes, padding, sha1, word_at}
 use Rattle.sha1_lanes.proofs.Blocks.{padded_once}
 use Rattle.sha1_lanes.proofs.batch.Batch.finish.Goals as goal
 
 pub returns : goal.returns
-unfolding sha1
+unfolding bytes_in digest_bytes sha1
 returns c j lt m held =
     let pad = c.padding_block.ensures (length m) held.whole held.length_is in
     let value =

@@ -1,15 +1,15 @@
 use Rattle.std.proofs.Common.{◌≡◌, ◌-◌, ◌++◌, suc, refl, length, slice_index, ◌∙◌, arith, length-append}
 use Rattle.lanes.specs.declared.words.TheConstants.{LANES}
 use Rattle.sha1.specs.Sha1.{hash_after}
-use Rattle.sha1_lanes.specs.Batches.{message_at}
-use Rattle.sha1_lanes.proofs.Zeros.{length-message_at}
+use Rattle.lanes.specs.Lanes.{bytes_at}
+use Rattle.sha1_lanes.proofs.Zeros.{length-bytes_at}
 use Rattle.sha1_lanes.proofs.relay.Relay.step.Goals as goal
 
 pub returns-clause-passes : goal.returns-clause-passes
 returns-clause-passes c j lt m held =
     let start = slice_index c.args.starts.now j in
-    let more = message_at c.args.buffer.now start c.args.size in
-    let len : length more ≡ c.args.size = length-message_at c.args.buffer.now start c.args.size (c.requires.inside j (omega arith)) in
+    let more = bytes_at c.args.buffer.now start c.args.size in
+    let len : length more ≡ c.args.size = length-bytes_at c.args.buffer.now start c.args.size (c.requires.inside j (omega arith)) in
     record {
       whole = omega (arith, length-append m more, len, held.whole, c.requires.whole_blocks);
       value_is =
@@ -25,8 +25,8 @@ returns-clause-begins c = record { whole = refl; value_is = c.of-self.ensures 0 
 pub returns-clause-digest : goal.returns-clause-digest
 returns-clause-digest c m held long =
     let start = slice_index c.args.starts.now (LANES - 1) in
-    let more = message_at c.args.buffer.now start c.args.size in
-    let len : length more ≡ c.args.size = length-message_at c.args.buffer.now start c.args.size (c.requires.inside (LANES - 1) (omega arith)) in
+    let more = bytes_at c.args.buffer.now start c.args.size in
+    let len : length more ≡ c.args.size = length-bytes_at c.args.buffer.now start c.args.size (c.requires.inside (LANES - 1) (omega arith)) in
     c.last_digest.ensures (m ++ more)
     (omega (arith, length-append m more, len, held.whole, c.requires.whole_blocks))
     (omega (arith, length-append m more, len, long))

@@ -1,0 +1,10 @@
+use Rattle.btcheck_c.specs.PlaceCalls.{WritesFilePieces}
+use Rattle.btcheck_c.specs.declared.thing.Kind.TheVariants as kind
+use Rattle.btcheck_c.proofs.Throughs.{through}
+use Rattle.btcheck_c.proofs.place_calls.btcheck_session_file_pieces.Goals as goal
+
+pub returns-in-Session-clause-done : goal.returns-in-Session-clause-done
+returns-in-Session-clause-done c = through (WritesFilePieces c.args.number c.file_pieces-answer.new.first c.file_pieces-answer.new.count)
+    c.args.handle.now.slot.held c.put.new.self.slot.held
+    c.in-Some.thing.value c.deref_mut.result.now (kind.Session c.in-Session.session) (kind.Session c.in-Session.session) c.file_pieces-answer.result
+    c.in-Some.ensures.taken c.deref_mut.ensures.value c.in-Session.is c.put.ensures c.file_pieces-answer.ensures.done

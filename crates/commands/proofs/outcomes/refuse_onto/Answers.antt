@@ -1,9 +1,0 @@
-use Rattle.commands.proofs.outcomes.refuse_onto.Goals as goal
-
-pub returns-in-Ok : goal.returns-in-Ok
-returns-in-Ok g c = record {
-  status = c.status.ensures;
-  line = c.in-Ok.ensures;
-  known = c.in_default.not-NoMemory;
-  fault = tt;
-}

@@ -1,0 +1,14 @@
+use Rattle.std.proofs.Common.{◌≡◌, ℕ, ◌-◌, ◌<◌, ◌≤◌, false, drop, get_or, length, map}
+use Rattle.globs.specs.Globs.{kind_of}
+use Rattle.globs.specs.Matching.{found, marks_of_parts}
+use Rattle.globs.proofs.matching.step.Given as goal
+
+-- the row from the last part back to this one is made, and that before it as it was
+abbrev pub invariant-parts : goal.invariant-parts
+invariant-parts l = record {
+  done : (i : ℕ) → length l.parts - l.done ≤ i → i < length l.parts
+      → get_or l.row i false ≡ get_or (marks_of_parts l.folders_alone (map kind_of l.parts) l.path) i false;
+  rest : (i : ℕ) → i < length l.parts - l.done → get_or l.row i false ≡ get_or (marks_of_parts l.folders_alone (map kind_of l.parts) (drop 1 l.path)) i false;
+  here : l.here ≡ found l.folders_alone (drop (length l.parts - l.done) (map kind_of l.parts)) l.path;
+  behind : l.behind ≡ found l.folders_alone (drop (length l.parts - l.done) (map kind_of l.parts)) (drop 1 l.path);
+}

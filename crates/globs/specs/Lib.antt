@@ -1,0 +1,5 @@
+-- What contracts of globs cite.
+pub mod Globs
+pub mod Reading
+pub mod Texts
+pub mod Matching

@@ -1,8 +1,0 @@
-use Rattle.std.proofs.Common.{rules}
-use Rattle.replays.proofs.replaying_pieces.replay_pieces_onto.Goals as goal
-
-pub returns-in-Some-clause-report : goal.returns-in-Some-clause-report
-returns-in-Some-clause-report g c = rw c.in-Some.is (search rules)
-
-pub returns-in-Some-clause-cut_report : goal.returns-in-Some-clause-cut_report
-returns-in-Some-clause-cut_report g c = rw c.in-Some.is (search rules)

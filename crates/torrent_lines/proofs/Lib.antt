@@ -1,2 +1,0 @@
--- Lemmas on a torrent's lines.
-pub mod AsTexts

@@ -1,0 +1,1 @@
+"""What `btcheck-many` is made of: see tools/btcheck-many."""
