@@ -244,13 +244,13 @@ def test_folders():
     with shimmed(memory_tests()) as (place, shim):
         path = write(f"{place}/torrent", torrent_of([("five", FIVE)], 32768))
         whole, bad = write(f"{place}/content", FIVE), write(f"{place}/bad", FIVE[:-1])
-        for call, named in [("gather", {"gather"}), ("check", {"check"}), ("check_onto", {"check_onto"}),
-                            ("check_with_bad_pieces", {"check_with_bad_pieces"}), ("say_check", {"say_check"}),
+        for call, named in [("gather", {"gather"}), ("check", {"check"}), ("say_check", {"say_check"}),
+                            ("say_check_with_bad_pieces", {"say_check_with_bad_pieces"}), ("objects", {"objects"}),
                             ("parts", {"check_part", "join_reports"}),
-                            ("marked parts", {"check_part_with_bad_pieces", "join_marked_reports"}),
+                            ("marked parts", {"say_check_part_with_bad_pieces", "join_marked_reports"}),
                             ("seed", {"new", "seed"}), ("seed_onto", {"new", "seed_onto"})]:
             for map_name in ("flat", "paged") if "seed" in call else ("paged",):
                 name = f"{call} over {map_name}" if "seed" in call else call
-                content = bad if call in ("check_with_bad_pieces", "marked parts") else whole
+                content = bad if call in ("say_check_with_bad_pieces", "marked parts") else whole
                 counts = calls_refused(shim, name, path, content, map_name, call)
                 assert all(counts[of] > 0 for of in named), (call, counts)

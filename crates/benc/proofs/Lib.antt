@@ -20,3 +20,4 @@ pub mod Spelled
 pub mod Stores
 pub mod SoFar
 pub mod Fronts
+pub mod Handed

@@ -57,49 +57,44 @@ items_begin room bytes = record {
     with_none (Ok x) = refl
     with_none (Err e) = refl
 
-pub items_next : (room : ℕ) (bytes here after : List ℕ) (vs : List Bencode) (c : ℕ) (tail : List ℕ) (v : Bencode) → ItemsSoFar room bytes here vs
-    → here ≡ c ∷ tail → c ≢ 101 → value_at room here ≡ Ok (v, after) → length after < length here → ItemsSoFar room bytes after (vs ++ v ∷ [])
-items_next room bytes here after vs c tail v so first other read less =
-    let took = value_takes room here (v, after) read in
-    let more = items_more (value_at room) so.turns c tail after vs v (omega (arith, so.enough, ap length first)) other
-    (subst (λ b. value_at room b ≡ Ok (v, after)) first read) in
-    record {
-      turns = so.turns - 1;
-      enough = omega (arith, so.enough, less);
-      within = omega (arith, so.within, less);
-      read = sym more ∙ ap (λ b. with_items vs (items_at (value_at room) so.turns b)) (sym first) ∙ so.read;
-      done = so.done ++ took.0;
-      parts = so.parts ∙ ap (λ x. so.done ++ x) took.1 ∙ sym (append_assoc so.done took.0 after);
-      spelled = items_grow room vs v so.done took.0 so.spelled took.2;
-    }
+module _ {room : ℕ} {bytes here : List ℕ} {vs : List Bencode} (so : ItemsSoFar room bytes here vs) where
+  pub items_next : {c : ℕ} {tail after : List ℕ} {v : Bencode} → here ≡ c ∷ tail → c ≢ 101 → value_at room here ≡ Ok (v, after) → length after < length here
+      → ItemsSoFar room bytes after (vs ++ v ∷ [])
+  items_next {c = c} {tail = tail} {after = after} {v = v} first other read less =
+      let took = value_takes room here (v, after) read in
+      let more = items_more (value_at room) so.turns c tail after vs v (omega (arith, so.enough, ap length first)) other
+      (subst (λ b. value_at room b ≡ Ok (v, after)) first read) in
+      record {
+        turns = so.turns - 1;
+        enough = omega (arith, so.enough, less);
+        within = omega (arith, so.within, less);
+        read = sym more ∙ ap (λ b. with_items vs (items_at (value_at room) so.turns b)) (sym first) ∙ so.read;
+        done = so.done ++ took.0;
+        parts = so.parts ∙ ap (λ x. so.done ++ x) took.1 ∙ sym (append_assoc so.done took.0 after);
+        spelled = items_grow room vs v so.done took.0 so.spelled took.2;
+      }
 
-pub items_all : (room : ℕ) (bytes here after : List ℕ) (vs : List Bencode) (c : ℕ) → ItemsSoFar room bytes here vs → here ≡ c ∷ after → c ≡ 101
-    → items_behind room bytes ≡ Ok (items_of vs, after)
-items_all room bytes here after vs c so first mark =
-    sym so.read ∙ ap (λ b. with_items vs (items_at (value_at room) so.turns b)) first
-    ∙ items_end (value_at room) so.turns c after vs (omega (arith, so.enough, ap length first)) mark
+  pub items_all : {c : ℕ} {after : List ℕ} → here ≡ c ∷ after → c ≡ 101 → items_behind room bytes ≡ Ok (items_of vs, after)
+  items_all {c = c} {after = after} first mark =
+      sym so.read ∙ ap (λ b. with_items vs (items_at (value_at room) so.turns b)) first
+      ∙ items_end (value_at room) so.turns c after vs (omega (arith, so.enough, ap length first)) mark
 
-pub items_cut : (room : ℕ) (bytes here : List ℕ) (vs : List Bencode) → ItemsSoFar room bytes here vs → here ≡ []
-    → items_behind room bytes ≡ Err (Truncated, here)
-items_cut room bytes here vs so none = sym so.read ∙ items_short (value_at room) so.turns here vs none
+  pub items_cut : here ≡ [] → items_behind room bytes ≡ Err (Truncated, here)
+  items_cut none = sym so.read ∙ items_short (value_at room) so.turns here vs none
 
-pub items_failed : (room : ℕ) (bytes here : List ℕ) (vs : List Bencode) (c : ℕ) (tail : List ℕ) (e : Failed) → ItemsSoFar room bytes here vs
-    → here ≡ c ∷ tail → c ≢ 101 → value_at room here ≡ Err e → items_behind room bytes ≡ Err e
-items_failed room bytes here vs c tail e so first other fails =
-    sym so.read ∙ ap (λ b. with_items vs (items_at (value_at room) so.turns b)) first
-    ∙ items_fail (value_at room) so.turns c tail vs e (omega (arith, so.enough, ap length first)) other (subst (λ b. value_at room b ≡ Err e) first fails)
+  pub items_failed : {c : ℕ} {tail : List ℕ} {e : Failed} → here ≡ c ∷ tail → c ≢ 101 → value_at room here ≡ Err e → items_behind room bytes ≡ Err e
+  items_failed {c = c} {tail = tail} {e = e} first other fails =
+      sym so.read ∙ ap (λ b. with_items vs (items_at (value_at room) so.turns b)) first
+      ∙ items_fail (value_at room) so.turns c tail vs e (omega (arith, so.enough, ap length first)) other (subst (λ b. value_at room b ≡ Err e) first fails)
 
--- the list itself has to grow, and one in an item
-pub items_grow_here : (room : ℕ) (bytes here after start there : List ℕ) (vs : List Bencode) (v : Bencode) → ItemsSoFar room bytes here vs
-    → value_at room here ≡ Ok (v, after)
-    → there ≡ start → GrowsForItem room start bytes there
-items_grow_here room bytes here after start there vs v so read same =
-    let took = value_takes room here (v, after) read in
-    inl (same, has_item room vs v bytes so.done took.0 after (so.parts ∙ ap (λ x. so.done ++ x) took.1) so.spelled took.2)
+  -- the list itself has to grow, and one in an item
+  pub items_grow_here : {v : Bencode} {after start there : List ℕ} → value_at room here ≡ Ok (v, after) → there ≡ start → GrowsForItem room start bytes there
+  items_grow_here {v = v} {after = after} read same =
+      let took = value_takes room here (v, after) read in
+      inl (same, has_item room vs v bytes so.done took.0 after (so.parts ∙ ap (λ x. so.done ++ x) took.1) so.spelled took.2)
 
-pub items_reach : (room : ℕ) (bytes here start there : List ℕ) (vs : List Bencode) → ItemsSoFar room bytes here vs → Reaches room here there
-    → GrowsForItem room start bytes there
-items_reach room bytes here start there vs so reached = inr (items_of vs, so.done, here, so.parts, so.spelled, reached)
+  pub items_reach : (start there : List ℕ) → Reaches room here there → GrowsForItem room start bytes there
+  items_reach start there reached = inr (items_of vs, so.done, here, so.parts, so.spelled, reached)
 
 -- ---- pairs
 
@@ -131,71 +126,65 @@ pairs_begin room bytes =
     with_none (Ok x) = refl
     with_none (Err e) = refl
 
-pub pairs_next : (room : ℕ) (bytes here behind after : List ℕ) (before : Option (List ℕ)) (ps : List Seen) (c : ℕ) (tail k : List ℕ) (v : Bencode)
-    → PairsSoFar room bytes here before ps → here ≡ c ∷ tail → c ≢ 101 → key_at before here ≡ Ok (k, behind) → length behind < length here
-    → value_at room behind ≡ Ok (v, after) → length after < length behind → PairsSoFar room bytes after (Some k) (ps ++ (k, v) ∷ [])
-pairs_next room bytes here behind after before ps c tail k v so first other key nearer read less =
-    let took = value_takes room behind (v, after) read in
-    let name = key_takes before here k behind key in
-    let mine = string k ++ took.0 in
-    let more = pairs_more (value_at room) so.turns c before tail behind after k v ps (omega (arith, so.enough, ap length first)) other
-    (subst (λ b. key_at before b ≡ Ok (k, behind)) first key) read in
-    record {
-      turns = so.turns - 1;
-      enough = omega (arith, so.enough, less, nearer);
-      within = omega (arith, so.within, less, nearer);
-      read = sym more ∙ ap (λ b. with_pairs ps (pairs_at (value_at room) so.turns before b)) (sym first) ∙ so.read;
-      done = so.done ++ mine;
-      parts = so.parts ∙ ap (λ x. so.done ++ x) (name.2 ∙ ap (λ x. string k ++ x) took.1 ∙ sym (append_assoc (string k) took.0 after))
-          ∙ sym (append_assoc so.done mine after);
-      spelled = pairs_grow room None ps k v so.done took.0 so.spelled name.0 (subst (IsAbove k) so.last name.1) took.2;
-      last = sym (last_grows None ps (k, v));
-    }
+module _ {room : ℕ} {bytes here : List ℕ} {before : Option (List ℕ)} {ps : List Seen} (so : PairsSoFar room bytes here before ps) where
+  pub pairs_next : {c : ℕ} {tail k behind after : List ℕ} {v : Bencode} → here ≡ c ∷ tail → c ≢ 101 → key_at before here ≡ Ok (k, behind)
+      → length behind < length here → value_at room behind ≡ Ok (v, after) → length after < length behind
+      → PairsSoFar room bytes after (Some k) (ps ++ (k, v) ∷ [])
+  pairs_next {c = c} {tail = tail} {k = k} {behind = behind} {after = after} {v = v} first other key nearer read less =
+      let took = value_takes room behind (v, after) read in
+      let name = key_takes before here k behind key in
+      let mine = string k ++ took.0 in
+      let more = pairs_more (value_at room) so.turns c before tail behind after k v ps (omega (arith, so.enough, ap length first)) other
+      (subst (λ b. key_at before b ≡ Ok (k, behind)) first key) read in
+      record {
+        turns = so.turns - 1;
+        enough = omega (arith, so.enough, less, nearer);
+        within = omega (arith, so.within, less, nearer);
+        read = sym more ∙ ap (λ b. with_pairs ps (pairs_at (value_at room) so.turns before b)) (sym first) ∙ so.read;
+        done = so.done ++ mine;
+        parts = so.parts ∙ ap (λ x. so.done ++ x) (name.2 ∙ ap (λ x. string k ++ x) took.1 ∙ sym (append_assoc (string k) took.0 after))
+            ∙ sym (append_assoc so.done mine after);
+        spelled = pairs_grow room None ps k v so.done took.0 so.spelled name.0 (subst (IsAbove k) so.last name.1) took.2;
+        last = sym (last_grows None ps (k, v));
+      }
 
-pub pairs_all : (room : ℕ) (bytes here after : List ℕ) (before : Option (List ℕ)) (ps : List Seen) (c : ℕ) → PairsSoFar room bytes here before ps
-    → here ≡ c ∷ after → c ≡ 101
-    → pairs_behind room bytes ≡ Ok (pairs_of ps, after)
-pairs_all room bytes here after before ps c so first mark =
-    sym so.read ∙ ap (λ b. with_pairs ps (pairs_at (value_at room) so.turns before b)) first
-    ∙ pairs_end (value_at room) so.turns c before after ps (omega (arith, so.enough, ap length first)) mark
+  pub pairs_all : {c : ℕ} {after : List ℕ} → here ≡ c ∷ after → c ≡ 101 → pairs_behind room bytes ≡ Ok (pairs_of ps, after)
+  pairs_all {c = c} {after = after} first mark =
+      sym so.read ∙ ap (λ b. with_pairs ps (pairs_at (value_at room) so.turns before b)) first
+      ∙ pairs_end (value_at room) so.turns c before after ps (omega (arith, so.enough, ap length first)) mark
 
-pub pairs_cut : (room : ℕ) (bytes here : List ℕ) (before : Option (List ℕ)) (ps : List Seen) → PairsSoFar room bytes here before ps → here ≡ []
-    → pairs_behind room bytes ≡ Err (Truncated, here)
-pairs_cut room bytes here before ps so none = sym so.read ∙ pairs_short (value_at room) so.turns before here ps none
+  pub pairs_cut : here ≡ [] → pairs_behind room bytes ≡ Err (Truncated, here)
+  pairs_cut none = sym so.read ∙ pairs_short (value_at room) so.turns before here ps none
 
-pub pairs_keyless : (room : ℕ) (bytes here : List ℕ) (before : Option (List ℕ)) (ps : List Seen) (c : ℕ) (tail : List ℕ) (f : FaultKind)
-    → PairsSoFar room bytes here before ps
-    → here ≡ c ∷ tail → c ≢ 101 → key_at before here ≡ Err f → pairs_behind room bytes ≡ Err (f, here)
-pairs_keyless room bytes here before ps c tail f so first other key =
-    sym so.read ∙ ap (λ b. with_pairs ps (pairs_at (value_at room) so.turns before b)) first
-    ∙ pairs_no_key (value_at room) so.turns c before tail ps f (omega (arith, so.enough, ap length first)) other
-    (subst (λ b. key_at before b ≡ Err f) first key)
-    ∙ ap (λ b. Err (f, b)) (sym first)
+  pub pairs_keyless : {c : ℕ} {tail : List ℕ} {f : FaultKind} → here ≡ c ∷ tail → c ≢ 101 → key_at before here ≡ Err f
+      → pairs_behind room bytes ≡ Err (f, here)
+  pairs_keyless {c = c} {tail = tail} {f = f} first other key =
+      sym so.read ∙ ap (λ b. with_pairs ps (pairs_at (value_at room) so.turns before b)) first
+      ∙ pairs_no_key (value_at room) so.turns c before tail ps f (omega (arith, so.enough, ap length first)) other
+      (subst (λ b. key_at before b ≡ Err f) first key)
+      ∙ ap (λ b. Err (f, b)) (sym first)
 
-pub pairs_failed : (room : ℕ) (bytes here behind : List ℕ) (before : Option (List ℕ)) (ps : List Seen) (c : ℕ) (tail k : List ℕ) (e : Failed)
-    → PairsSoFar room bytes here before ps
-    → here ≡ c ∷ tail → c ≢ 101 → key_at before here ≡ Ok (k, behind) → value_at room behind ≡ Err e → pairs_behind room bytes ≡ Err e
-pairs_failed room bytes here behind before ps c tail k e so first other key fails =
-    sym so.read ∙ ap (λ b. with_pairs ps (pairs_at (value_at room) so.turns before b)) first
-    ∙ pairs_fail (value_at room) so.turns c before tail behind k ps e (omega (arith, so.enough, ap length first)) other
-    (subst (λ b. key_at before b ≡ Ok (k, behind)) first key) fails
+  pub pairs_failed : {c : ℕ} {tail k behind : List ℕ} {e : Failed} → here ≡ c ∷ tail → c ≢ 101 → key_at before here ≡ Ok (k, behind)
+      → value_at room behind ≡ Err e → pairs_behind room bytes ≡ Err e
+  pairs_failed {c = c} {tail = tail} {k = k} {behind = behind} {e = e} first other key fails =
+      sym so.read ∙ ap (λ b. with_pairs ps (pairs_at (value_at room) so.turns before b)) first
+      ∙ pairs_fail (value_at room) so.turns c before tail behind k ps e (omega (arith, so.enough, ap length first)) other
+      (subst (λ b. key_at before b ≡ Ok (k, behind)) first key) fails
 
--- the dictionary itself has to grow, and one in a value
-pub pairs_grow_here : (room : ℕ) (bytes here behind after start there : List ℕ) (before : Option (List ℕ)) (ps : List Seen) (k : List ℕ) (v : Bencode)
-    → PairsSoFar room bytes here before ps
-    → key_at before here ≡ Ok (k, behind) → value_at room behind ≡ Ok (v, after) → there ≡ start → GrowsForPair room start bytes there
-pairs_grow_here room bytes here behind after start there before ps k v so key read same =
-    let took = value_takes room behind (v, after) read in
-    let name = key_takes before here k behind key in
-    let parts = so.parts ∙ ap (λ x. so.done ++ x) (name.2 ∙ ap (λ x. string k ++ x) took.1) in
-    inl (same, has_pair room ps k v bytes so.done took.0 after parts so.spelled name.0 (subst (IsAbove k) so.last name.1) took.2)
+  -- the dictionary itself has to grow, and one in a value
+  pub pairs_grow_here : {k behind after start there : List ℕ} {v : Bencode} → key_at before here ≡ Ok (k, behind) → value_at room behind ≡ Ok (v, after)
+      → there ≡ start → GrowsForPair room start bytes there
+  pairs_grow_here {k = k} {behind = behind} {after = after} {v = v} key read same =
+      let took = value_takes room behind (v, after) read in
+      let name = key_takes before here k behind key in
+      let parts = so.parts ∙ ap (λ x. so.done ++ x) (name.2 ∙ ap (λ x. string k ++ x) took.1) in
+      inl (same, has_pair room ps k v bytes so.done took.0 after parts so.spelled name.0 (subst (IsAbove k) so.last name.1) took.2)
 
-pub pairs_reach : (room : ℕ) (bytes here behind start there : List ℕ) (before : Option (List ℕ)) (ps : List Seen) (k : List ℕ)
-    → PairsSoFar room bytes here before ps
-    → key_at before here ≡ Ok (k, behind) → Reaches room behind there → GrowsForPair room start bytes there
-pairs_reach room bytes here behind start there before ps k so key reached =
-    let name = key_takes before here k behind key in
-    inr (pairs_of ps, k, so.done, behind, so.parts ∙ ap (λ x. so.done ++ x) name.2, so.spelled, name.0, subst (IsAbove k) so.last name.1, reached)
+  pub pairs_reach : {k behind : List ℕ} (start there : List ℕ) → key_at before here ≡ Ok (k, behind) → Reaches room behind there
+      → GrowsForPair room start bytes there
+  pairs_reach {k = k} {behind = behind} start there key reached =
+      let name = key_takes before here k behind key in
+      inr (pairs_of ps, k, so.done, behind, so.parts ∙ ap (λ x. so.done ++ x) name.2, so.spelled, name.0, subst (IsAbove k) so.last name.1, reached)
 
 -- the bytes of a value are its spelling
 pub value_bytes : (room : ℕ) (behind after : List ℕ) (v : Bencode) → value_at room behind ≡ Ok (v, after)

@@ -34,20 +34,28 @@ fn held_for(alloc: Global, session: &OwnedSession<Paged>, bound: usize) -> Resul
     }
 }
 
+// What a piece message says: where its blocks begin, and their bytes.
+#[derive(Clone, Copy)]
+struct PieceFields<'b> {
+    index: u32,
+    begin: u32,
+    bytes: &'b [u8],
+}
+
 fn hold(
     alloc: Global,
     session: &mut OwnedSession<Paged>,
     holdings: &mut Handle,
-    index: u32,
-    begin: u32,
-    bytes: &[u8],
+    piece: &PieceFields<'_>,
     out: &mut HeldInfo,
 ) -> u32
-    ensures done { WithHoldings (HoldsBlocks index begin bytes.now out.new) session.old
-        holdings.old.slot.held result session.new holdings.new.slot.held }
+    ensures done { WithHoldings
+        (HoldsBlocks piece.now.index piece.now.begin piece.now.bytes.now out.new)
+        session.old holdings.old.slot.held result session.new holdings.new.slot.held }
     ensures unwritten { result ≢ 0 → out.new ≡ out.old }
 {
-    lend!(holdings, alloc, Holdings(held) => hold_blocks(session, held, index, begin, bytes, out))
+    lend!(holdings, alloc, Holdings(held) =>
+        hold_blocks(session, held, piece.index, piece.begin, piece.bytes, out))
 }
 
 fn settle(
@@ -123,7 +131,12 @@ pub extern "C" fn btcheck_session_hold(
         holdings.new.slot.held }
     ensures unwritten { result ≢ 0 → out.new ≡ out.old }
 {
-    lend!(session, alloc, Session(lent) => hold(alloc, lent, holdings, index, begin, bytes, out))
+    let piece = PieceFields {
+        index,
+        begin,
+        bytes,
+    };
+    lend!(session, alloc, Session(lent) => hold(alloc, lent, holdings, &piece, out))
 }
 
 /// Settles what can be settled first of the pieces that are looked at: those that have a block of

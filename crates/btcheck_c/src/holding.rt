@@ -13,6 +13,14 @@ use node_maps::Paged;
 use partial_tree::{BlockRefusal, block_of};
 use session::{Blocks, OwnedSession};
 
+// The blocks of a message as a session took them, the tree that they are in, and their bytes.
+#[derive(Clone, Copy)]
+struct BlocksInTree<'b> {
+    tree: usize,
+    blocks: &'b Blocks,
+    bytes: &'b [u8],
+}
+
 /// Takes the blocks of a message, and holds those that cannot be proved yet.
 pub(crate) fn hold_blocks(
     session: &mut OwnedSession<Paged>,
@@ -49,16 +57,13 @@ fn hold_unproved(
     let (file, first) = blocks.place(0);
     let tree = session.torrent().tree_of(file).unwrap();
     let mut out = lay_out_unheld(blocks);
+    let taken = BlocksInTree {
+        tree,
+        blocks,
+        bytes,
+    };
     'entries: for entry in 0..blocks.len() {
-        hold_entry(
-            session,
-            &mut held.holdings,
-            tree,
-            blocks,
-            bytes,
-            entry,
-            &mut out,
-        );
+        hold_entry(session, &mut held.holdings, &taken, entry, &mut out);
     }
     let pieces = pieces_of(session, tree, first, blocks.len() as u64);
     held.cursor = Cursor::at(tree, pieces);
@@ -78,27 +83,26 @@ fn pieces_of(session: &OwnedSession<Paged>, tree: usize, first: u64, count: u64)
 fn hold_entry(
     session: &OwnedSession<Paged>,
     holdings: &mut Holdings,
-    tree: usize,
-    blocks: &Blocks,
-    bytes: &[u8],
+    taken: &BlocksInTree<'_>,
     entry: usize,
     out: &mut HeldInfo,
 )
-    requires tree { tree < length session.now.torrent.trees }
-    requires block { IsTreeBlock session.now tree (blocks.now.first + entry) }
-    requires bytes { 16384 * entry ≤ length bytes.now }
-    requires entry { entry < length blocks.now.refusals }
+    requires tree { taken.now.tree < length session.now.torrent.trees }
+    requires block { IsTreeBlock session.now taken.now.tree (taken.now.blocks.now.first + entry) }
+    requires bytes { 16384 * entry ≤ length taken.now.bytes.now }
+    requires entry { entry < length taken.now.blocks.now.refusals }
     requires few { entry < 17 }
-    ensures { (r : Option Why) × (slice_get blocks.now.refusals entry ≡ Some r)
-        × EntryHeld session.now tree blocks.now bytes.now entry r holdings.old out.old holdings.new
-        out.new }
+    ensures { (r : Option Why) × (slice_get taken.now.blocks.now.refusals entry ≡ Some r)
+        × EntryHeld session.now taken.now.tree taken.now.blocks.now taken.now.bytes.now entry r
+        holdings.old out.old holdings.new out.new }
 {
-    match blocks.refusal(entry) {
+    match taken.blocks.refusal(entry) {
         None => {}
         Some(BlockRefusal::BadPlace | BlockRefusal::BadSize | BlockRefusal::BadBlock) => {}
         Some(BlockRefusal::Unproved) => {
-            let (_, block) = blocks.place(entry);
-            let hold = holdings.hold(session, tree, block, block_of(bytes, entry as u64));
+            let (_, block) = taken.blocks.place(entry);
+            let bytes = block_of(taken.bytes, entry as u64);
+            let hold = holdings.hold(session, taken.tree, block, bytes);
             write_hold(hold, entry, out);
         }
     }

@@ -7,7 +7,5 @@ pub use part_laws::{
 pub use part_reports::laws::{
     all_reports_are_joined, texts_make_the_report, true_parts_report, yes_of_texts,
 };
-pub use parts::laws::{
-    part_words_are_texts, parts_make_the_report, places_are_tested, report_is_one, yes_of_parts,
-};
+pub use parts::laws::{parts_make_the_report, places_are_tested, report_is_one, yes_of_parts};
 pub use replay_laws::proved_lines_came;

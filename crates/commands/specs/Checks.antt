@@ -8,9 +8,9 @@ use Rattle.folders.specs.declared.report_lines.Lines.{Lines}
 use Rattle.folders.specs.declared.report.FileVerdict.{FileVerdict}
 use Rattle.folders.specs.declared.report.V1Verdict.{V1Verdict}
 use Rattle.folders.specs.declared.shelf.Shelf.{Ghosts}
+use Rattle.lines.specs.Rows.{Spelling}
 use Rattle.opening.specs.Description.{Description}
 use Rattle.parts.specs.Checking.{ChecksWhole, StopsTelling}
-use Rattle.parts.specs.Words.{Words}
 use Rattle.parts.specs.declared.telling.Telling.{Telling}
 use Rattle.printing.specs.declared.fault.Fault.{Fault}
 use Rattle.printing.specs.declared.fault.Fault.TheVariants as faults
@@ -19,14 +19,14 @@ module _ {S F : Type 0} (shelf : Ghosts S F) (seen : F → SourceSeen) where
   -- What a check did, by its answer: each file was checked and told of, in order, and the
   -- status is that of the last line; or the report broke off at a file or behind the last one; or
   -- memory was refused before the first.
-  abbrev pub ChecksInTurn : Words → Description → Telling → Lines → S × SinkSeen
+  abbrev pub ChecksInTurn : Spelling → Description → Telling → Lines → S × SinkSeen
       → S × SinkSeen → Result ℕ Fault → Type 0
-  ChecksInTurn words t telling lines old new (Ok status) =
+  ChecksInTurn spelled t telling lines old new (Ok status) =
       (files : List FileVerdict) × (v1 : Option V1Verdict)
-      × ChecksWhole shelf seen words t telling lines files v1 old new
+      × ChecksWhole shelf seen spelled t telling lines files v1 old new
       × (status ≡ answer_status (is_yes files v1))
-  ChecksInTurn words t telling lines old new (Err (faults.Write path)) =
-      (path.now ≡ codes "-") × StopsTelling shelf seen words t telling lines old new
-  ChecksInTurn words t telling lines old new (Err faults.NoMemory) =
+  ChecksInTurn spelled t telling lines old new (Err (faults.Write path)) =
+      (path.now ≡ codes "-") × StopsTelling shelf seen spelled t telling lines old new
+  ChecksInTurn spelled t telling lines old new (Err faults.NoMemory) =
       (new.0 ≡ old.0) × (new.1 ≡ old.1)
-  ChecksInTurn words t telling lines old new (Err fault) = ⊥
+  ChecksInTurn spelled t telling lines old new (Err fault) = ⊥

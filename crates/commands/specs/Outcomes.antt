@@ -28,14 +28,14 @@ use Rattle.filetree.specs.declared.refusal.Refusal.TheVariants as refusals
 use Rattle.filetree.specs.Tests.{First, NoneHolds, TestRow}
 use Rattle.drafts.specs.Written.{value_of}
 use Rattle.replays.specs.Outcome.{status_of}
-use Rattle.folders.specs.Printed.{Wording, report_as}
+use Rattle.folders.specs.Printed.{report_rows}
 use Rattle.torrent_lines.specs.Refused.{refusal_text}
 use Rattle.replays.specs.Replay.{IsReport, ReplaySeen}
 use Rattle.replays.specs.Telling.{plain_as}
 use Rattle.folders.specs.Shelf.{path_bytes}
 use Rattle.folders.specs.Verdicts.{HasVerdicts, IsTrueOfFolder, is_yes}
 use Rattle.folders.specs.declared.report_lines.Lines.TheVariants as lines
-use Rattle.lines.specs.Rows.{Spelling}
+use Rattle.lines.specs.Rows.{Spelling, spell}
 use Rattle.lines.specs.Table.{already_form_2_row}
 use Rattle.lines.specs.Texts.{text_of}
 use Rattle.part_reports.specs.Joined.{AreJoined}
@@ -47,9 +47,8 @@ use Rattle.part_reports.specs.declared.join_fault.JoinFault.TheVariants as joini
 use Rattle.part_reports.specs.declared.kind.Kind.TheVariants as kind
 use Rattle.part_reports.specs.declared.marked_report.MarkedReport.{MarkedReport}
 use Rattle.parts.specs.Finding.{IsTrueOfPlaces}
-use Rattle.parts.specs.PartWords.{PartWords, part_as}
+use Rattle.parts.specs.PartLines.{part_rows}
 use Rattle.parts.specs.Shares.{share}
-use Rattle.parts.specs.Words.{Words}
 
 -- ---- statuses
 
@@ -119,68 +118,69 @@ EndsRoot line source source' out out' (Err fault) = ⊥
 -- What a check did, by its answer: it went to the shelf so, the wanted lines of a report on what
 -- stands under the torrent's paths went out, and the status is that of the last one; or the lines
 -- broke off so; or memory was refused before the first.
-abbrev pub Checks : Wording → Description → (List (List ℕ) → Option (Option (List ℕ)))
+abbrev pub Checks : Spelling → Description → (List (List ℕ) → Option (Option (List ℕ)))
     → (List FileVerdict → Type 0) → Type 0 → Lines → SinkSeen → SinkSeen → Result ℕ Fault → Type 0
-Checks words t under Went Broken lines out out' (Ok status) = (files : List FileVerdict)
+Checks spelled t under Went Broken lines out out' (Ok status) = (files : List FileVerdict)
     × (v1 : Option V1Verdict) × HasVerdicts t files v1 × IsTrueOfFolder t under files v1
-    × Went files × SentAndFlushed out out' (report_as words lines t.files files v1)
+    × Went files × SentAndFlushed out out' (spell spelled (report_rows lines t.files files v1))
     × (status ≡ answer_status (is_yes files v1))
-Checks words t under Went Broken lines out out' (Err (faults.Write path)) =
+Checks spelled t under Went Broken lines out out' (Err (faults.Write path)) =
     (path.now ≡ codes "-") × Broken
-Checks words t under Went Broken lines out out' (Err faults.NoMemory) = out' ≡ out
-Checks words t under Went Broken lines out out' (Err fault) = ⊥
+Checks spelled t under Went Broken lines out out' (Err faults.NoMemory) = out' ≡ out
+Checks spelled t under Went Broken lines out out' (Err fault) = ⊥
 
 -- ---- parts
 
 -- What a part of a check did, by its answer: it went to the shelf so, the report of the part on
--- what stands under the torrent's paths went out, worded so, and the status is that of its last
+-- what stands under the torrent's paths went out, spelled so, and the status is that of its last
 -- line; or that report broke off; or memory was refused before it.
-abbrev pub ChecksPart : PartWords → Description → ℕ → ℕ
+abbrev pub ChecksPart : Spelling → Description → ℕ → ℕ
     → (List (List ℕ) → Option (Option (List ℕ))) → (List FileVerdict → Type 0) → SinkSeen
     → SinkSeen → Result ℕ Fault → Type 0
-ChecksPart words t part count under Went out out' (Ok status) = (files : List FileVerdict)
+ChecksPart spelled t part count under Went out out' (Ok status) = (files : List FileVerdict)
     × (v1 : Option V1Verdict) × HasVerdicts t files v1
     × IsTrueOfPlaces t (share t part count) under files v1 × Went files
-    × SentAndFlushed out out' (part_as words t part count files v1)
+    × SentAndFlushed out out' (spell spelled (part_rows t part count files v1))
     × (status ≡ answer_status (is_yes files v1))
-ChecksPart words t part count under Went out out' (Err (faults.Write path)) = (path.now ≡ codes "-")
+ChecksPart spelled t part count under Went out out' (Err (faults.Write path)) =
+    (path.now ≡ codes "-")
     × (files : List FileVerdict) × (v1 : Option V1Verdict) × HasVerdicts t files v1
     × IsTrueOfPlaces t (share t part count) under files v1 × Went files
-    × BrokeOrUnflushed out out' (part_as words t part count files v1)
-ChecksPart words t part count under Went out out' (Err faults.NoMemory) = out' ≡ out
-ChecksPart words t part count under Went out out' (Err fault) = ⊥
+    × BrokeOrUnflushed out out' (spell spelled (part_rows t part count files v1))
+ChecksPart spelled t part count under Went out out' (Err faults.NoMemory) = out' ≡ out
+ChecksPart spelled t part count under Went out out' (Err fault) = ⊥
 
 -- What joining reports did, by its answer: what they say together went out as the report of a
--- check, worded so, and the status is that of its last line; or they cannot be joined for this
+-- check, spelled so, and the status is that of its last line; or they cannot be joined for this
 -- reason, and nothing was printed; or the report broke off; or memory was refused before it.
-abbrev pub JoinsParts : Wording → Description → List (List ℕ) → SinkSeen → SinkSeen
+abbrev pub JoinsParts : Spelling → Description → List (List ℕ) → SinkSeen → SinkSeen
     → Result (Result ℕ JoinFault) Fault → Type 0
-JoinsParts words t texts out out' (Ok (Ok status)) = (files : List FileVerdict)
+JoinsParts spelled t texts out out' (Ok (Ok status)) = (files : List FileVerdict)
     × (v1 : Option V1Verdict) × AreJoined t texts files v1
-    × SentAndFlushed out out' (report_as words lines.All t.files files v1)
+    × SentAndFlushed out out' (spell spelled (report_rows lines.All t.files files v1))
     × (status ≡ answer_status (is_yes files v1))
-JoinsParts words t texts out out' (Ok (Err fault)) =
+JoinsParts spelled t texts out out' (Ok (Err fault)) =
     (fault ≢ joining.NoMemory) × HasJoinReason t texts fault × (out' ≡ out)
-JoinsParts words t texts out out' (Err (faults.Write path)) = (path.now ≡ codes "-")
+JoinsParts spelled t texts out out' (Err (faults.Write path)) = (path.now ≡ codes "-")
     × (files : List FileVerdict) × (v1 : Option V1Verdict) × AreJoined t texts files v1
-    × BrokeOrUnflushed out out' (report_as words lines.All t.files files v1)
-JoinsParts words t texts out out' (Err faults.NoMemory) = out' ≡ out
-JoinsParts words t texts out out' (Err fault) = ⊥
+    × BrokeOrUnflushed out out' (spell spelled (report_rows lines.All t.files files v1))
+JoinsParts spelled t texts out out' (Err faults.NoMemory) = out' ≡ out
+JoinsParts spelled t texts out out' (Err fault) = ⊥
 
 -- The same of marked reports: what they say together went out with the maximal runs of bad pieces
 -- of each file that is bad or has another length.
-abbrev pub JoinsMarkedParts : Words → Description → List (List ℕ) → SinkSeen → SinkSeen
+abbrev pub JoinsMarkedParts : Spelling → Description → List (List ℕ) → SinkSeen → SinkSeen
     → Result (Result ℕ JoinFault) Fault → Type 0
-JoinsMarkedParts words t texts out out' (Ok (Ok status)) = (joined : MarkedReport)
-    × AreJoinedAs kind.Marked t texts joined × SaysWholeReport words t joined out out'
+JoinsMarkedParts spelled t texts out out' (Ok (Ok status)) = (joined : MarkedReport)
+    × AreJoinedAs kind.Marked t texts joined × SaysWholeReport spelled t joined out out'
     × (status ≡ answer_status (is_yes joined.report.files.items joined.report.v1))
-JoinsMarkedParts words t texts out out' (Ok (Err fault)) =
+JoinsMarkedParts spelled t texts out out' (Ok (Err fault)) =
     (fault ≢ joining.NoMemory) × HasReasonOf kind.Marked t texts fault × (out' ≡ out)
-JoinsMarkedParts words t texts out out' (Err (faults.Write path)) = (path.now ≡ codes "-")
+JoinsMarkedParts spelled t texts out out' (Err (faults.Write path)) = (path.now ≡ codes "-")
     × (joined : MarkedReport) × AreJoinedAs kind.Marked t texts joined
-    × StopsSaying words t joined out out'
-JoinsMarkedParts words t texts out out' (Err faults.NoMemory) = out' ≡ out
-JoinsMarkedParts words t texts out out' (Err fault) = ⊥
+    × StopsSaying spelled t joined out out'
+JoinsMarkedParts spelled t texts out out' (Err faults.NoMemory) = out' ≡ out
+JoinsMarkedParts spelled t texts out out' (Err fault) = ⊥
 
 -- ---- seeds, new torrents and conversions
 

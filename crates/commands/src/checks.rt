@@ -3,19 +3,17 @@ ghost use Rattle.std.specs.Prelude.{◌≡◌, IfErr};
 ghost use Rattle.chains.specs.Chain.{Chain};
 ghost use Rattle.commands.specs.Checks.{ChecksInTurn};
 ghost use Rattle.commands.specs.Outcomes.{Checks};
-ghost use Rattle.folders.specs.Said.{worded};
 ghost use Rattle.folders.specs.Stopping.{BreaksOffAs};
 ghost use Rattle.folders.specs.Verdicts.{CountsUnreadable};
 ghost use Rattle.folders.specs.Visits.{Visits};
 ghost use Rattle.parts.specs.Checking.{shelf_and_sink};
-ghost use Rattle.parts.specs.Words.{words_as};
 ghost use Rattle.parts.specs.declared.telling.Telling.TheVariants as telling;
 
 use crate::outcomes::status;
 use folders::{Lines, Pace, Shelf};
 use lines::LineSink;
 use opening::Torrent;
-use parts::{CheckFault, say_check_at_pace, say_check_with_bad_pieces};
+use parts::{CheckFault, say_check, say_check_with_bad_pieces};
 use printing::{Fault, OUTPUT};
 use std::alloc::Global;
 
@@ -30,19 +28,19 @@ pub fn check<'a, S: Shelf, L: LineSink, P: Pace>(
     pace: &mut P,
     out: &mut L,
 ) -> Result<u8, Fault<'a>>
-    ensures checks { Checks (worded L.spelled) torrent.now (S.contents shelf.old).under
+    ensures checks { Checks L.spelled torrent.now (S.contents shelf.old).under
         (λ files. Chain (Visits S.Shelf S.File.seen torrent.now) shelf.old torrent.now.files
         files shelf.new × CountsUnreadable (S.faults shelf.old) (S.faults shelf.new) files)
-        (BreaksOffAs S.Shelf S.File.seen (worded L.spelled) torrent.now shelf.old lines
+        (BreaksOffAs S.Shelf S.File.seen L.spelled torrent.now shelf.old lines
         (L.seen out.old) (L.seen out.new) shelf.new)
         lines (L.seen out.old) (L.seen out.new) result }
-    ensures in_turn { ChecksInTurn S.Shelf S.File.seen (words_as L.spelled) torrent.now
+    ensures in_turn { ChecksInTurn S.Shelf S.File.seen L.spelled torrent.now
         (telling.Line lines) lines
         (shelf_and_sink shelf.old (L.seen out.old)) (shelf_and_sink shelf.new (L.seen out.new))
         result }
     ensures no_memory { IfErr result (λ f. f ≡ Fault.NoMemory → shelf.new ≡ shelf.old) }
 {
-    match say_check_at_pace(alloc, torrent, shelf, lines, pace, out) {
+    match say_check(alloc, torrent, shelf, lines, pace, out) {
         Ok(report) => Ok(status(report.yes())),
         Err(CheckFault::NoMemory) => Err(Fault::NoMemory),
         Err(CheckFault::Write) => Err(Fault::Write(OUTPUT)),
@@ -59,7 +57,7 @@ pub fn check_bad<'a, S: Shelf, L: LineSink>(
     lines: Lines,
     out: &mut L,
 ) -> Result<u8, Fault<'a>>
-    ensures checks { ChecksInTurn S.Shelf S.File.seen (words_as L.spelled) torrent.now
+    ensures checks { ChecksInTurn S.Shelf S.File.seen L.spelled torrent.now
         (telling.LineAndRuns lines) lines
         (shelf_and_sink shelf.old (L.seen out.old)) (shelf_and_sink shelf.new (L.seen out.new))
         result }

@@ -1,8 +1,6 @@
 //! What a join of the reports of parts answers.
 ghost use Rattle.std.specs.Prelude.{map};
 ghost use Rattle.commands.specs.Outcomes.{JoinsParts, JoinsMarkedParts};
-ghost use Rattle.folders.specs.Said.{worded};
-ghost use Rattle.parts.specs.Words.{words_as};
 
 use crate::outcomes::status;
 use folders::say_report;
@@ -19,7 +17,7 @@ pub(crate) fn join_plain<'a, L: LineSink>(
     texts: &[&[u8]],
     out: &mut L,
 ) -> Result<Result<u8, JoinFault>, Fault<'a>>
-    ensures { JoinsParts (worded L.spelled) torrent.now (map (λ x. x.now) texts.now)
+    ensures { JoinsParts L.spelled torrent.now (map (λ x. x.now) texts.now)
         (L.seen out.old) (L.seen out.new) result }
 {
     let report = match join_reports(alloc, torrent, texts) {
@@ -40,7 +38,7 @@ pub(crate) fn join_marked<'a, L: LineSink>(
     texts: &[&[u8]],
     out: &mut L,
 ) -> Result<Result<u8, JoinFault>, Fault<'a>>
-    ensures { JoinsMarkedParts (words_as L.spelled) torrent.now (map (λ x. x.now) texts.now)
+    ensures { JoinsMarkedParts L.spelled torrent.now (map (λ x. x.now) texts.now)
         (L.seen out.old) (L.seen out.new) result }
 {
     let joined = match join_marked_reports(alloc, torrent, texts) {

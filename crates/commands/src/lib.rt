@@ -1,6 +1,7 @@
 //! What each command of `btcheck` answers over any devices.
 #![tactic(auto)]
 
+pub mod answer_sink;
 pub mod checks;
 pub mod creations;
 mod joins;

@@ -9,14 +9,13 @@ ghost use Rattle.torrent_lines.specs.Rows.{show_rows};
 ghost use Rattle.replays.specs.Replay.{IsCutReport, replay_seen};
 ghost use Rattle.replays.specs.Telling.{plain_as};
 ghost use Rattle.folders.specs.Root.{root_line_as};
-ghost use Rattle.folders.specs.Said.{worded};
-ghost use Rattle.parts.specs.Words.{words_as};
 ghost use Rattle.seeding.specs.Seeding.{IsSeededAs, SeedsAs, seed_line_as, shelf_and_session};
 ghost use Rattle.folders.specs.TakeAll.{IsReadWithin};
 ghost use Rattle.session.specs.Fresh.{IsFresh};
 ghost use Rattle.part_reports.specs.Heads.{AreMarkedTexts};
 ghost use Rattle.commands.specs.Outcomes.{BlamesOne, ConvertsRecord, EndsRoot, IsReplayed, IsListingFault, IsSeedingFault, IsUnprinted, JoinsMarkedParts, JoinsParts, MakesDraft, NamesOutput, NamesSink, WritesTorrent, answer_status, form_2_text, wanted_draft};
 
+use crate::answer_sink::AnswerSink;
 use crate::joins::{join_marked, join_plain};
 use actions::Create;
 use benc::{Sink, Source};
@@ -109,10 +108,10 @@ pub fn join<'a, L: LineSink>(
     out: &mut L,
 ) -> Result<Result<u8, JoinFault>, Fault<'a>>
     ensures plain { let given = map (λ x. x.now) texts.now in (AreMarkedTexts given → ⊥)
-        → JoinsParts (worded L.spelled) torrent.now given
+        → JoinsParts L.spelled torrent.now given
         (L.seen out.old) (L.seen out.new) result }
     ensures marked { let given = map (λ x. x.now) texts.now in AreMarkedTexts given
-        → JoinsMarkedParts (words_as L.spelled) torrent.now given
+        → JoinsMarkedParts L.spelled torrent.now given
         (L.seen out.old) (L.seen out.new) result }
 {
     match kind_of(texts) {
@@ -182,36 +181,34 @@ pub fn replay<'a, N: NodeMap, R: Source, L: LineSink>(
     Ok(outcome.status())
 }
 
-/// Replays a record over a session, and writes the answers to its hash requests to the sink with
-/// this path.
+/// Replays a record over a session, and writes the answers to its hash requests to that sink.
 pub fn replay_and_answer<'a, N: NodeMap, R: Source, L: LineSink, A: Sink>(
     alloc: Global,
     session: &mut Session<'_, N>,
     source: &mut R,
     out: &mut L,
     cuts: bool,
-    path: &'a str,
-    answers: &mut A,
+    answers: &mut AnswerSink<'a, A>,
 ) -> Result<u8, Fault<'a>>
     ensures replayed { IfOk result (IsReplayed L.spelled
         (replay_seen cuts (R.seen source.old) session.old tt (L.seen out.old)
-        (Some (A.seen answers.old)))
+        (Some (A.seen answers.old.sink)))
         (replay_seen cuts (R.seen source.new) session.new tt (L.seen out.new)
-        (Some (A.seen answers.new)))) }
+        (Some (A.seen answers.new.sink)))) }
     ensures cut { OnErr result (IsCutReport (plain_as L.spelled)
         (replay_seen cuts (R.seen source.old) session.old tt (L.seen out.old)
-        (Some (A.seen answers.old)))
+        (Some (A.seen answers.old.sink)))
         (replay_seen cuts (R.seen source.new) session.new tt (L.seen out.new)
-        (Some (A.seen answers.new)))) }
+        (Some (A.seen answers.new.sink)))) }
     ensures output { (L.seen out.new).faults ≢ (L.seen out.old).faults → IfErr result NamesOutput }
     ensures answers { (L.seen out.new).faults ≡ (L.seen out.old).faults
-        → IfErr result (NamesSink path.now) }
+        → IfErr result (NamesSink answers.old.path.now) }
 {
     let faults = out.faults();
-    match replays::replay_onto(alloc, session, source, out, Some(answers), cuts) {
+    match replays::replay_onto(alloc, session, source, out, Some(&mut answers.sink), cuts) {
         Ok(outcome) => Ok(outcome.status()),
         Err(_) if out.faults() != faults => Err(Fault::Write(OUTPUT)),
-        Err(_) => Err(Fault::Write(path)),
+        Err(_) => Err(Fault::Write(answers.path)),
     }
 }
 

@@ -5,7 +5,6 @@ ghost use Rattle.commands.specs.MarkedParts.{ChecksPartInTurn};
 ghost use Rattle.commands.specs.Outcomes.{ChecksPart};
 ghost use Rattle.folders.specs.Verdicts.{CountsUnreadable};
 ghost use Rattle.parts.specs.PartVisits.{VisitsPart};
-ghost use Rattle.parts.specs.PartWords.{part_words};
 ghost use Rattle.parts.specs.Shares.{share};
 ghost use Rattle.parts.specs.Checking.{shelf_and_sink};
 
@@ -27,7 +26,7 @@ pub fn check_part<'a, S: SeekShelf, L: LineSink>(
     part: NumberedPart,
     out: &mut L,
 ) -> Result<u8, Fault<'a>>
-    ensures checks { ChecksPart (part_words L.spelled) torrent.now (part.number - 1) part.count
+    ensures checks { ChecksPart L.spelled torrent.now (part.number - 1) part.count
         (S.Shelf.contents shelf.old).under
         (λ files. Chain (VisitsPart S.opens_at S.Shelf.closes S.File.seen torrent.now
         (share torrent.now (part.number - 1) part.count)) shelf.old torrent.now.files files
@@ -57,7 +56,7 @@ pub fn check_part_bad<'a, S: SeekShelf, L: LineSink>(
     part: NumberedPart,
     out: &mut L,
 ) -> Result<u8, Fault<'a>>
-    ensures checks { ChecksPartInTurn (part_words L.spelled) S.Shelf S.opens_at S.File.seen
+    ensures checks { ChecksPartInTurn L.spelled S.Shelf S.opens_at S.File.seen
         torrent.now (part.number - 1) part.count (shelf_and_sink shelf.old (L.seen out.old))
         (shelf_and_sink shelf.new (L.seen out.new)) result }
     ensures stays { S.Shelf.contents shelf.new ≡ S.Shelf.contents shelf.old }

@@ -5,6 +5,7 @@ ghost use Rattle.commands.specs.PieceReplays.{IsReplayedByPieces};
 ghost use Rattle.replays.specs.ByPieces.{by_pieces_as};
 ghost use Rattle.replays.specs.Replay.{IsCutReport, replay_seen};
 
+use crate::answer_sink::AnswerSink;
 use benc::{Sink, Source};
 use holdings::Holdings;
 use lines::{LineSink, Nowhere};
@@ -37,7 +38,7 @@ pub fn replay_pieces<'a, N: NodeMap, R: Source, L: LineSink>(
     }
 }
 
-/// The same, and writes the answers to the record's hash requests to the sink with this path.
+/// The same, and writes the answers to the record's hash requests to that sink.
 pub fn replay_pieces_and_answer<'a, N: NodeMap, R: Source, L: LineSink, A: Sink>(
     alloc: Global,
     session: &mut Session<'_, N>,
@@ -45,27 +46,27 @@ pub fn replay_pieces_and_answer<'a, N: NodeMap, R: Source, L: LineSink, A: Sink>
     source: &mut R,
     out: &mut L,
     cuts: bool,
-    path: &'a str,
-    answers: &mut A,
+    answers: &mut AnswerSink<'a, A>,
 ) -> Result<u8, Fault<'a>>
     ensures replayed { IfOk result (IsReplayedByPieces L.spelled
         (replay_seen cuts (R.seen source.old) session.old holdings.old (L.seen out.old)
-        (Some (A.seen answers.old)))
+        (Some (A.seen answers.old.sink)))
         (replay_seen cuts (R.seen source.new) session.new holdings.new (L.seen out.new)
-        (Some (A.seen answers.new)))) }
+        (Some (A.seen answers.new.sink)))) }
     ensures cut { OnErr result (IsCutReport (by_pieces_as L.spelled)
         (replay_seen cuts (R.seen source.old) session.old holdings.old (L.seen out.old)
-        (Some (A.seen answers.old)))
+        (Some (A.seen answers.old.sink)))
         (replay_seen cuts (R.seen source.new) session.new holdings.new (L.seen out.new)
-        (Some (A.seen answers.new)))) }
+        (Some (A.seen answers.new.sink)))) }
     ensures output { (L.seen out.new).faults ≢ (L.seen out.old).faults → IfErr result NamesOutput }
     ensures answers { (L.seen out.new).faults ≡ (L.seen out.old).faults
-        → IfErr result (NamesSink path.now) }
+        → IfErr result (NamesSink answers.old.path.now) }
 {
     let faults = out.faults();
-    match replays::replay_pieces(alloc, session, holdings, source, out, Some(answers), cuts) {
+    let sink = Some(&mut answers.sink);
+    match replays::replay_pieces(alloc, session, holdings, source, out, sink, cuts) {
         Ok(outcome) => Ok(outcome.status()),
         Err(_) if out.faults() != faults => Err(Fault::Write(OUTPUT)),
-        Err(_) => Err(Fault::Write(path)),
+        Err(_) => Err(Fault::Write(answers.path)),
     }
 }

@@ -5,6 +5,7 @@ use Rattle.std.specs.List.{flat_map}
 use Rattle.std.proofs.lemmas.Bool.{cases_Bool, cases_lt}
 use Rattle.std.proofs.lemmas.List.{append_assoc, append-nil, length-append, length-replicate, length-drop, length-take-le, take-append-drop, take_at, drop_at}
 use Rattle.std.proofs.Math.Seq.{take-add}
+use Rattle.benc.specs.Device.{Broke, SinkSeen}
 use Rattle.wire.specs.declared.form.Form.TheVariants.{Two}
 use Rattle.wire.specs.declared.form.Direction.TheVariants.{In, Out}
 use Rattle.wire.specs.Conversion.{is_hashes_body, request_of}
@@ -218,3 +219,17 @@ opens_sound left part sent more body after o fits e = elim (cases_lt (length mor
       let is : c.body ≡ body = (same_from_frame c.body body (drop left more) after c.fits fits same).0 in
       (rest, ap converted_bytes (sym is) ∙ sym c.is_converted)
 ]
+
+-- ---- where the sink fails
+
+-- before the end of a request and the head that follows it
+pub head_breaks : (start now : SinkSeen) (text request head : List ℕ) (h : IsHeadOf head (length head)) → GoesBefore head request
+    → Broke start now (text ++ (request ++ (0 ∷ head))) → (left : ℕ) × (sent : List ℕ) × BeginsFrame left head sent × Broke start now (text ++ sent)
+head_breaks start now text request head h goes broke = (h.len + 4 - length head, request ++ (0 ∷ head), goes_opens head request h goes, broke)
+
+-- before the end of the request
+pub request_breaks : (start now : SinkSeen) (text head : List ℕ) (h : IsHeadOf head (length head))
+    → ((len : ℕ) (front : List ℕ) → len < 2 ^ 32 → head ≡ four_bytes len ++ front → BeginsHashes len front)
+    → Broke start now (text ++ (request_head ++ drop 5 head)) → (request : List ℕ) × GoesBefore head request × Broke start now (text ++ request)
+request_breaks start now text head h begins broke =
+    (request_head ++ drop 5 head, goes_request head h (begins h.len h.front h.fits h.head_is), broke)

@@ -108,10 +108,16 @@ pub fed_later : (fed part : List ℕ) (at n : ℕ) → (fed ++ take at part) ++ 
 fed_later fed part at n = append_assoc fed (take at part) _ ∙ ap (λ t. fed ++ (take at part ++ take n t)) (take_rest part at)
     ∙ ap (λ t. fed ++ t) (sym (take-add at n part))
 
-pub fed_head : (fed part : List ℕ) (at n : ℕ) → (fed ++ take at part) ++ take (at + n - at) (drop at part) ≡ fed ++ take (at + n) part
+fed_head : (fed part : List ℕ) (at n : ℕ) → (fed ++ take at part) ++ take (at + n - at) (drop at part) ≡ fed ++ take (at + n) part
 fed_head fed part at n =
     let same : at + n - at ≡ n = omega arith in
     append_assoc fed (take at part) _ ∙ ap (λ k. fed ++ (take at part ++ take k (drop at part))) same ∙ ap (λ t. fed ++ t) (sym (take-add at n part))
+
+-- a head among them
+pub head_later : (left at size : ℕ) (fed text part sent : List ℕ) → Reached 0 (fed ++ take at part) text
+    → BeginsFrame left (take (at + size - at) (drop at part)) sent → Reached left (fed ++ take (at + size) part) (text ++ sent)
+head_later left at size fed text part sent reached begins = subst (λ t. Reached left t (text ++ sent)) (fed_head fed part at size)
+    (reach_head left (fed ++ take at part) text (take (at + size - at) (drop at part)) sent reached begins)
 
 pub breaks_later : (start now : SinkSeen) (fed part : List ℕ) (at : ℕ) → BreaksOff start now (fed ++ take at part) (take (length part - at) (drop at part))
     → BreaksOff start now fed part

@@ -9,6 +9,14 @@ use crate::stretches::digests_of_lanes;
 use crate::together::from_here;
 use lanes::LANES;
 
+// Cuts that stand in a buffer.
+#[derive(Clone, Copy)]
+struct PlacedCuts<'a> {
+    buffer: &'a [u8],
+    starts: &'a [usize],
+    sizes: &'a [usize],
+}
+
 /// Writes two digests of each cut: that of its own bytes, and that of the cut filled up with zeros
 /// to the piece length. They are hashed one in each lane, and a last one that is left over by
 /// itself. Conditions: as for [`write_digests`](crate::together::write_digests), and there are as
@@ -36,26 +44,21 @@ pub(crate) fn write_both(
     ensures own_count { length own.new ≡ length own.old }
     ensures count { length digests.new ≡ length digests.old }
 {
+    let cuts = PlacedCuts {
+        buffer,
+        starts,
+        sizes,
+    };
     let turns = digests.len().div_ceil(LANES);
     'turns: for turn in 0..turns {
-        take_turn(
-            buffer,
-            piece_length,
-            starts,
-            sizes,
-            LANES * turn,
-            own,
-            digests,
-        );
+        take_turn(cuts, piece_length, LANES * turn, own, digests);
     }
 }
 
 // Writes the digests of the cuts from this one on, as many as there are lanes, or that are left.
 fn take_turn(
-    buffer: &[u8],
+    cuts: PlacedCuts<'_>,
     piece_length: usize,
-    starts: &[usize],
-    sizes: &[usize],
     from: usize,
     own: &mut [[u8; 20]],
     digests: &mut [[u8; 20]],
@@ -63,16 +66,19 @@ fn take_turn(
     requires whole_blocks { piece_length % 64 ≡ 0 }
     requires few { length digests.old ≤ 64 }
     requires own { length own.old ≡ length digests.old }
-    requires starts { length starts.now ≡ length digests.old }
-    requires sizes { length sizes.now ≡ length digests.old }
+    requires starts { length cuts.starts.now ≡ length digests.old }
+    requires sizes { length cuts.sizes.now ≡ length digests.old }
     requires inside { (i : ℕ) → i < length digests.old
-        → slice_index starts.now i + slice_index sizes.now i ≤ length buffer.now }
-    requires fit { (i : ℕ) → i < length digests.old → slice_index sizes.now i ≤ piece_length }
+        → slice_index cuts.starts.now i + slice_index cuts.sizes.now i ≤ length cuts.buffer.now }
+    requires fit { (i : ℕ) → i < length digests.old
+        → slice_index cuts.sizes.now i ≤ piece_length }
     requires some { from < length digests.old }
     ensures own { (j : ℕ) → j < LANES → from + j < length digests.old
-        → IsOwnDigest buffer.now starts.now sizes.now own.new (from + j) }
+        → IsOwnDigest cuts.entry.buffer.now cuts.entry.starts.now cuts.entry.sizes.now own.new
+        (from + j) }
     ensures digests { (j : ℕ) → j < LANES → from + j < length digests.old
-        → IsDigest buffer.now piece_length starts.now sizes.now digests.new (from + j) }
+        → IsDigest cuts.entry.buffer.now piece_length cuts.entry.starts.now
+        cuts.entry.sizes.now digests.new (from + j) }
     ensures own_kept { (i : ℕ) → i < from
         → slice_index_or own.new i [] ≡ slice_index_or own.old i [] }
     ensures kept { (i : ℕ) → i < from
@@ -80,6 +86,11 @@ fn take_turn(
     ensures own_count { length own.new ≡ length own.old }
     ensures count { length digests.new ≡ length digests.old }
 {
+    let PlacedCuts {
+        buffer,
+        starts,
+        sizes,
+    } = cuts;
     if digests.len() - from == 1 {
         let (plain, filled) = digests_alone(buffer, starts[from], sizes[from], piece_length);
         own[from] = plain;

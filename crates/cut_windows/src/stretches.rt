@@ -18,6 +18,14 @@ pub(crate) struct LaneDigests {
     pub(crate) filled: [[u8; 20]; LANES],
 }
 
+// Cuts in a buffer, one in each lane.
+#[derive(Clone, Copy)]
+struct CutsInLanes<'a> {
+    buffer: &'a [u8],
+    starts: &'a [usize; LANES],
+    sizes: &'a [usize; LANES],
+}
+
 /// The digests of the cuts of these sizes at these bytes of the buffer, one in each lane. `whole`
 /// is the piece length. Conditions: it is a multiple of 64, none of the sizes is greater, and the
 /// cuts stand in the buffer.
@@ -36,16 +44,21 @@ pub(crate) fn digests_of_lanes(
     ensures filled { (j : ℕ) → j < LANES
         → IsDigest buffer.now whole starts.now sizes.now result.filled j }
 {
+    let cuts = CutsInLanes {
+        buffer,
+        starts,
+        sizes,
+    };
     let mut batch = Batch::new();
     let mut own = [[0; 20]; LANES];
     let mut at = 0;
     'stretches: while at < whole {
-        write_ended(&batch, buffer, starts, sizes, whole, at, &mut own);
+        write_ended(&batch, cuts, whole, at, &mut own);
         let next = next_end(sizes, at, whole);
-        take_stretch(&mut batch, buffer, starts, sizes, whole, at, next);
+        take_stretch(&mut batch, cuts, whole, at, next);
         at = next;
     }
-    write_ended(&batch, buffer, starts, sizes, whole, at, &mut own);
+    write_ended(&batch, cuts, whole, at, &mut own);
     LaneDigests {
         own,
         filled: batch.finish(),
@@ -81,28 +94,21 @@ fn next_end(sizes: &[usize; LANES], at: usize, whole: usize) -> usize
 }
 
 // Takes the bytes from one place to another of each cut, filled up with zeros.
-fn take_stretch(
-    batch: &mut Batch,
-    buffer: &[u8],
-    starts: &[usize; LANES],
-    sizes: &[usize; LANES],
-    whole: usize,
-    from: usize,
-    to: usize,
-)
+fn take_stretch(batch: &mut Batch, cuts: CutsInLanes<'_>, whole: usize, from: usize, to: usize)
     requires begin { from % 64 ≡ 0 }
     requires end { to % 64 ≡ 0 }
     requires order { from ≤ to }
     requires within { to ≤ whole }
     requires inside { (j : ℕ) → j < LANES
-        → slice_index starts.now j + slice_index sizes.now j ≤ length buffer.now }
-    requires fit { (j : ℕ) → j < LANES → slice_index sizes.now j ≤ whole }
-    requires taken { HaveTaken batch.old buffer.now starts.now sizes.now whole from }
-    ensures { HaveTaken batch.new buffer.now starts.now sizes.now whole to }
+        → slice_index cuts.starts.now j + slice_index cuts.sizes.now j ≤ length cuts.buffer.now }
+    requires fit { (j : ℕ) → j < LANES → slice_index cuts.sizes.now j ≤ whole }
+    requires taken { HaveTaken batch.old cuts.buffer.now cuts.starts.now cuts.sizes.now whole from }
+    ensures { HaveTaken batch.new cuts.entry.buffer.now cuts.entry.starts.now
+        cuts.entry.sizes.now whole to }
 {
-    let part_starts = starts_from(starts, sizes, from);
-    let part_sizes = sizes_from(sizes, from, to - from);
-    batch.update(buffer, &part_starts, &part_sizes, to - from);
+    let part_starts = starts_from(cuts.starts, cuts.sizes, from);
+    let part_sizes = sizes_from(cuts.sizes, from, to - from);
+    batch.update(cuts.buffer, &part_starts, &part_sizes, to - from);
 }
 
 // Where the cuts go on from this byte of them.
@@ -134,19 +140,23 @@ fn sizes_from(sizes: &[usize; LANES], from: usize, most: usize) -> [usize; LANES
 // Writes the digests of the cuts whose whole blocks end here.
 fn write_ended(
     batch: &Batch,
-    buffer: &[u8],
-    starts: &[usize; LANES],
-    sizes: &[usize; LANES],
+    cuts: CutsInLanes<'_>,
     whole: usize,
     at: usize,
     own: &mut [[u8; 20]; LANES],
 )
     requires inside { (j : ℕ) → j < LANES
-        → slice_index starts.now j + slice_index sizes.now j ≤ length buffer.now }
-    requires taken { HaveTaken batch.now buffer.now starts.now sizes.now whole at }
-    requires before { HaveEnded buffer.now starts.now sizes.now own.old at }
-    ensures { HaveEnded buffer.now starts.now sizes.now own.new (at + 1) }
+        → slice_index cuts.starts.now j + slice_index cuts.sizes.now j ≤ length cuts.buffer.now }
+    requires taken { HaveTaken batch.now cuts.buffer.now cuts.starts.now cuts.sizes.now whole at }
+    requires before { HaveEnded cuts.buffer.now cuts.starts.now cuts.sizes.now own.old at }
+    ensures { HaveEnded cuts.entry.buffer.now cuts.entry.starts.now cuts.entry.sizes.now own.new
+        (at + 1) }
 {
+    let CutsInLanes {
+        buffer,
+        starts,
+        sizes,
+    } = cuts;
     'lanes: for j in 0..LANES {
         if end_of(sizes[j]) == at {
             own[j] = ended(batch, j, &buffer[starts[j]..starts[j] + sizes[j]], at);

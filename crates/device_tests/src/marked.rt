@@ -3,8 +3,8 @@ use crate::trial::sink;
 use crate::world::World;
 use benc::memory::MemSink;
 use folders::memory::MemShelf;
-use part_reports::{Kind, join_marked_reports, kind_of, print_marked_report};
-use parts::check_part_with_bad_pieces;
+use part_reports::{Kind, join_marked_reports, kind_of, say_marked_report};
+use parts::say_check_part_with_bad_pieces;
 use std::io;
 
 /// Checks the one part that has all places of a folder with bad pieces. Returns whether it answered
@@ -12,7 +12,7 @@ use std::io;
 pub(crate) fn checks_part(rt: &HostRuntime, world: &World<'_, '_>, out: &mut MemSink) -> bool {
     let files = world.damaged();
     let mut shelf = MemShelf::new(rt.alloc(), &files);
-    check_part_with_bad_pieces(rt.alloc(), world.torrent, &mut shelf, 0, 1, out).is_ok()
+    say_check_part_with_bad_pieces(rt.alloc(), world.torrent, &mut shelf, 0, 1, out).is_ok()
 }
 
 /// Joins the report of this one part, and prints what was joined. Returns whether it answered no
@@ -37,7 +37,7 @@ fn prints_join_of(
 ) -> bool {
     match join_marked_reports(rt.alloc(), world.torrent, texts) {
         Ok(joined) if kind_of(texts) == Kind::Marked => {
-            print_marked_report(&joined, world.torrent, out).is_ok()
+            say_marked_report(&joined, world.torrent, out).is_ok()
         }
         _ => false,
     }
@@ -51,7 +51,7 @@ pub(crate) fn unreadable(
     shelf: &mut MemShelf<'_>,
 ) -> io::Result<u64> {
     let mut out = sink(rt)?;
-    let checked = check_part_with_bad_pieces(rt.alloc(), world.torrent, shelf, 0, 1, &mut out);
+    let checked = say_check_part_with_bad_pieces(rt.alloc(), world.torrent, shelf, 0, 1, &mut out);
     let told = unreadable_lines(out.written());
     match checked {
         Ok(report) if crate::shelves::unreadable(&report) == told => Ok(told),

@@ -7,7 +7,7 @@ use folders::memory::{MemFile, MemShelf};
 use folders::{Report, print_report};
 use opening::Torrent;
 use part_reports::{JoinFault, join_reports};
-use parts::{Places, check, check_part, print_part};
+use parts::{Places, check, check_part, say_part};
 use std::{fs, io};
 
 /// The largest number of parts that is tried.
@@ -83,7 +83,7 @@ fn report_of(
     let mut shelf = MemShelf::new(rt.alloc(), files);
     let report = check_part(rt.alloc(), torrent, &mut shelf, places)?;
     let mut out = sink(rt)?;
-    let _ = print_part(&report, torrent, part, count, &mut out);
+    let _ = say_part(&report, torrent, part, count, &mut out);
     Ok(out)
 }
 

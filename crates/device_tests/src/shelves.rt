@@ -42,7 +42,7 @@ fn name(call: Call) -> &'static str {
     match call {
         Call::Check => "check",
         Call::CheckPart => "check_part",
-        Call::CheckMarked => "check_part_with_bad_pieces",
+        Call::CheckMarked => "say_check_part_with_bad_pieces",
         Call::Seed => "seed",
         Call::SeedOnto => "seed_onto",
         Call::Gather => "gather",

@@ -11,7 +11,7 @@ use filetree::{Key, Refusal};
 use folders::memory::MemShelf;
 use folders::{print_report, root_line};
 use gathering::gather;
-use parts::{Places, check, check_part, print_part};
+use parts::{Places, check, check_part, say_part};
 use printing::{Fault, fault_line, flush_after, write_escaped, write_line, write_path};
 use replays::replay;
 use seeding::seed;
@@ -36,9 +36,9 @@ enum Call {
     FaultLine,
     PrintReport,
     SayCheck,
-    PrintPart,
+    SayPart,
     CheckMarked,
-    PrintMarked,
+    SayMarked,
     Seed,
     SeedOnto,
     ReplayReport,
@@ -64,9 +64,9 @@ const CALLS: [Call; 25] = [
     Call::FaultLine,
     Call::PrintReport,
     Call::SayCheck,
-    Call::PrintPart,
+    Call::SayPart,
     Call::CheckMarked,
-    Call::PrintMarked,
+    Call::SayMarked,
     Call::Seed,
     Call::SeedOnto,
     Call::ReplayReport,
@@ -93,9 +93,9 @@ fn name(call: Call) -> &'static str {
         Call::FaultLine => "fault_line",
         Call::PrintReport => "print_report",
         Call::SayCheck => "say_check_with_bad_pieces",
-        Call::PrintPart => "print_part",
-        Call::CheckMarked => "check_part_with_bad_pieces",
-        Call::PrintMarked => "print_marked_report",
+        Call::SayPart => "say_part",
+        Call::CheckMarked => "say_check_part_with_bad_pieces",
+        Call::SayMarked => "say_marked_report",
         Call::Seed => "seed",
         Call::SeedOnto => "seed_onto",
         Call::ReplayReport => "replay",
@@ -167,9 +167,9 @@ fn make(
         Call::Encode => Ok(make_encode(rt, world, out)),
         Call::PrintReport => make_report(rt, world, out),
         Call::SayCheck => Ok(objects::checks(rt, world, out)),
-        Call::PrintPart => make_part(rt, world, out),
+        Call::SayPart => make_part(rt, world, out),
         Call::CheckMarked => Ok(marked::checks_part(rt, world, out)),
-        Call::PrintMarked => marked::prints_joined(rt, world, out),
+        Call::SayMarked => marked::prints_joined(rt, world, out),
         Call::Seed => make_seed(rt, world, out),
         Call::SeedOnto => make_seed_onto(rt, world, out),
         Call::ReplayReport | Call::ReplayAnswers => make_replay(rt, world, call, out),
@@ -241,7 +241,7 @@ fn make_part(rt: &HostRuntime, world: &World<'_, '_>, out: &mut MemSink) -> io::
     let mut shelf = MemShelf::new(rt.alloc(), &files);
     let places = Places::of_part(world.torrent, 0, 1);
     let report = check_part(rt.alloc(), world.torrent, &mut shelf, places)?;
-    Ok(print_part(&report, world.torrent, 0, 1, out).is_ok())
+    Ok(say_part(&report, world.torrent, 0, 1, out).is_ok())
 }
 
 fn make_seed(rt: &HostRuntime, world: &World<'_, '_>, out: &mut MemSink) -> io::Result<bool> {

@@ -23,7 +23,7 @@ use Rattle.opening.specs.Trees.{pieces_in}
 use Rattle.drafts.specs.Adding.{IsGiven, IsWith, ReusesRoot, add_rows, with_layer}
 use Rattle.drafts.specs.DraftSeen.{AreRootsOf, Entries, HasRoot, IsDraftKept, KeepsRoot, kept_at, outline, outline_file, outline_layers}
 use Rattle.drafts.specs.Orders.{IsPlaceOf}
-use Rattle.drafts.specs.Outline.{Outline, OutlineFile, listed_file}
+use Rattle.drafts.specs.Outline.{Outline, OutlineFile, OutlineLayer, listed_file}
 use Rattle.drafts.specs.declared.draft.DraftFile.{DraftFile}
 use Rattle.drafts.specs.declared.draft.KeptRoot.{KeptRoot}
 use Rattle.drafts.proofs.Adding.{add_keeps, equal_or_not}
@@ -54,6 +54,13 @@ front p r hs (e ∷ es) below =
 below_more : (r : List ℕ) (e : List ℕ × KeptRoot) (es : Entries) → Ascend (e ∷ es) → slice_cmp nat_cmp r e.0 ≡ Less → IsBelow r (e ∷ es)
 below_more r e es order less = (less, lower r e.0 (keys_of es) less (sorted_head (slice_cmp nat_cmp) e.0 (keys_of es) order))
 
+-- what goes behind a layer, if there is one, whose root is less
+behind : (r : List ℕ) (hs : List (List ℕ)) (tall long : Bool) (x : OutlineLayer) (xs ys : List OutlineLayer) → slice_cmp nat_cmp r x.root ≡ Greater
+    → ys ≡ cond long (with_layer r hs xs) xs → cond tall (x ∷ ys) ys ≡ cond long (with_layer r hs (cond tall (x ∷ xs) xs)) (cond tall (x ∷ xs) xs)
+behind r hs true true x xs ys greater is = rw greater (ap (λ zs. x ∷ zs) is)
+behind r hs true false x xs ys greater is = ap (λ zs. x ∷ zs) is
+behind r hs false long x xs ys greater is = is
+
 -- a new root adds its layer, if it has one
 pub layers_inserted : (p : ℕ) (r : List ℕ) (k : KeptRoot) (es : Entries) → Ascend es → kept_at r es ≡ None
     → outline_layers p (insert_entry (slice_cmp nat_cmp) es r k) ≡ cond (nat_lt p k.length) (with_layer r k.layer.items (outline_layers p es))
@@ -66,29 +73,18 @@ layers_inserted p r k (e ∷ es) order none =
         | inr short ↦ rw less (rw short refl)
       ]
       | inr more ↦ elim more [
-        | inl same ↦ absurd (none-some e.1 (sym none ∙ found e same))
-        | inr greater ↦ behind greater (layers_inserted p r k es (sorted_tail (slice_cmp nat_cmp) e.0 (keys_of es) order) (sym (passed e greater) ∙ none))
+        | inl same ↦ absurd (none-some e.1 (sym none ∙ found same))
+        | inr greater ↦ rw greater (behind r k.layer.items (nat_lt p e.1.length) (nat_lt p k.length) (new e.0 e.1.layer.items) (outline_layers p es)
+            (outline_layers p (insert_entry (slice_cmp nat_cmp) es r k)) greater
+            (layers_inserted p r k es (sorted_tail (slice_cmp nat_cmp) e.0 (keys_of es) order) (sym (passed greater) ∙ none)))
       ]
     ]
   where
-    found : (e : List ℕ × KeptRoot) → slice_cmp nat_cmp r e.0 ≡ Equal → kept_at r (e ∷ es) ≡ Some e.1
-    found e same = rw same refl
+    found : slice_cmp nat_cmp r e.0 ≡ Equal → kept_at r (e ∷ es) ≡ Some e.1
+    found same = rw same refl
 
-    passed : (e : List ℕ × KeptRoot) → slice_cmp nat_cmp r e.0 ≡ Greater → kept_at r (e ∷ es) ≡ kept_at r es
-    passed e greater = rw greater refl
-
-    behind : slice_cmp nat_cmp r e.0 ≡ Greater
-        → outline_layers p (insert_entry (slice_cmp nat_cmp) es r k) ≡ cond (nat_lt p k.length) (with_layer r k.layer.items (outline_layers p es))
-        (outline_layers p es)
-        → outline_layers p (insert_entry (slice_cmp nat_cmp) (e ∷ es) r k) ≡ cond (nat_lt p k.length) (with_layer r k.layer.items (outline_layers p (e ∷ es)))
-        (outline_layers p (e ∷ es))
-    behind greater rest = elim (true_or_false (nat_lt p e.1.length)) [
-      | inl tall ↦ elim (true_or_false (nat_lt p k.length)) [
-        | inl long ↦ rw greater (rw tall (rw long (rw greater (ap (λ xs. new e.0 e.1.layer.items ∷ xs) (rw long at rest)))))
-        | inr short ↦ rw greater (rw tall (rw short (ap (λ xs. new e.0 e.1.layer.items ∷ xs) (rw short at rest))))
-      ]
-      | inr small ↦ rw greater (rw small rest)
-    ]
+    passed : slice_cmp nat_cmp r e.0 ≡ Greater → kept_at r (e ∷ es) ≡ kept_at r es
+    passed greater = rw greater refl
 
 -- a root that has a layer keeps it
 pub layers_kept : (p : ℕ) (r : List ℕ) (hs : List (List ℕ)) (k : KeptRoot) (es : Entries) → Ascend es → kept_at r es ≡ Some k → nat_lt p k.length ≡ true
@@ -103,11 +99,8 @@ layers_kept p r hs k (e ∷ es) order at long =
             let tall : nat_lt p e.1.length ≡ true = ap (λ (x : KeptRoot). nat_lt p x.length) one ∙ long in
             rw tall (rw same refl)
         | inr greater ↦
-            let rest = layers_kept p r hs k es (sorted_tail (slice_cmp nat_cmp) e.0 (keys_of es) order) (rw greater at at) long in
-            elim (true_or_false (nat_lt p e.1.length)) [
-              | inl tall ↦ rw tall (rw greater (ap (λ xs. new e.0 e.1.layer.items ∷ xs) rest))
-              | inr small ↦ rw small rest
-            ]
+            sym (behind r hs (nat_lt p e.1.length) true (new e.0 e.1.layer.items) (outline_layers p es) (outline_layers p es) greater
+            (sym (layers_kept p r hs k es (sorted_tail (slice_cmp nat_cmp) e.0 (keys_of es) order) (rw greater at at) long)))
       ]
     ]
 

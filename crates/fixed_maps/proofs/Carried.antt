@@ -1,11 +1,11 @@
 -- An entry that goes on to the next tier.
-use Rattle.std.proofs.Common.{◌≡◌, ℕ, zero, suc, ◌+◌, ◌-◌, ◌<◌, ◌≤◌, ◌++◌, List, [], ◌∷◌, length, take, drop, set, get_or, Option, Some, None, refl, sym}
-use Rattle.std.proofs.Common.{ap, ap₂, ◌∙◌, subst, arith, append_assoc, length-append}
+use Rattle.std.proofs.Common.{◌≡◌, ℕ, zero, suc, ◌+◌, ◌<◌, ◌++◌, List, [], ◌∷◌, length, take, drop, set, get_or, Option, refl, sym}
+use Rattle.std.proofs.Common.{ap, ap₂, ◌∙◌, arith, append_assoc, length-append}
 use Rattle.std.specs.List.{insert, remove}
 use Rattle.std.specs.Option.{option_to_list}
-use Rattle.std.proofs.lemmas.List.{append-nil, drop_all, take_all, drop_more, take_more, take_more_set, take-set, drop-set, drop-set-lt, flat_map_more}
-use Rattle.std.proofs.lemmas.List.{get_or_default, take-append-drop}
-use Rattle.fixed_maps.proofs.Spots.{flat-split}
+use Rattle.std.proofs.lemmas.List.{drop_more, take_more, take_more_set, take-set, drop-set, drop-set-lt, flat_map_more}
+use Rattle.std.proofs.lemmas.List.{get_or_default}
+use Rattle.fixed_maps.proofs.Spots.{parted}
 use Rattle.fixed_maps.specs.Tiers.{Entry, TierSeen, flat, room_of, capacity_of, items_at, before_spot, after_spot, after_spot_but_one}
 
 pub flat-parts : (n : ℕ) (ts : List TierSeen) → flat (take n ts) ++ flat (drop n ts) ≡ flat ts
@@ -116,9 +116,4 @@ one-more xs P S e last is =
     omega (arith, left, right, same)
 
 pub parted-length : (ts : List TierSeen) (a b : ℕ) → a < length ts → length (flat ts) ≡ length (before_spot ts a b) + length (after_spot ts a b)
-parted-length ts a b lt =
-    let whole : flat ts ≡ before_spot ts a b ++ after_spot ts a b = flat-split ts a lt
-    ∙ ap (λ es. flat (take a ts) ++ (es ++ flat (drop (suc a) ts))) (sym (take-append-drop b (items_at ts a)))
-    ∙ ap (λ es. flat (take a ts) ++ es) (append_assoc (take b (items_at ts a)) (drop b (items_at ts a)) _)
-    ∙ sym (append_assoc (flat (take a ts)) (take b (items_at ts a)) _) in
-    ap length whole ∙ length-append (before_spot ts a b) (after_spot ts a b)
+parted-length ts a b lt = ap length (parted ts a b lt) ∙ length-append (before_spot ts a b) (after_spot ts a b)

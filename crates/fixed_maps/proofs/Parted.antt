@@ -1,13 +1,13 @@
 -- Entries whose keys rise, parted at the place of a key.
-use Rattle.std.proofs.Common.{◌≡◌, ◌≢◌, ℕ, zero, suc, ◌+◌, ◌<◌, ◌≤◌, ◌++◌, Bool, true, false, cond, T, List, [], ◌∷◌, length, Option, Some, None, IfSome}
+use Rattle.std.proofs.Common.{◌≡◌, ℕ, ◌<◌, ◌++◌, Bool, true, false, cond, T, List, [], ◌∷◌, Option, Some, None, IfSome}
 use Rattle.std.proofs.Common.{IfNone, refl, sym, ap, ◌∙◌, subst, arith, Less}
 use Rattle.std.specs.Ordering.{eq_by_cmp, is_lt, is_eq, nat_cmp, ordering_then, ordering_reverse}
 use Rattle.std.specs.Cmp.{eq_by_cmp_equiv, ranked, tied_itself}
 use Rattle.std.specs.declared.cmp.Ordering.{Ordering}
 use Rattle.std.specs.declared.cmp.Ordering.TheVariants.{Equal, Greater}
-use Rattle.std.specs.FinMap.{FinMap, from_sorted, entries, get, insert, remove, len, get-from_sorted, entries-from_sorted, entries-insert, get-remove}
+use Rattle.std.specs.FinMap.{FinMap, from_sorted, get, insert, remove, get-from_sorted, entries-from_sorted, entries-insert, get-remove}
 use Rattle.std.specs.FinMap.{same_map, same_entries_map}
-use Rattle.std.specs.FinMap.Entries.{find, put, by_order, below_all, is_sorted, is_sorted-put}
+use Rattle.std.specs.FinMap.Entries.{find, put, by_order, below_all, is_sorted-put}
 use Rattle.std.proofs.lemmas.Bool.{false≢true}
 use Rattle.std.proofs.lemmas.Option.{none-some}
 use Rattle.std.proofs.lemmas.Map.Views.{tells_apart}
@@ -15,7 +15,7 @@ use Rattle.node_maps.specs.Known.{place_cmp}
 use Rattle.node_maps.proofs.Known.{place_total, place_exact}
 use Rattle.fixed_maps.specs.Tiers.{Entry, AreBelow, AreFrom, AreRising}
 use Rattle.fixed_maps.proofs.Rising.{first-holds, second-holds, both-hold, less}
-use Rattle.fixed_maps.proofs.Spots.{rising-left, rising-right}
+use Rattle.fixed_maps.proofs.Spots.{rising-right}
 
 -- ---- keys
 

@@ -1,10 +1,10 @@
 -- The place of a key in tiers.
-use Rattle.std.proofs.Common.{◌≡◌, ◌⊎◌, inl, inr, ℕ, zero, suc, ◌+◌, ◌<◌, ◌≤◌, ◌++◌, T, List, [], ◌∷◌, length, take, drop, get_or, refl, sym, ap, ◌∙◌}
+use Rattle.std.proofs.Common.{◌≡◌, ◌⊎◌, inl, inr, ℕ, zero, suc, ◌<◌, ◌≤◌, ◌++◌, T, List, [], ◌∷◌, length, take, drop, get_or, refl, sym, ap, ◌∙◌}
 use Rattle.std.proofs.Common.{subst, arith, append_assoc}
 use Rattle.std.specs.FinMap.Entries.{below_all}
 use Rattle.std.proofs.lemmas.List.{append-nil, drop_all, get_or_default, length-drop, take-append-drop}
 use Rattle.node_maps.specs.Known.{place_cmp}
-use Rattle.fixed_maps.specs.Tiers.{Entry, TierSeen, AreBelow, AreFrom, AreRising, IsPlaceOfKey, IsSpotOf, flat, items_at}
+use Rattle.fixed_maps.specs.Tiers.{Entry, TierSeen, AreBelow, AreFrom, AreRising, IsPlaceOfKey, IsSpotOf, flat, items_at, before_spot, after_spot}
 use Rattle.fixed_maps.proofs.Rising.{first-holds, second-holds, both-hold, from-head}
 
 -- ---- lists of entries
@@ -35,6 +35,13 @@ pub flat-split : (ts : List TierSeen) (a : ℕ) → a < length ts → flat ts �
 flat-split [] a lt = absurd (omega (arith, lt))
 flat-split (t ∷ ts) zero lt = refl
 flat-split (t ∷ ts) (suc a) lt = ap (λ es. t.items ++ es) (flat-split ts a (omega (arith, lt))) ∙ sym (append_assoc t.items (flat (take a ts)) _)
+
+-- what stands before a spot, and what stands from it on
+pub parted : (ts : List TierSeen) (a b : ℕ) → a < length ts → flat ts ≡ before_spot ts a b ++ after_spot ts a b
+parted ts a b lt = flat-split ts a lt
+    ∙ ap (λ es. flat (take a ts) ++ (es ++ flat (drop (suc a) ts))) (sym (take-append-drop b (items_at ts a)))
+    ∙ ap (λ es. flat (take a ts) ++ es) (append_assoc (take b (items_at ts a)) (drop b (items_at ts a)) _)
+    ∙ sym (append_assoc (flat (take a ts)) (take b (items_at ts a)) (after_spot ts a b))
 
 pub read-items : (ts : List TierSeen) (a : ℕ) (t : TierSeen) → a < length ts → t ≡ get_or ts a t → t.items ≡ items_at ts a
 read-items ts a t lt is = ap (λ (s : TierSeen). s.items) (is ∙ get_or_default ts a t (record { items = []; width = 0; capacity = 0 }) lt)

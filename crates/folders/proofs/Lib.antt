@@ -11,5 +11,5 @@ pub mod Reports
 pub mod Layers
 pub mod Pieces
 pub mod SentLines
-pub mod AsTexts
 pub mod RowFeeding
+pub mod TakenParts

@@ -6,6 +6,12 @@ use Rattle.pieces.specs.declared.v1_feed.V1Feed.{V1Feed}
 use Rattle.pieces.specs.Cuts.{IsComparison, cut_digests}
 use Rattle.folders.specs.CutFeeds.{AreCutsJudged, IsCutVerdict, TakesCuts}
 use Rattle.hashtree.specs.Judging.{IsJudgedRow}
+use Rattle.hashtree.specs.PieceCheck.{IsFedRow, chosen_layer, given_hashes}
+use Rattle.hashtree.specs.Tree.{root_of}
+use Rattle.piece_marks.specs.Marks.{AreMarkedWhole}
+use Rattle.folders.specs.RowFeeds.{FeedsBits, IsFreshFeed}
+use Rattle.folders.specs.Rows.{EndsEarly, EndsRow}
+use Rattle.folders.specs.declared.row_feed.RowFeed.{RowFeed}
 
 -- ---- what was written to a vector's bytes
 
@@ -15,12 +21,26 @@ written len good items size all =
     ∙ ap (take len) (append-nil good)
     ∙ take_all len good (omega (arith, size))
 
--- a judgement of the check's row is one of the row that it began with
-pub judged_as : (layer own_layer : ℕ) (hashes own_hashes : List (List ℕ)) (bytes good bits : List ℕ) (other : Option ℕ) → layer ≡ own_layer
-    → hashes ≡ own_hashes → good ≡ bits → IsJudgedRow layer hashes bytes good other → IsJudgedRow own_layer own_hashes bytes bits other
-judged_as layer own_layer hashes own_hashes bytes good bits other l h b judged =
-    subst (λ t. IsJudgedRow own_layer own_hashes bytes t other) b
-    (subst (λ t. IsJudgedRow own_layer t bytes good other) h (subst (λ t. IsJudgedRow t hashes bytes good other) l judged))
+-- ---- a row that was given these bytes, from its beginning
+
+fed_whole : {f after : RowFeed} {own : List ℕ} → IsFreshFeed f → FeedsBits f own after → IsFedRow after.check after.bits.items own
+fed_whole {f} fresh fed = fed.row.fed [] (fresh.fed f.bits.items fresh.clear)
+
+pub judged_row : {f after : RowFeed} {own root good : List ℕ} {other : Option ℕ} → IsFreshFeed f → FeedsBits f own after
+    → EndsRow after.check after.bits.items root other good
+    → (root ≡ root_of own) × IsJudgedRow (chosen_layer f.check) (given_hashes f.check) own good other
+judged_row {f} {after} {own} {root} {good} {other} fresh fed ends =
+    let is = ends.found own (fed_whole fresh fed) in (
+      is.0,
+      subst (λ l. IsJudgedRow l (given_hashes f.check) own good other) fed.row.layer
+          (subst (λ h. IsJudgedRow (chosen_layer after.check) h own good other) fed.row.hashes is.1),
+    )
+
+pub marked_early : {f after : RowFeed} {own good : List ℕ} → IsFreshFeed f → FeedsBits f own after → EndsEarly after.check after.bits.items good
+    → AreMarkedWhole good (given_hashes f.check) (chosen_layer f.check) own
+marked_early {f} {after} {own} {good} fresh fed ends =
+    subst (λ l. AreMarkedWhole good (given_hashes f.check) l own) fed.row.layer
+    (subst (λ h. AreMarkedWhole good h (chosen_layer after.check) own) fed.row.hashes (ends.found own (fed_whole fresh fed)))
 
 -- ---- the version 1 pieces
 

@@ -9,7 +9,6 @@ pub mod MemShelfSeeking
 pub mod Folder
 pub mod Verdicts
 pub mod Printed
-pub mod Said
 pub mod Stopping
 pub mod Visits
 pub mod SeekVisits
@@ -20,4 +19,5 @@ pub mod Exactly
 pub mod Rooms
 pub mod CutFeeds
 pub mod RowFeeds
+pub mod Rows
 pub mod RowFeedLaws

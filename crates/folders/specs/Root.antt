@@ -1,29 +1,18 @@
 -- The line that `root` prints.
-use Rattle.std.specs.Prelude.{◌≡◌, ◌↔◌, Bool, IsTrue, Result, Ok, Err, Some, None, ℕ, ◌+◌, ◌^◌, ◌≤◌, ◌++◌, List, [], ◌∷◌, length, nat_le}
-use Rattle.std.specs.Prelude.{if◌then◌else◌, codes, decimal}
+use Rattle.std.specs.Prelude.{◌≡◌, ◌↔◌, Bool, IsTrue, Result, Ok, Err, Some, None, ℕ, ◌+◌, ◌^◌, ◌≤◌, List, [], ◌∷◌, length, nat_le}
+use Rattle.std.specs.Prelude.{if◌then◌else◌}
 use Rattle.std.specs.Io.KnownBytes.{Keeps}
 use Rattle.benc.specs.Device.{BrokeOrUnflushed, SentAndFlushed, SinkSeen, SourceSeen, one_more}
-use Rattle.hex.specs.Hex.{encode_lower}
 use Rattle.hashtree.specs.Tree.{root_of}
 use Rattle.filetree.specs.declared.refusal.Refusal.TheVariants as refusals
 use Rattle.lines.specs.Rows.{Row, Spelling}
 use Rattle.lines.specs.Table.{refusal_row, root_row}
+use Rattle.lines.specs.Texts.{text_of}
 use Rattle.folders.specs.Verdicts.{Agrees}
 use Rattle.folders.specs.declared.root.RootFault.{RootFault}
 use Rattle.folders.specs.declared.root.RootFault.TheVariants as fault
 
--- the line of a file that is not empty: its length and the pieces root in hexadecimal
-abbrev pub content_line : List ℕ → List ℕ
-content_line file = decimal (length file) ++ codes " " ++ encode_lower (root_of file) ++ codes "\n"
-
--- the line of a file
-unfoldable pub root_line_of : List ℕ → List ℕ
-root_line_of [] = codes "0 -\n"
-root_line_of (b ∷ bs) =
-    (if nat_le (length (b ∷ bs)) (2 ^ 46) then content_line (b ∷ bs)
-    else codes "refused 10 Length\n")
-
--- the line of a file as a row of the table
+-- the line of a file: its length and its pieces root, or that it is too long
 unfoldable pub root_row_of : List ℕ → Row
 root_row_of [] = root_row 0 None
 root_row_of (b ∷ bs) =
@@ -33,6 +22,10 @@ root_row_of (b ∷ bs) =
 -- the line of a file as lines are spelled
 abbrev pub root_line_as : Spelling → List ℕ → List ℕ
 root_line_as spelled file = spelled (root_row_of file)
+
+-- that line as it is printed
+abbrev pub root_line_of : List ℕ → List ℕ
+root_line_of file = root_line_as text_of file
 
 -- neither device failed, or the one that is blamed did, once; if the source did, nothing was
 -- written or flushed

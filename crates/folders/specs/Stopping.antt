@@ -2,9 +2,10 @@
 use Rattle.std.specs.Prelude.{◌≡◌, ◌⊎◌, ℕ, ◌<◌, List, length, slice_get, take, Option, Some}
 use Rattle.benc.specs.Device.{Broke, BrokeOrUnflushed, SinkSeen, SourceSeen}
 use Rattle.chains.specs.Chain.{Chain}
+use Rattle.lines.specs.Rows.{Spelling, spell}
 use Rattle.opening.specs.Description.{Description, FileEntry}
 use Rattle.folders.specs.Folder.{Contents}
-use Rattle.folders.specs.Printed.{Wording, in_text, report_as, verdicts_as}
+use Rattle.folders.specs.Printed.{report_rows, verdicts_rows}
 use Rattle.folders.specs.Shelf.{more}
 use Rattle.folders.specs.Verdicts.{Agrees, AreVerdicts, HasVerdicts, IsTrueOfFolder, unreadable_count}
 use Rattle.folders.specs.Visits.{Visits}
@@ -23,11 +24,11 @@ pub record AreTrueOfFirst (t : Description) (under : List (List ℕ) → Option 
   pub each : AreVerdicts t contents files
 
 -- the report on all files broke off at its end, or was not flushed
-abbrev pub BreaksAtEnd : Wording → Description → (List (List ℕ) → Option (Option (List ℕ))) → Lines
-    → List FileVerdict → SinkSeen → SinkSeen → Type 0
-BreaksAtEnd words t under lines files out out' = (v1 : Option V1Verdict) × HasVerdicts t files v1
-    × IsTrueOfFolder t under files v1
-    × BrokeOrUnflushed out out' (report_as words lines t.files files v1)
+abbrev pub BreaksAtEnd : Spelling → Description → (List (List ℕ) → Option (Option (List ℕ)))
+    → Lines → List FileVerdict → SinkSeen → SinkSeen → Type 0
+BreaksAtEnd spelled t under lines files out out' =
+    (v1 : Option V1Verdict) × HasVerdicts t files v1 × IsTrueOfFolder t under files v1
+    × BrokeOrUnflushed out out' (spell spelled (report_rows lines t.files files v1))
 
 module _ {S F : Type 0} (shelf : Ghosts S F) (seen : F → SourceSeen) where
   -- the first files of a torrent were visited, each once and in order, for these verdicts, which
@@ -38,16 +39,11 @@ module _ {S F : Type 0} (shelf : Ghosts S F) (seen : F → SourceSeen) where
       pub counted : shelf.faults s' ≡ more (shelf.faults s) (unreadable_count files)
       pub are_true : AreTrueOfFirst t (shelf.contents s).under files
 
-  -- some first files were visited, and the lines of their verdicts, worded so, broke off, no later
+  -- some first files were visited, and the lines of their verdicts, spelled so, broke off, no later
   -- file was visited; or all were, and the report broke off at its end
-  pub record BreaksOffAs (words : Wording) (t : Description) (s : S) (lines : Lines)
+  pub record BreaksOffAs (spelled : Spelling) (t : Description) (s : S) (lines : Lines)
       (out out' : SinkSeen) (s' : S) : Type 0 where
     pub files : List FileVerdict
     pub visits : VisitsFirst t s files s'
-    pub broke : Broke out out' (verdicts_as words lines files t.files)
-        ⊎ BreaksAtEnd words t (shelf.contents s).under lines files out out'
-
-  -- some first files were visited, and the lines of their verdicts broke off, no later file was
-  -- visited; or all were, and the report broke off at its end
-  abbrev pub BreaksOff : Description → S → Lines → SinkSeen → SinkSeen → S → Type 0
-  BreaksOff t s lines out out' s' = BreaksOffAs in_text t s lines out out' s'
+    pub broke : Broke out out' (spell spelled (verdicts_rows lines files t.files))
+        ⊎ BreaksAtEnd spelled t (shelf.contents s).under lines files out out'

@@ -24,7 +24,7 @@ pub use report_lines::{
     strip_version1,
 };
 pub use room::{RoomReader, room_for_files};
-pub use root::{RootFault, root_line, root_line_onto, root_line_through};
+pub use root::{RootFault, root_line, root_line_onto};
 pub use row_feed::{Cuts, RowFeed, RowFound};
 pub use shelf::{SeekShelf, Shelf};
 pub use shelf_fault::ShelfFault;

@@ -2,10 +2,11 @@
 //! front of a text.
 ghost use Rattle.std.specs.Prelude.{◌≡◌, length, is_some, map, ◌++◌, MatchOption};
 ghost use Rattle.benc.specs.Device.{WroteAndFlushed, Wrote};
-ghost use Rattle.folders.specs.Printed.{is_wanted, report_text, end_as, hybrid_line, report_as, stream_as, verdicts_as, wanted_as, file_verdict_text, stream_words};
-ghost use Rattle.folders.specs.Said.{answer_row, verdict_row, worded, version1_row};
+ghost use Rattle.folders.specs.Printed.{answer_row, end_rows, version1_rows, is_wanted, report_rows, report_text, stream_rows, verdict_row, verdicts_rows, version1_row, wanted_rows};
 ghost use Rattle.lines.specs.Reading.{BeginsWith};
+ghost use Rattle.lines.specs.Rows.{spell};
 ghost use Rattle.lines.specs.Table.{row_of};
+ghost use Rattle.lines.specs.Texts.{text_of};
 ghost use Rattle.opening.specs.Description.{FileEntry};
 ghost use Rattle.opening.specs.Seen.{file_entry};
 
@@ -61,8 +62,8 @@ pub fn say_report<L: LineSink>(
 ) -> Result<(), WriteFault>
     requires files { length report.now.files.items ≡ length torrent.now.files }
     requires hybrid { is_some report.now.v1 ≡ is_some torrent.now.v1 }
-    ensures { WroteAndFlushed (L.seen out.old) (L.seen out.new) result (report_as
-        (worded L.spelled) Lines.All torrent.now.files report.now.files.items report.now.v1) }
+    ensures { WroteAndFlushed (L.seen out.old) (L.seen out.new) result (spell L.spelled
+        (report_rows Lines.All torrent.now.files report.now.files.items report.now.v1)) }
 {
     let said = say_all(report, torrent.files(), out);
     finish_after(out, said)
@@ -70,8 +71,8 @@ pub fn say_report<L: LineSink>(
 
 fn say_all<L: LineSink>(report: &Report, files: &[File<'_>], out: &mut L) -> Result<(), DeviceFault>
     requires { length report.now.files.items ≡ length files.now }
-    ensures { Wrote (L.seen out.old) (L.seen out.new) result (report_as (worded L.spelled)
-        Lines.All (map file_entry files.now) report.now.files.items report.now.v1) }
+    ensures { Wrote (L.seen out.old) (L.seen out.new) result (spell L.spelled
+        (report_rows Lines.All (map file_entry files.now) report.now.files.items report.now.v1)) }
 {
     say_verdicts(&report.files, files, out)?;
     say_end(report, Lines::All, out)
@@ -81,7 +82,7 @@ fn say_all<L: LineSink>(report: &Report, files: &[File<'_>], out: &mut L) -> Res
 /// is wanted, and `yes` or `no`. After a fault a prefix of it went out.
 pub fn say_end<L: LineSink>(report: &Report, lines: Lines, out: &mut L) -> Result<(), DeviceFault>
     ensures { Wrote (L.seen out.old) (L.seen out.new) result
-        (end_as (worded L.spelled) lines report.now.files.items report.now.v1) }
+        (spell L.spelled (end_rows lines report.now.files.items report.now.v1)) }
 {
     say_stream(lines, &report.v1, out)?;
     say_answer(report.yes(), out)
@@ -94,7 +95,7 @@ fn say_verdicts<L: LineSink>(
 ) -> Result<(), DeviceFault>
     requires { length verdicts.now ≡ length files.now }
     ensures { Wrote (L.seen out.old) (L.seen out.new) result
-        (verdicts_as (worded L.spelled) Lines.All verdicts.now (map file_entry files.now)) }
+        (spell L.spelled (verdicts_rows Lines.All verdicts.now (map file_entry files.now))) }
 {
     'files: for i in 0..files.len() {
         say_verdict(verdicts[i], &files[i], out)?;
@@ -110,7 +111,7 @@ pub fn say_wanted<L: LineSink>(
     out: &mut L,
 ) -> Result<(), DeviceFault>
     ensures { Wrote (L.seen out.old) (L.seen out.new) result
-        (wanted_as (worded L.spelled) lines verdict (file_entry file.now)) }
+        (spell L.spelled (wanted_rows lines verdict (file_entry file.now))) }
 {
     if lines.include(verdict.is_good()) {
         say_verdict(verdict, file, out)
@@ -138,7 +139,7 @@ fn say_stream<L: LineSink>(
     out: &mut L,
 ) -> Result<(), DeviceFault>
     ensures { Wrote (L.seen out.old) (L.seen out.new) result
-        (stream_as (worded L.spelled) lines v1.now) }
+        (spell L.spelled (stream_rows lines v1.now)) }
 {
     if lines.include(stream_is_good(v1)) {
         say_version1(v1, out)
@@ -150,7 +151,7 @@ fn say_stream<L: LineSink>(
 /// Says the line of the version 1 pieces, if there is one. After a fault a prefix of it went out.
 pub fn say_version1<L: LineSink>(v1: &Option<V1Verdict>, out: &mut L) -> Result<(), DeviceFault>
     ensures { Wrote (L.seen out.old) (L.seen out.new) result
-        (hybrid_line (worded L.spelled).version1 v1.now) }
+        (spell L.spelled (version1_rows v1.now)) }
 {
     match v1 {
         None => Ok(()),
@@ -196,7 +197,7 @@ fn version1_line(verdict: V1Verdict) -> Line<'static>
 /// What stands behind the line of a file with this verdict, if a text begins with the line. It
 /// takes no memory.
 pub fn strip_verdict<'a>(verdict: FileVerdict, file: &File<'_>, text: &'a [u8]) -> Option<&'a [u8]>
-    ensures { let line = file_verdict_text verdict (file_entry file.now) in
+    ensures { let line = text_of (verdict_row verdict (file_entry file.now)) in
         MatchOption result (BeginsWith line text.now → ⊥) (λ rest. text.now ≡ line ++ rest.now) }
 {
     strip_line(&verdict_line(verdict, &file.path.parts()), text)
@@ -205,7 +206,7 @@ pub fn strip_verdict<'a>(verdict: FileVerdict, file: &File<'_>, text: &'a [u8]) 
 /// What stands behind the line of the version 1 pieces, if a text begins with it; all of the text,
 /// if there is no such line. It takes no memory.
 pub fn strip_version1<'a>(v1: &Option<V1Verdict>, text: &'a [u8]) -> Option<&'a [u8]>
-    ensures { let line = stream_words v1.now in
+    ensures { let line = spell text_of (version1_rows v1.now) in
         MatchOption result (BeginsWith line text.now → ⊥) (λ rest. text.now ≡ line ++ rest.now) }
 {
     match v1 {

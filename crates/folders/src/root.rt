@@ -53,27 +53,11 @@ pub fn root_line<R: Source, W: Sink>(source: &mut R, out: &mut W) -> Result<bool
         (W.seen out.old) (W.seen out.new) result }
 {
     let mut buffer = [0u8; BUFFER_LENGTH];
-    root_line_through(source, &mut buffer, out)
+    root_line_onto(source, &mut buffer, out)
 }
 
-/// Does what `root_line` does, through a buffer of the caller's. Condition: it is not empty. With
-/// room for eight blocks they are hashed side by side.
-pub fn root_line_through<R: Source, W: Sink>(
-    source: &mut R,
-    buffer: &mut [u8],
-    out: &mut W,
-) -> Result<bool, RootFault>
-    requires { 0 < length buffer.old }
-    ensures ends { EndsRootLine root_line_of (R.seen source.old) (R.seen source.new)
-        (W.seen out.old) (W.seen out.new) result }
-    ensures no_further { IsReadWithin (2 ^ 46 + 1) (R.seen source.old) (R.seen source.new) }
-    ensures faults { Blames (R.seen source.old) (R.seen source.new)
-        (W.seen out.old) (W.seen out.new) result }
-{
-    root_line_onto(source, buffer, out)
-}
-
-/// Does what `root_line_through` does, onto what takes lines.
+/// Does what `root_line` does, onto anything that takes lines, and through a buffer of the
+/// caller's. Condition: it is not empty. With room for eight blocks they are hashed side by side.
 pub fn root_line_onto<R: Source, L: LineSink>(
     source: &mut R,
     buffer: &mut [u8],

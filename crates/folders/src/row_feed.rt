@@ -1,10 +1,11 @@
 //! A row of pieces of one file, read from a source and judged, with its version 1 pieces.
-ghost use Rattle.std.specs.Prelude.{◌≡◌, ◌+◌, ◌<◌, length, IfOk, OnErr, [], is_some, IfSome};
+ghost use Rattle.std.specs.Prelude.{◌≡◌, ◌+◌, ◌<◌, ◌≤◌, length, IfOk, OnErr, [], is_some, IfSome};
 ghost use Rattle.std.specs.Vec.{vec_capacity};
 ghost use Rattle.benc.specs.Device.{CountsFault};
 ghost use Rattle.folders.specs.CutFeeds.{IsFeedVerdict};
+ghost use Rattle.folders.specs.Rows.{EndsEarly, EndsRow};
 ghost use Rattle.folders.specs.TakeAll.{IsReadWithin};
-ghost use Rattle.hashtree.specs.PieceCheck.{chosen_layer, chosen_shape};
+ghost use Rattle.hashtree.specs.PieceCheck.{check_byte_count, chosen_layer, chosen_shape};
 
 use crate::taking::{Consumer, take_exactly};
 use benc::{DeviceFault, Source};
@@ -142,7 +143,7 @@ impl<'t> RowFeed<'t> {
         ensures counts { CountsFault (F.seen source.old).faults (F.seen source.new).faults result }
     {
         if take_exactly(source, size, buffer, self)? {
-            let (_, root, other) = self.check.finish_marking(&mut self.bits);
+            let (root, other) = end_row(&mut self.check, &mut self.bits);
             let bad_cut = self.cuts.finish();
             return Ok(Some(RowFound {
                 root,
@@ -150,9 +151,30 @@ impl<'t> RowFeed<'t> {
                 bad_cut,
             }));
         }
-        if ends_with_piece(self.check.len(), layer) {
-            let _found = self.check.finish_marking(&mut self.bits);
-        }
+        end_early(&mut self.check, &mut self.bits, layer);
         Ok(None)
+    }
+}
+
+// Ends the check of a row: its root, and the first place whose node is not its hash.
+fn end_row(check: &mut PieceCheck<'_>, bits: &mut Vec<u8>) -> (Hash, Option<u64>)
+    requires some { 0 < check_byte_count check.old }
+    requires within { check_byte_count check.old ≤ chosen_shape check.old }
+    ensures ended { EndsRow check.old bits.old.items result.0 result.1 bits.new.items }
+    ensures room { vec_capacity bits.new ≡ vec_capacity bits.old }
+{
+    let (_, root, other) = check.finish_marking(bits);
+    (root, other)
+}
+
+// Ends the check of a row of which fewer bytes came: a last piece that is cut stays unmarked.
+fn end_early(check: &mut PieceCheck<'_>, bits: &mut Vec<u8>, layer: u32)
+    requires within { check_byte_count check.old ≤ chosen_shape check.old }
+    requires layer { layer ≡ chosen_layer check.old }
+    ensures ended { EndsEarly check.old bits.old.items bits.new.items }
+    ensures room { vec_capacity bits.new ≡ vec_capacity bits.old }
+{
+    if ends_with_piece(check.len(), layer) {
+        let _found = end_row(check, bits);
     }
 }

@@ -12,7 +12,7 @@ use Rattle.gathering.specs.Batches.{IsOfKind}
 use Rattle.gathering.specs.Gathered.{DraftAdds}
 use Rattle.gathering.specs.Reading.{Finds}
 use Rattle.gathering.specs.declared.all_files.StoppedAt.{StoppedAt}
-use Rattle.gathering.specs.declared.batch.Batch.{Batch}
+use Rattle.gathering.specs.declared.batch.FileBatch.{FileBatch}
 use Rattle.gathering.specs.declared.file_fault.FileFault.{FileFault}
 use Rattle.gathering.specs.declared.hashing.FileHashes.{FileHashes}
 
@@ -142,7 +142,7 @@ pub item_there : (cs : List (List ℕ)) (k : ℕ) → k < length cs → slice_ge
 item_there cs k lt = slice_get-get_or cs k [] lt
 
 -- what was found for a batch was found for a draft of its kind
-pub of_kind : (mid d : Outline) (b : Batch) (content : List ℕ) (found : Result FileHashes FileFault) → mid.piece_length ≡ d.piece_length
+pub of_kind : (mid d : Outline) (b : FileBatch) (content : List ℕ) (found : Result FileHashes FileFault) → mid.piece_length ≡ d.piece_length
     → mid.hybrid ≡ d.hybrid → IsOfKind d.piece_length d.hybrid b → Finds b.kind.now.piece_length b.kind.now.hybrid content found
     → Finds mid.piece_length mid.hybrid content found
 of_kind mid d b content found same too kind finds =

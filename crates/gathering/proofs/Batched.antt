@@ -15,14 +15,14 @@ use Rattle.gathering.specs.Gathering.{HasGathered, Reads}
 use Rattle.gathering.specs.Reading.{Finds}
 use Rattle.gathering.specs.Steps.{DeclinesAt, ReadsBatch, ReadsRow, ReadsStill, StopsAdding, StopsReading, StopsVisiting}
 use Rattle.gathering.specs.declared.all_files.StoppedAt.{StoppedAt}
-use Rattle.gathering.specs.declared.batch.Batch.{Batch}
+use Rattle.gathering.specs.declared.batch.FileBatch.{FileBatch}
 use Rattle.gathering.specs.declared.file_fault.FileFault.{FileFault}
 use Rattle.gathering.specs.declared.file_fault.FileFault.TheVariants as why
 use Rattle.gathering.specs.declared.hashing.FileHashes.{FileHashes}
 use Rattle.gathering.proofs.Rows.{SaysRow, gathered_row, says_row}
 
 -- what is held stays twice
-pub keeps_both : (a b c : Batch) → KeepsHeld a b → KeepsHeld b c → KeepsHeld a c
+pub keeps_both : (a b c : FileBatch) → KeepsHeld a b → KeepsHeld b c → KeepsHeld a c
 keeps_both a b c one two = record {
   sound = two.sound;
   contents_are = two.contents_are ∙ one.contents_are;
@@ -33,7 +33,7 @@ keeps_both a b c one two = record {
 }
 
 -- what was found by one batch was found by another of its kind
-pub found_kept : (a b : Batch) (content : List ℕ) (found : Result FileHashes FileFault) → IsOfKind a.kind.now.piece_length a.kind.now.hybrid b
+pub found_kept : (a b : FileBatch) (content : List ℕ) (found : Result FileHashes FileFault) → IsOfKind a.kind.now.piece_length a.kind.now.hybrid b
     → Finds b.kind.now.piece_length b.kind.now.hybrid content found → Finds a.kind.now.piece_length a.kind.now.hybrid content found
 found_kept a b content found same finds =
     subst (λ n. Finds n a.kind.now.hybrid content found) same.piece_length_is
@@ -61,7 +61,7 @@ module _ {S F : Type 0} (shelf : Ghosts S F) (seen : F → SourceSeen) where
       })
 
   -- a file that was hashed alone ends a batch
-  pub alone_last : (s mid s' : S) (paths : List (List (List ℕ))) (from : ℕ) (b b' : Batch) (path : List (List ℕ)) (content : List ℕ)
+  pub alone_last : (s mid s' : S) (paths : List (List (List ℕ))) (from : ℕ) (b b' : FileBatch) (path : List (List ℕ)) (content : List ℕ)
       (found : Result FileHashes FileFault) → ReadsRow shelf seen s paths from (contents_of b) mid → length (contents_of b) ≤ 64
       → slice_get paths (from + length (contents_of b)) ≡ Some path → Reads shelf seen mid path content s' → shelf.contents s' ≡ shelf.contents mid
       → Finds b.kind.now.piece_length b.kind.now.hybrid content found → KeepsHeld b b' → ReadsBatch shelf seen s paths from b' s' (Ok (Some found))

@@ -19,7 +19,7 @@ use Rattle.gathering.specs.Gathering.{IsReadTo, Reads}
 use Rattle.gathering.specs.Hashing.{BeginsHashing, EndsWithHashes, Hashes, MayEndWithout}
 use Rattle.gathering.specs.HashingLaws.{hashed_both}
 use Rattle.gathering.specs.Reading.{FindsWholeContent, HasContent, ReadsFile}
-use Rattle.gathering.specs.declared.batch.Batch.{Batch}
+use Rattle.gathering.specs.declared.batch.FileBatch.{FileBatch}
 use Rattle.gathering.specs.declared.hashing.FileHashes.{FileHashes}
 use Rattle.gathering.specs.declared.hashing.Hashing.{Hashing}
 use Rattle.gathering.specs.declared.reading.FileRead.{FileRead}
@@ -122,7 +122,8 @@ module _ {S F : Type 0} (shelf : Ghosts S F) (seen : F → SourceSeen) where
     quiet = v.counted ∙ ap (more (shelf.faults s)) (quiet ∙ v.fresh);
   }
 
-  read_so : (b b' : Batch) (s : S) (path : List (List ℕ)) (s' : S) (r : Result FileRead ReadFault) → (v : ReadsFound shelf seen (ReadsInto b b') s path r s')
+  read_so : (b b' : FileBatch) (s : S) (path : List (List ℕ)) (s' : S) (r : Result FileRead ReadFault)
+      → (v : ReadsFound shelf seen (ReadsInto b b') s path r s')
       → ReadsFor b b' r (seen v.file) (seen v.handed.read) → CountsReading (seen v.file).faults (seen v.handed.read).faults r
       → VisitsInto shelf seen b s path b' s' (visit_of r)
   read_so b b' s path s' (Ok read.Held) v (content, is, holds) quiet =
@@ -142,6 +143,6 @@ module _ {S F : Type 0} (shelf : Ghosts S F) (seen : F → SourceSeen) where
       (content, reads (ReadsInto b b') s path (Err fault.NoMemory) s' content v is quiet, (short, digests), kept)
 
   -- a file was read for this answer
-  pub visited : (b b' : Batch) (s : S) (path : List (List ℕ)) (s' : S) (r : Result FileRead ReadFault) → ReadsFound shelf seen (ReadsInto b b') s path r s'
+  pub visited : (b b' : FileBatch) (s : S) (path : List (List ℕ)) (s' : S) (r : Result FileRead ReadFault) → ReadsFound shelf seen (ReadsInto b b') s path r s'
       → VisitsInto shelf seen b s path b' s' (visit_of r)
   visited b b' s path s' r v = read_so b b' s path s' r v v.handed.reading.0 v.handed.reading.1

@@ -7,15 +7,17 @@ use Rattle.std.specs.Vec.{with_items}
 use Rattle.std.proofs.lemmas.List.{drop-take, get_or-map, get_or-take, length-map, length-take}
 use Rattle.std.proofs.lemmas.Option.{same_Some, slice_get-get_or}
 use Rattle.block_windows.specs.Files.{HasFile, IsWithin, bytes_at}
+use Rattle.block_windows.specs.declared.files.Window.{Window}
 use Rattle.chains.proofs.Cases.{item_at, last_or_before}
 use Rattle.cut_windows.specs.Windows.{HasCuts, length_of_cuts}
 use Rattle.cut_windows.specs.Windows.{AreCutsWithin}
+use Rattle.cut_windows.specs.declared.window.CutWindow.{CutWindow}
 use Rattle.gathering.specs.Batches.{ArePlaced, HoldsMore, IsBatchSound, IsFilePlaced, IsOfKind, contents_of}
 use Rattle.hashtree.specs.Tree.{block_count}
 use Rattle.gathering.specs.declared.file_fault.FileFault.TheVariants as file
 use Rattle.std.specs.declared.alloc.AllocError.{AllocError}
 use Rattle.gathering.specs.Reading.{Finds, FindsWholeContent}
-use Rattle.gathering.specs.declared.batch.Batch.{Batch}
+use Rattle.gathering.specs.declared.batch.FileBatch.{FileBatch}
 use Rattle.gathering.specs.declared.batch.Place.{Place}
 use Rattle.gathering.specs.declared.hashing.FileHashes.{FileHashes}
 use Rattle.chains.proofs.Cases.{taken_more}
@@ -58,11 +60,11 @@ filled_items room items same = take_at items (drop (length items) room.items) ro
 
 -- ---- one more file
 
-abbrev bytes_of : Batch → Place → List ℕ
+abbrev bytes_of : FileBatch → Place → List ℕ
 bytes_of b e = bytes_at b.room.items e.start e.size
 
 -- what a batch keeps once one more file is put into it
-pub record HasMore (b b' : Batch) (bytes : List ℕ) (e : Place) : Type 0 where
+pub record HasMore (b b' : FileBatch) (bytes : List ℕ) (e : Place) : Type 0 where
   pub count : b'.count ≡ b.count + 1
   pub used : b'.used ≡ b.used + length bytes
   pub room : length b'.room.items ≡ length b.room.items
@@ -84,7 +86,7 @@ pub record HasMore (b b' : Batch) (bytes : List ℕ) (e : Place) : Type 0 where
   pub few : b.count < 64
   pub fits : b.used + length bytes ≤ length b.room.items
 
-pub held_more : (b b' : Batch) (bytes : List ℕ) (e : Place) → IsBatchSound b → HasMore b b' bytes e → HoldsMore b bytes b'
+pub held_more : (b b' : FileBatch) (bytes : List ℕ) (e : Place) → IsBatchSound b → HasMore b b' bytes e → HoldsMore b bytes b'
 held_more b b' bytes e sound has =
     let n : ℕ = b.count in
     let was = sound.placed in
@@ -135,7 +137,7 @@ held_more b b' bytes e sound has =
     map_push f (y ∷ xs) x = ap (λ ys. f y ∷ ys) (map_push f xs x)
 
 -- a batch that holds no file
-pub none_held : (b : Batch) → b.count ≡ 0 → b.used ≡ 0 → length b.places ≡ 64 → length_of_cuts b.cuts ≡ b.kind.now.piece_length
+pub none_held : (b : FileBatch) → b.count ≡ 0 → b.used ≡ 0 → length b.places ≡ 64 → length_of_cuts b.cuts ≡ b.kind.now.piece_length
     → IsWithin b.blocks (length b.room.items) → AreCutsWithin b.cuts (length b.room.items) → IsBatchSound b
 none_held b count used places piece_length blocks cuts = record {
   placed = record {
@@ -150,33 +152,47 @@ none_held b count used places piece_length blocks cuts = record {
 }
 
 -- how many files are held
-pub length-contents : (b : Batch) → ArePlaced b → length (contents_of b) ≡ b.count
+pub length-contents : (b : FileBatch) → ArePlaced b → length (contents_of b) ≡ b.count
 length-contents b placed = length-map (take b.count b.places) (bytes_of b) ∙ length-take b.count b.places ∙ omega (arith, placed.few, placed.places)
 
 -- the content of one of them
-content_at : (b : Batch) (k : ℕ) (d : Place) → ArePlaced b → k < b.count → get_or (contents_of b) k [] ≡ bytes_of b (get_or b.places k d)
+content_at : (b : FileBatch) (k : ℕ) (d : Place) → ArePlaced b → k < b.count → get_or (contents_of b) k [] ≡ bytes_of b (get_or b.places k d)
 content_at b k d placed lt =
     get_or-map (bytes_of b) (take b.count b.places) k d [] (omega (arith, lt, length-take b.count b.places, placed.few, placed.places))
     ∙ ap (bytes_of b) (get_or-take b.count b.places k d lt)
 
 -- which has no more bytes than a window
-short_content : (b : Batch) (k : ℕ) (d : Place) → ArePlaced b → k < b.count → length (bytes_of b (get_or b.places k d)) ≤ 2 ^ 46
+short_content : (b : FileBatch) (k : ℕ) (d : Place) → ArePlaced b → k < b.count → length (bytes_of b (get_or b.places k d)) ≤ 2 ^ 46
 short_content b k d placed lt =
     let e : Place = get_or b.places k d in
     let p = placed.each k e lt (slice_get-get_or b.places k d (omega (arith, lt, placed.few, placed.places))) in
     let size : block_count e.size ≤ 64 = omega (arith, p.blocks.within, b.blocks.within) in
     omega (arith, length-take e.size (drop e.start b.room.items), size)
 
-pub finds_held : (b : Batch) (k : ℕ) (d : Place) (said : FileHashes) → ArePlaced b → k < b.count
+pub finds_held : (b : FileBatch) (k : ℕ) (d : Place) (said : FileHashes) → ArePlaced b → k < b.count
     → FindsWholeContent b.kind.now.piece_length b.kind.now.hybrid (bytes_of b (get_or b.places k d)) (Ok said)
     → Finds b.kind.now.piece_length b.kind.now.hybrid (get_or (contents_of b) k []) (Ok said)
 finds_held b k d said placed lt found =
     subst (λ content. Finds b.kind.now.piece_length b.kind.now.hybrid content (Ok said)) (sym (content_at b k d placed lt))
     (short_content b k d placed lt, found)
 
-pub finds_held_not : (b : Batch) (k : ℕ) (d : Place) (e : AllocError) → ArePlaced b → k < b.count
+pub finds_held_not : (b : FileBatch) (k : ℕ) (d : Place) (e : AllocError) → ArePlaced b → k < b.count
     → FindsWholeContent b.kind.now.piece_length b.kind.now.hybrid (bytes_of b (get_or b.places k d)) (Err e)
     → Finds b.kind.now.piece_length b.kind.now.hybrid (get_or (contents_of b) k []) (Err file.NoMemory)
 finds_held_not b k d e placed lt kept =
     subst (λ content. Finds b.kind.now.piece_length b.kind.now.hybrid content (Err file.NoMemory)) (sym (content_at b k d placed lt))
     (short_content b k d placed lt, kept)
+
+-- the files of a batch are placed in windows that keep them
+pub placed_in : (b : FileBatch) (w : Window) (x : CutWindow) → ArePlaced b → length_of_cuts x ≡ length_of_cuts b.cuts
+    → ((first start size : ℕ) → HasFile b.blocks first start size → HasFile w first start size)
+    → ((first start size : ℕ) → HasCuts b.cuts first start size → HasCuts x first start size) → ArePlaced (record b { blocks = w; cuts = x })
+placed_in b w x was same files cuts = record {
+  few = was.few;
+  places = was.places;
+  fits = was.fits;
+  piece_length = same ∙ was.piece_length;
+  each = λ k e lt is.
+      let p = was.each k e lt is in
+      record { inside = p.inside; blocks = files e.block e.start e.size p.blocks; cuts = cuts e.cut e.start e.size p.cuts };
+}

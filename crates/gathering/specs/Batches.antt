@@ -13,7 +13,7 @@ use Rattle.hashtree.specs.Tree.{block_count}
 use Rattle.pieces.specs.Pieces.{pieces_of}
 use Rattle.gathering.specs.Gathering.{FailsAt, Misses, Reads}
 use Rattle.gathering.specs.Reading.{Finds, HasContent, ReadsFile}
-use Rattle.gathering.specs.declared.batch.Batch.{Batch}
+use Rattle.gathering.specs.declared.batch.FileBatch.{FileBatch}
 use Rattle.gathering.specs.declared.batch.Place.{Place}
 use Rattle.gathering.specs.declared.file_fault.FileFault.{FileFault}
 use Rattle.gathering.specs.declared.file_fault.FileFault.TheVariants as file
@@ -25,18 +25,18 @@ use Rattle.gathering.specs.declared.visiting.Visited.TheVariants as visited
 -- ---- what is held
 
 -- the contents of the files that are held, in order
-abbrev pub contents_of : Batch → List (List ℕ)
+abbrev pub contents_of : FileBatch → List (List ℕ)
 contents_of b = map (λ (e : Place). bytes_at b.room.items e.start e.size) (take b.count b.places)
 
 -- a file stands there: its bytes in the first ones of the room, and its blocks and cuts in the
 -- windows
-pub record IsFilePlaced (b : Batch) (e : Place) : Type 0 where
+pub record IsFilePlaced (b : FileBatch) (e : Place) : Type 0 where
   pub inside : e.start + e.size ≤ b.used
   pub blocks : HasFile b.blocks e.block e.start e.size
   pub cuts : HasCuts b.cuts e.cut e.start e.size
 
 -- each file that is held has its place in the room and in the windows
-pub record ArePlaced (b : Batch) : Type 0 where
+pub record ArePlaced (b : FileBatch) : Type 0 where
   pub few : b.count ≤ 64
   pub places : length b.places ≡ 64
   pub fits : b.used ≤ length b.room.items
@@ -44,19 +44,19 @@ pub record ArePlaced (b : Batch) : Type 0 where
   pub each : (k : ℕ) (e : Place) → k < b.count → slice_get b.places k ≡ Some e → IsFilePlaced b e
 
 -- the same, and all blocks and cuts of the windows stand in the room
-pub record IsBatchSound (b : Batch) : Type 0 where
+pub record IsBatchSound (b : FileBatch) : Type 0 where
   pub placed : ArePlaced b
   pub blocks : IsWithin b.blocks (length b.room.items)
   pub cuts : AreCutsWithin b.cuts (length b.room.items)
 
 -- a batch is of this kind of torrent
-pub record IsOfKind (piece_length : ℕ) (hybrid : Bool) (b : Batch) : Type 0 where
+pub record IsOfKind (piece_length : ℕ) (hybrid : Bool) (b : FileBatch) : Type 0 where
   pub piece_length_is : b.kind.now.piece_length ≡ piece_length
   pub hybrid_is : b.kind.now.hybrid ≡ hybrid
 
 -- there is room for one more file of this size: it is one of 64 and has eight blocks at most, its
 -- blocks and cuts have places in the windows, and its bytes in the room
-pub record HasBatchRoom (b : Batch) (size : ℕ) : Type 0 where
+pub record HasBatchRoom (b : FileBatch) (size : ℕ) : Type 0 where
   pub few : b.count < 64
   pub small : size ≤ 131072
   pub blocks : block_total b.blocks + block_count size ≤ 64
@@ -64,22 +64,22 @@ pub record HasBatchRoom (b : Batch) (size : ℕ) : Type 0 where
   pub bytes : b.used + size ≤ length b.room.items
 
 -- these are held, and nothing else changed
-pub record NowHolds (b : Batch) (contents : List (List ℕ)) (b' : Batch) : Type 0 where
+pub record NowHolds (b : FileBatch) (contents : List (List ℕ)) (b' : FileBatch) : Type 0 where
   pub sound : IsBatchSound b'
   pub contents_are : contents_of b' ≡ contents
   pub kind : IsOfKind b.kind.now.piece_length b.kind.now.hybrid b'
 
 -- one more file is held
-abbrev pub HoldsMore : Batch → List ℕ → Batch → Type 0
+abbrev pub HoldsMore : FileBatch → List ℕ → FileBatch → Type 0
 HoldsMore b content b' = NowHolds b (contents_of b ++ content ∷ []) b'
 
 -- what is held stays
-abbrev pub KeepsHeld : Batch → Batch → Type 0
+abbrev pub KeepsHeld : FileBatch → FileBatch → Type 0
 KeepsHeld b b' = NowHolds b (contents_of b) b'
 
 -- the blocks of all files that are held are hashed, and the cuts of a hybrid's, as they are and
 -- filled up with zeros
-pub record IsBatchHashed (b : Batch) : Type 0 where
+pub record IsBatchHashed (b : FileBatch) : Type 0 where
   pub blocks : IsHashed b.blocks b.room.items
   pub own : b.kind.now.hybrid ≡ true → AreOwnHashed b.cuts b.room.items
   pub filled : b.kind.now.hybrid ≡ true → AreCutsHashed b.cuts b.room.items
@@ -88,7 +88,8 @@ pub record IsBatchHashed (b : Batch) : Type 0 where
 
 -- what came of reading a source: its content is held, or was hashed alone, and then what is held
 -- stays
-abbrev pub ReadsFor : Batch → Batch → Result FileRead ReadFault → SourceSeen → SourceSeen → Type 0
+abbrev pub ReadsFor : FileBatch → FileBatch → Result FileRead ReadFault → SourceSeen → SourceSeen
+    → Type 0
 ReadsFor b b' (Ok read.Held) old new =
     (content : List ℕ) × HasContent old new content × HoldsMore b content b'
 ReadsFor b b' (Ok (read.Hashed found)) old new =
@@ -97,7 +98,8 @@ ReadsFor b b' (Err f) old new =
     ReadsFile b.kind.now.piece_length b.kind.now.hybrid old new (Err f) × KeepsHeld b b'
 
 -- the same, and the source's faults are counted
-abbrev pub ReadsInto : Batch → Batch → Result FileRead ReadFault → SourceSeen → SourceSeen → Type 0
+abbrev pub ReadsInto : FileBatch → FileBatch → Result FileRead ReadFault → SourceSeen → SourceSeen
+    → Type 0
 ReadsInto b b' answer old new =
     ReadsFor b b' answer old new × CountsReading old.faults new.faults answer
 
@@ -118,7 +120,8 @@ module _ {S F : Type 0} (shelf : Ghosts S F) (seen : F → SourceSeen) where
   FaultsWith file.Changed s path s' = Misses shelf seen s path s'
 
   -- a path was visited: its content is held, or was hashed alone; or no file was read
-  abbrev pub VisitsInto : Batch → S → List (List ℕ) → Batch → S → Result Visited FileFault → Type 0
+  abbrev pub VisitsInto : FileBatch → S → List (List ℕ) → FileBatch → S
+      → Result Visited FileFault → Type 0
   VisitsInto b s path b' s' (Ok visited.Held) =
       (content : List ℕ) × Reads shelf seen s path content s' × HoldsMore b content b'
   VisitsInto b s path b' s' (Ok (visited.Alone found)) =

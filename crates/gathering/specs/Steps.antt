@@ -9,7 +9,7 @@ use Rattle.gathering.specs.Adding.{AreBatch}
 use Rattle.gathering.specs.Batches.{FaultsWith, contents_of}
 use Rattle.gathering.specs.Gathering.{Gathers, GathersAll, HappensBefore, HasGathered, LacksMemoryAt, Reads, ReadsAhead, RefusesAt}
 use Rattle.gathering.specs.declared.all_files.StoppedAt.{StoppedAt}
-use Rattle.gathering.specs.declared.batch.Batch.{Batch}
+use Rattle.gathering.specs.declared.batch.FileBatch.{FileBatch}
 use Rattle.gathering.specs.declared.file_fault.FileFault.{FileFault}
 use Rattle.gathering.specs.declared.file_fault.FileFault.TheVariants as file
 use Rattle.gathering.specs.declared.gather_fault.GatherFault.{GatherFault}
@@ -47,7 +47,7 @@ module _ {S F : Type 0} (shelf : Ghosts S F) (seen : F → SourceSeen) where
 
   -- the files under the paths from this one on were read into a batch, or why not all that were to
   -- be
-  abbrev pub ReadsBatch : S → List (List (List ℕ)) → ℕ → Batch → S
+  abbrev pub ReadsBatch : S → List (List (List ℕ)) → ℕ → FileBatch → S
       → Result (Option (Result FileHashes FileFault)) StoppedAt → Type 0
   ReadsBatch s paths from b s' (Ok last) =
       (contents : List (List ℕ))

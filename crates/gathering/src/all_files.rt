@@ -1,6 +1,6 @@
 //! The adding of all listed files: small ones that follow one another are read one after the other,
 //! and hashed together.
-ghost use Rattle.std.specs.Prelude.{◌≡◌, ℕ, ◌+◌, ◌-◌, ◌<◌, ◌≤◌, IfSome, IsOk, List, OnSome, length, map};
+ghost use Rattle.std.specs.Prelude.{◌≡◌, ℕ, ◌+◌, ◌-◌, ◌<◌, ◌≤◌, IfSome, IsOk, List, OnSome, Some, length, map, slice_get};
 ghost use Rattle.std.specs.String.{string_bytes};
 ghost use Rattle.std.specs.Vec.{vec_capacity};
 ghost use Rattle.folders.specs.Shelf.{path_bytes};
@@ -9,7 +9,7 @@ ghost use Rattle.gathering.specs.Batches.{ArePlaced, IsBatchHashed, IsBatchSound
 ghost use Rattle.gathering.specs.Reading.{Finds};
 ghost use Rattle.gathering.specs.Steps.{AddsAll, ArePathsWithin, ReadsBatch};
 
-use crate::batch::Batch;
+use crate::batch::FileBatch;
 use crate::file_fault::FileFault;
 use crate::hashing::FileHashes;
 use crate::kind::TorrentKind;
@@ -17,7 +17,7 @@ use crate::visiting::{Visited, visit_file};
 use drafts::Draft;
 use folders::{Lengths, Shelf};
 use hashtree::recall_hashes;
-use std::alloc::Global;
+use pieces::PieceBuffer;
 
 /// Why not all files were added: the number of the path at which it stopped, and what happened.
 #[derive(Drop)]
@@ -29,16 +29,22 @@ pub(crate) struct StoppedAt {
 // What a draft is given of a file, or why it gets nothing.
 type Found = Result<FileHashes, FileFault>;
 
+// What one file after the other is read with: room for the components of its path, and for bytes.
+#[derive(Drop)]
+struct ReadRoom<'p> {
+    parts: Vec<&'p str>,
+    buffer: PieceBuffer,
+}
+
 /// Adds the files under these paths. The list has room for the components of each.
 // It has a block in its frame, so it is not inlined.
 #[inline(never)]
 pub(crate) fn add_files<'p, S: Shelf, L: Lengths>(
-    alloc: Global,
     shelf: &mut S,
     lengths: &mut L,
     draft: &mut Draft,
     paths: &'p [Vec<String>],
-    mut parts: Vec<&'p str>,
+    parts: Vec<&'p str>,
     kind: &TorrentKind,
 ) -> Result<(), StoppedAt>
     requires room { ArePathsWithin (map path_bytes paths.now) (vec_capacity parts) }
@@ -48,18 +54,19 @@ pub(crate) fn add_files<'p, S: Shelf, L: Lengths>(
         draft.new shelf.new result }
     ensures stays { S.contents shelf.new ≡ S.contents shelf.old }
 {
-    let mut buffer = kind.buffer(alloc);
-    let mut batch = Batch::new(alloc, kind, paths.len());
+    let alloc = *parts.allocator();
+    let mut room = ReadRoom {
+        parts,
+        buffer: kind.buffer(alloc),
+    };
+    let mut batch = FileBatch::new(alloc, kind, paths.len());
     let mut number = 0;
     'batches: while number < paths.len() {
-        let buffer = buffer.as_mut_slice();
-        let last = match read_batch(
-            shelf, lengths, paths, number, &mut parts, &mut batch, buffer,
-        ) {
+        let last = match read_batch(shelf, lengths, paths, number, &mut room, &mut batch) {
             Ok(last) => last,
             Err(stop) => return Err(stop),
         };
-        number = match add_batch(draft, paths, number, &mut parts, &mut batch, last, kind) {
+        number = match add_batch(draft, paths, number, &mut room.parts, &mut batch, last) {
             Ok(next) => next,
             Err(stop) => return Err(stop),
         };
@@ -74,31 +81,29 @@ fn read_batch<'p, S: Shelf, L: Lengths>(
     lengths: &mut L,
     paths: &'p [Vec<String>],
     from: usize,
-    parts: &mut Vec<&'p str>,
-    batch: &mut Batch<'_>,
-    buffer: &mut [u8],
+    room: &mut ReadRoom<'p>,
+    batch: &mut FileBatch<'_>,
 ) -> Result<Option<Found>, StoppedAt>
-    requires some { 0 < length buffer.old }
     requires there { from < length paths.now }
-    requires room { ArePathsWithin (map path_bytes paths.now) (vec_capacity parts.old) }
+    requires room { ArePathsWithin (map path_bytes paths.now) (vec_capacity room.old.parts) }
     requires placed { ArePlaced batch.old }
     ensures reads { ReadsBatch S.Shelf S.File.seen shelf.old (map path_bytes paths.now) from
         batch.new shelf.new result }
     ensures sound { IsOk result → IsBatchSound batch.new }
     ensures kind { IsOk result
         → IsOfKind batch.old.kind.now.piece_length batch.old.kind.now.hybrid batch.new }
-    ensures buffer { length buffer.new ≡ length buffer.old }
     ensures stays { S.contents shelf.new ≡ S.contents shelf.old }
-    ensures capacity { vec_capacity parts.new ≡ vec_capacity parts.old }
+    ensures capacity { vec_capacity room.new.parts ≡ vec_capacity room.old.parts }
 {
     batch.clear();
     'files: for number in from..paths.len() {
         if batch.is_full() {
             return Ok(None);
         }
-        put_parts(&paths[number], parts);
-        batch.ask_length(lengths, parts);
-        match visit_file(shelf, parts, batch, buffer) {
+        put_path(paths, number, &mut room.parts);
+        batch.ask_length(lengths, &room.parts);
+        let buffer = room.buffer.as_mut_slice();
+        match visit_file(shelf, &room.parts, batch, buffer) {
             Ok(Visited::Held) => {}
             Ok(Visited::Alone(found)) => return Ok(Some(found)),
             Err(fault) => return Err(StoppedAt { number, fault }),
@@ -114,12 +119,9 @@ fn add_batch<'p>(
     paths: &'p [Vec<String>],
     from: usize,
     parts: &mut Vec<&'p str>,
-    batch: &mut Batch<'_>,
+    batch: &mut FileBatch<'_>,
     last: Option<Found>,
-    kind: &TorrentKind,
 ) -> Result<usize, StoppedAt>
-    requires piece_length { draft.old.piece_length ≡ kind.now.piece_length }
-    requires hybrid { draft.old.hybrid ≡ kind.now.hybrid }
     requires kind { IsOfKind draft.old.piece_length draft.old.hybrid batch.old }
     requires sound { IsBatchSound batch.old }
     requires from { from ≤ length paths.now }
@@ -133,6 +135,7 @@ fn add_batch<'p>(
     ensures kind { IsOfKind draft.old.piece_length draft.old.hybrid batch.new }
     ensures capacity { vec_capacity parts.new ≡ vec_capacity parts.old }
 {
+    let kind = batch.kind;
     batch.hash();
     if let Err(stop) = add_held(draft, paths, from, parts, batch, kind) {
         return Err(stop);
@@ -174,7 +177,7 @@ fn add_held<'p>(
     paths: &'p [Vec<String>],
     from: usize,
     parts: &mut Vec<&'p str>,
-    batch: &Batch<'_>,
+    batch: &FileBatch<'_>,
     kind: &TorrentKind,
 ) -> Result<(), StoppedAt>
     requires piece_length { draft.old.piece_length ≡ kind.now.piece_length }
@@ -214,7 +217,7 @@ fn add_at<'p>(
         → AddsAt draft.old (map path_bytes paths.now) number content draft.new result }
     ensures capacity { vec_capacity parts.new ≡ vec_capacity parts.old }
 {
-    put_parts(&paths[number], parts);
+    put_path(paths, number, parts);
     match add_found(draft, parts, found, kind) {
         Ok(()) => Ok(()),
         Err(fault) => Err(StoppedAt { number, fault }),
@@ -241,6 +244,17 @@ fn add_found(
     recall_hashes(&hashes.layer);
     draft.add(path, hashes.length, hashes.root, &hashes.layer, &hashes.v1)?;
     Ok(())
+}
+
+// Puts the components of the path of this number into a list that has room for those of each.
+fn put_path<'p>(paths: &'p [Vec<String>], number: usize, parts: &mut Vec<&'p str>)
+    requires there { number < length paths.now }
+    requires room { ArePathsWithin (map path_bytes paths.now) (vec_capacity parts.old) }
+    ensures there { slice_get (map path_bytes paths.now) number
+        ≡ Some (map (λ s. s.now) parts.new.items) }
+    ensures no_memory { vec_capacity parts.new ≡ vec_capacity parts.old }
+{
+    put_parts(&paths[number], parts);
 }
 
 // Puts the components of a path into a list that has room for them, in place of what it has.

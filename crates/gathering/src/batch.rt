@@ -35,7 +35,7 @@ struct Place {
 
 /// Small files that were read one after the other, and are hashed together.
 #[derive(Drop)]
-pub(crate) struct Batch<'k> {
+pub(crate) struct FileBatch<'k> {
     pub(crate) alloc: Global,
     pub(crate) kind: &'k TorrentKind,
     // How long the file is that comes next, if that is known and helps.
@@ -48,13 +48,13 @@ pub(crate) struct Batch<'k> {
     cuts: CutWindow,
 }
 
-impl<'k> Batch<'k> {
+impl<'k> FileBatch<'k> {
     ghost use Rattle.gathering.specs.Batches.{ArePlaced, HasBatchRoom, HoldsMore, IsBatchHashed, IsBatchSound, IsFilePlaced, IsOfKind, KeepsHeld, NowHolds, contents_of};
     ghost use Rattle.gathering.specs.Reading.{Finds, FindsWholeContent};
 
     /// No file of a torrent of this kind. If memory for the bytes of small files is refused, only
     /// empty ones are held; the same where at most one file is to come.
-    pub(crate) fn new(alloc: Global, kind: &'k TorrentKind, files: usize) -> Batch<'k>
+    pub(crate) fn new(alloc: Global, kind: &'k TorrentKind, files: usize) -> FileBatch<'k>
         ensures kind { IsOfKind kind.now.piece_length kind.now.hybrid result }
         ensures sound { IsBatchSound result }
         ensures none { contents_of result ≡ [] }
@@ -65,7 +65,7 @@ impl<'k> Batch<'k> {
             block: 0,
             cut: 0,
         };
-        Batch {
+        FileBatch {
             alloc,
             kind,
             expected: None,

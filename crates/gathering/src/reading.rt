@@ -5,7 +5,7 @@ ghost use Rattle.folders.specs.TakeAll.{CountsReading};
 ghost use Rattle.wire.specs.Reading.{Gave};
 ghost use Rattle.gathering.specs.Reading.{FindsWholeContent, ReadsFile};
 
-use crate::batch::Batch;
+use crate::batch::FileBatch;
 use crate::hashing::{FileHashes, Hashing};
 use crate::kind::TorrentKind;
 use benc::Source;
@@ -24,7 +24,7 @@ pub(crate) enum FileRead {
 
 // Reads a file to its end, or to one byte past the greatest length, and no further. It is held if
 // it ends within the buffer and there is room for it.
-impl<F: Source> FileReader<F, Result<FileRead, ReadFault>> for Batch<'_> {
+impl<F: Source> FileReader<F, Result<FileRead, ReadFault>> for FileBatch<'_> {
     ghost use Rattle.gathering.specs.Batches.{IsBatchSound, ReadsInto};
 
     ghost may_read = { IsBatchSound };

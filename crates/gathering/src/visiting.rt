@@ -2,7 +2,7 @@
 ghost use Rattle.std.specs.Prelude.{◌≡◌, ◌<◌, length, map};
 ghost use Rattle.gathering.specs.Batches.{IsBatchSound, VisitsInto, visit_of};
 
-use crate::batch::Batch;
+use crate::batch::FileBatch;
 use crate::file_fault::FileFault;
 use crate::hashing::FileHashes;
 use crate::reading::FileRead;
@@ -23,7 +23,7 @@ pub(crate) enum Visited {
 pub(crate) fn visit_file<S: Shelf>(
     shelf: &mut S,
     path: &[&str],
-    batch: &mut Batch<'_>,
+    batch: &mut FileBatch<'_>,
     buffer: &mut [u8],
 ) -> Result<Visited, FileFault>
     requires some { 0 < length buffer.old }

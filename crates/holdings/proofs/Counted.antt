@@ -9,11 +9,14 @@ use Rattle.std.proofs.lemmas.List.Sums.{sum_by-append, sum_by-cons}
 use Rattle.std.proofs.lemmas.Option.{none-some, same_Some}
 use Rattle.node_maps.specs.Known.{place_cmp}
 use Rattle.fixed_maps.specs.Tiers.{TierSeen, AreRising, flat, items_at}
+use Rattle.slab.specs.Slab.{Slab}
+use Rattle.fixed_maps.specs.FixedMaps.{FixedMapSeen}
+use Rattle.fixed_maps.proofs.Kept.{map-len}
 use Rattle.fixed_maps.proofs.Carried.{flat-push, flat-parts}
 use Rattle.fixed_maps.proofs.Spots.{flat-split}
 use Rattle.holdings.specs.Cells.{Cells}
 use Rattle.holdings.specs.Holdings.{PieceSeen, held_in}
-use Rattle.holdings.specs.Tables.{RowOf, seen_row, seen_rows, weigh}
+use Rattle.holdings.specs.Tables.{RowOf, IsTable, seen_row, seen_rows, weigh}
 use Rattle.holdings.proofs.Rows.{in-order, row-before, seen-entry}
 
 abbrev Row : Type 0
@@ -59,6 +62,24 @@ module _ (f : Row → ℕ) (ts : List TierSeen) (i : ℕ) (lt : i < length ts) w
       let both = length-append (flat (take (i + 1) ts)) (flat (drop (i + 1) ts)) in
       let longer = tier-longer in
       omega (arith, parts, both, longer)
+
+-- the tier is there, and the rows of it and of those before it are no more than this many
+pub record IsTierWithin (ts : List TierSeen) (i w most : ℕ) : Type 0 where
+  pub there : i < length ts
+  pub few : length (items_at ts i) ≤ most
+  pub cells : length (items_at ts i) * w ≤ most * w
+  pub so_far : (length (flat (take i ts)) + length (items_at ts i)) * w ≤ most * w
+
+pub tier-within : (order : FixedMapSeen) (rows : Slab (ℕ × ℕ)) (cells : Cells) (newest : List ℕ) (w room n k : ℕ)
+    → IsTable order rows cells newest w room n k → AreRising (flat order.tiers) → (i : ℕ) → i < length order.tiers
+    → IsTierWithin order.tiers i w rows.capacity
+tier-within order rows cells newest w room n k table rising i lt =
+    let ts : List TierSeen = order.tiers in
+    let fits = tier-fits (weigh cells w) ts i lt in
+    let count = table.count in let all = table.all in let len = map-len (flat ts) rising in
+    let most : length (flat (take i ts)) + length (items_at ts i) ≤ rows.capacity = omega (arith, fits, count, all, len) in
+    let few : length (items_at ts i) ≤ rows.capacity = omega (arith, most) in
+    record { there = lt; few = few; cells = times-mono _ _ w few; so_far = times-mono _ _ w most }
 
 module _ (cells : Cells) (newest : List ℕ) (w : ℕ) where
   summed : (es : List Row) → sum_by (λ x. held_in x.cells) (map (λ e. e.1) (map (seen-entry cells newest w) es)) ≡ sum_by (weigh cells w) es

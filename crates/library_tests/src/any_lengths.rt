@@ -1,3 +1,4 @@
+//! Digests of messages of any lengths, side by side, beside those of `sha2`.
 use crate::places::Places;
 use crate::random::Random;
 use lanes::LANES;

@@ -1,3 +1,4 @@
+//! Bencodings: those that are refused, and those that are written as they were read.
 use benc::memory::MemSink;
 use benc::*;
 use std::alloc::{AllocError, Global};

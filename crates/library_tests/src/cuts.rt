@@ -1,3 +1,4 @@
+//! Windows of version 1 pieces: the digests of cuts, and what a window has room for.
 ghost use Rattle.std.specs.Prelude.{◌≡◌, length};
 ghost use Rattle.cut_windows.specs.Windows.{AreCutsWithin, length_of_cuts};
 

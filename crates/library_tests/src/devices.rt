@@ -1,3 +1,4 @@
+//! Sources and sinks in memory that give a few bytes a call, or fail.
 use crate::bencoding::copies;
 use benc::memory::{Calls, MemSink, MemSource};
 use benc::*;

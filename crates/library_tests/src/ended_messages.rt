@@ -1,3 +1,4 @@
+//! Digests of messages that end before the others of their batch.
 use crate::places::Places;
 use crate::random::Random;
 use lanes::LANES;

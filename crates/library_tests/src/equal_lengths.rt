@@ -1,3 +1,4 @@
+//! Digests of messages of one length, side by side, beside those of `sha2`.
 use crate::random::Random;
 use lanes::LANES;
 use sha2::{Digest, Sha256};

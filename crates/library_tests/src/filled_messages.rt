@@ -1,3 +1,4 @@
+//! Digests of messages that are filled together, beside those of `sha1` and of the standard.
 use crate::places::Places;
 use crate::random::Random;
 use lanes::LANES;

@@ -1,3 +1,4 @@
+//! Frames of a record: each message as it is written, read back.
 ghost use Rattle.std.specs.Prelude.{◌≡◌, ℕ, [], List, length, Some, IfOk};
 ghost use Rattle.wire.specs.Frames.{Frames};
 ghost use Rattle.wire.specs.declared.form.Form.{Form as FormOf};

@@ -1,3 +1,4 @@
+//! Layers of trees and their roots, beside trees that are built from below.
 use hashtree::{BLOCK_LENGTH, Hash, LayerBuilder, Shape, fill_levels, layer_root};
 use sha2::{Digest, Sha256};
 use std::alloc::{AllocError, Global};

@@ -1,3 +1,4 @@
+//! Records of frames: what is read of them, and where they are cut.
 use crate::bencoding::shows;
 use crate::frames::RECORD;
 use benc::Source;

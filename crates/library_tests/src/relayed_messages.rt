@@ -1,3 +1,4 @@
+//! Digests of messages that pass through the lanes one behind the other, beside those of `sha1`.
 use crate::places::Places;
 use crate::random::Random;
 use lanes::LANES;

@@ -1,3 +1,4 @@
+//! Shapes of trees and the hashes of pads, beside hashes that were computed elsewhere.
 use hashtree::{Hash, Shape, zero};
 use std::test::*;
 

@@ -3,9 +3,9 @@ ghost use Rattle.std.specs.Prelude.{map, string_bytes};
 ghost use Rattle.benc.specs.Device.{Wrote};
 ghost use Rattle.lines.specs.Table.{bad_pieces_row, bad_row, checked_row, extra_row};
 
-use crate::line_sink::LineSink;
 use crate::part::Part::{Number, OwnPath, Path, Start, Unprinted, Word};
 use crate::plain::{say_number, say_path, say_word};
+use crate::row_sink::RowSink;
 use benc::DeviceFault;
 
 /// A line of a check. Pieces are counted from 0.
@@ -48,8 +48,8 @@ pub enum Checked<'a> {
 }
 
 /// Says a line of a check.
-pub(crate) fn say_checked<L: LineSink>(found: &Checked<'_>, out: &mut L) -> Result<(), DeviceFault>
-    ensures { Wrote (L.seen out.old) (L.seen out.new) result (L.spelled (checked_row found.now)) }
+pub(crate) fn say_checked<R: RowSink>(found: &Checked<'_>, out: &mut R) -> Result<(), DeviceFault>
+    ensures { Wrote (R.seen out.old) (R.seen out.new) result (R.spelled (checked_row found.now)) }
 {
     match *found {
         Checked::Extra(path) => say_extra(path, out),
@@ -73,16 +73,16 @@ pub(crate) fn say_checked<L: LineSink>(found: &Checked<'_>, out: &mut L) -> Resu
     }
 }
 
-fn say_extra<L: LineSink>(path: &[String], out: &mut L) -> Result<(), DeviceFault>
-    ensures { Wrote (L.seen out.old) (L.seen out.new) result
-        (L.spelled (extra_row (map string_bytes path.now))) }
+fn say_extra<R: RowSink>(path: &[String], out: &mut R) -> Result<(), DeviceFault>
+    ensures { Wrote (R.seen out.old) (R.seen out.new) result
+        (R.spelled (extra_row (map string_bytes path.now))) }
 {
     out.row("extra", &[Word("extra"), OwnPath("path", path)])
 }
 
-fn say_bad<L: LineSink>(piece: u64, path: &[&str], out: &mut L) -> Result<(), DeviceFault>
-    ensures { Wrote (L.seen out.old) (L.seen out.new) result
-        (L.spelled (bad_row piece (map (λ s. s.now) path.now))) }
+fn say_bad<R: RowSink>(piece: u64, path: &[&str], out: &mut R) -> Result<(), DeviceFault>
+    ensures { Wrote (R.seen out.old) (R.seen out.new) result
+        (R.spelled (bad_row piece (map (λ s. s.now) path.now))) }
 {
     out.row(
         "bad",
@@ -90,16 +90,16 @@ fn say_bad<L: LineSink>(piece: u64, path: &[&str], out: &mut L) -> Result<(), De
     )
 }
 
-fn say_bad_pieces<L: LineSink>(
+fn say_bad_pieces<R: RowSink>(
     first: u64,
     last: u64,
     from: u64,
     to: u64,
     path: &[&str],
-    out: &mut L,
+    out: &mut R,
 ) -> Result<(), DeviceFault>
-    ensures { Wrote (L.seen out.old) (L.seen out.new) result
-        (L.spelled (bad_pieces_row first last from to (map (λ s. s.now) path.now))) }
+    ensures { Wrote (R.seen out.old) (R.seen out.new) result
+        (R.spelled (bad_pieces_row first last from to (map (λ s. s.now) path.now))) }
 {
     out.row(
         "bad pieces",

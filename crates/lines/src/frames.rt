@@ -4,33 +4,33 @@ ghost use Rattle.benc.specs.Device.{Wrote};
 ghost use Rattle.lines.specs.Rows.{number as number_item};
 ghost use Rattle.lines.specs.Table.{bad_frame_row, block_items, frame_row, refused_row, run_items};
 
-use crate::line_sink::LineSink;
 use crate::part::Part::{Code, Name, Number, Word};
+use crate::row_sink::RowSink;
 use benc::DeviceFault;
 
 /// Says a line that has the frame and the kind alone.
 #[inline(always)]
-pub(crate) fn say_frame<L: LineSink>(
+pub(crate) fn say_frame<R: RowSink>(
     kind: &'static str,
     frame: u64,
-    out: &mut L,
+    out: &mut R,
 ) -> Result<(), DeviceFault>
-    ensures { Wrote (L.seen out.old) (L.seen out.new) result
-        (L.spelled (frame_row kind.now frame [])) }
+    ensures { Wrote (R.seen out.old) (R.seen out.new) result
+        (R.spelled (frame_row kind.now frame [])) }
 {
     out.row(kind, &[Number("frame", frame), Word(kind)])
 }
 
 /// Says a line of a frame that has a number under this key.
-pub(crate) fn say_of<L: LineSink>(
+pub(crate) fn say_of<R: RowSink>(
     kind: &'static str,
     frame: u64,
     key: &'static str,
     number: u64,
-    out: &mut L,
+    out: &mut R,
 ) -> Result<(), DeviceFault>
-    ensures { Wrote (L.seen out.old) (L.seen out.new) result
-        (L.spelled (frame_row kind.now frame (number_item key.now number ∷ []))) }
+    ensures { Wrote (R.seen out.old) (R.seen out.new) result
+        (R.spelled (frame_row kind.now frame (number_item key.now number ∷ []))) }
 {
     out.row(
         kind,
@@ -39,15 +39,15 @@ pub(crate) fn say_of<L: LineSink>(
 }
 
 /// Says a line of a frame about a block.
-pub(crate) fn say_block<L: LineSink>(
+pub(crate) fn say_block<R: RowSink>(
     kind: &'static str,
     frame: u64,
     file: u64,
     block: u64,
-    out: &mut L,
+    out: &mut R,
 ) -> Result<(), DeviceFault>
-    ensures { Wrote (L.seen out.old) (L.seen out.new) result
-        (L.spelled (frame_row kind.now frame (block_items file block))) }
+    ensures { Wrote (R.seen out.old) (R.seen out.new) result
+        (R.spelled (frame_row kind.now frame (block_items file block))) }
 {
     out.row(
         kind,
@@ -61,16 +61,16 @@ pub(crate) fn say_block<L: LineSink>(
 }
 
 /// Says a line of a frame about a run of blocks.
-pub(crate) fn say_run<L: LineSink>(
+pub(crate) fn say_run<R: RowSink>(
     kind: &'static str,
     frame: u64,
     file: u64,
     first: u64,
     last: u64,
-    out: &mut L,
+    out: &mut R,
 ) -> Result<(), DeviceFault>
-    ensures { Wrote (L.seen out.old) (L.seen out.new) result
-        (L.spelled (frame_row kind.now frame (run_items file first last))) }
+    ensures { Wrote (R.seen out.old) (R.seen out.new) result
+        (R.spelled (frame_row kind.now frame (run_items file first last))) }
 {
     out.row(
         kind,
@@ -84,48 +84,49 @@ pub(crate) fn say_run<L: LineSink>(
     )
 }
 
+/// Why a message or a block is refused: a letter and a number, and a name.
+#[derive(Clone, Copy)]
+pub(crate) struct Why {
+    pub(crate) letter: &'static str,
+    pub(crate) number: u64,
+    pub(crate) name: &'static str,
+}
+
 /// Says a line that refuses a message.
-pub(crate) fn say_refused<L: LineSink>(
-    frame: u64,
-    letter: &'static str,
-    number: u64,
-    name: &'static str,
-    out: &mut L,
-) -> Result<(), DeviceFault>
-    ensures { Wrote (L.seen out.old) (L.seen out.new) result
-        (L.spelled (refused_row frame letter.now number name.now [])) }
+pub(crate) fn say_refused<R: RowSink>(frame: u64, why: Why, out: &mut R) -> Result<(), DeviceFault>
+    ensures { Wrote (R.seen out.old) (R.seen out.new) result
+        (R.spelled (refused_row frame why.letter.now why.number why.name.now [])) }
 {
     out.row(
         "refused",
         &[
             Number("frame", frame),
             Word("refused"),
-            Code("code", letter, number),
-            Name("name", name),
+            Code("code", why.letter, why.number),
+            Name("name", why.name),
         ],
     )
 }
 
 /// Says a line that refuses a block.
-pub(crate) fn say_refused_at<L: LineSink>(
+pub(crate) fn say_refused_at<R: RowSink>(
     frame: u64,
-    letter: &'static str,
-    number: u64,
-    name: &'static str,
+    why: Why,
     file: u64,
     block: u64,
-    out: &mut L,
+    out: &mut R,
 ) -> Result<(), DeviceFault>
-    ensures { Wrote (L.seen out.old) (L.seen out.new) result
-        (L.spelled (refused_row frame letter.now number name.now (block_items file block))) }
+    ensures { Wrote (R.seen out.old) (R.seen out.new) result
+        (R.spelled (refused_row frame why.letter.now why.number why.name.now
+        (block_items file block))) }
 {
     out.row(
         "refused",
         &[
             Number("frame", frame),
             Word("refused"),
-            Code("code", letter, number),
-            Name("name", name),
+            Code("code", why.letter, why.number),
+            Name("name", why.name),
             Number("file", file),
             Number("block", block),
         ],
@@ -133,14 +134,14 @@ pub(crate) fn say_refused_at<L: LineSink>(
 }
 
 /// Says a line about a frame of a wrong size.
-pub(crate) fn say_bad_frame<L: LineSink>(
+pub(crate) fn say_bad_frame<R: RowSink>(
     frame: u64,
     id: u64,
     length: u64,
-    out: &mut L,
+    out: &mut R,
 ) -> Result<(), DeviceFault>
-    ensures { Wrote (L.seen out.old) (L.seen out.new) result
-        (L.spelled (bad_frame_row frame id length)) }
+    ensures { Wrote (R.seen out.old) (R.seen out.new) result
+        (R.spelled (bad_frame_row frame id length)) }
 {
     out.row(
         "bad frame",

@@ -5,12 +5,13 @@ ghost use Rattle.lines.specs.Table.{row_of};
 
 use crate::checked::{Checked, say_checked};
 use crate::frames::{
-    say_bad_frame, say_block, say_frame, say_of, say_refused, say_refused_at, say_run,
+    Why, say_bad_frame, say_block, say_frame, say_of, say_refused, say_refused_at, say_run,
 };
 use crate::line_sink::LineSink;
 use crate::parted::{Parted, say_parted};
 use crate::plain::{say_name, say_number, say_path, say_word};
 use crate::refusal::{say_already_form_2, say_refusal};
+use crate::row_sink::RowSink;
 use crate::shown::{Shown, say_root, say_shown};
 use benc::{DeviceFault, WriteFault};
 use filetree::Refusal;
@@ -132,6 +133,37 @@ pub enum Line<'a> {
 pub fn say<L: LineSink>(line: &Line<'_>, out: &mut L) -> Result<(), DeviceFault>
     ensures { Wrote (L.seen out.old) (L.seen out.new) result (L.spelled (row_of line.now)) }
 {
+    out.say(line)
+}
+
+/// Says the last line of a report, and then flushes once. After `WriteFault` a prefix of the line
+/// went out.
+pub fn say_last<L: LineSink>(line: &Line<'_>, out: &mut L) -> Result<(), WriteFault>
+    ensures { WroteAndFlushed (L.seen out.old) (L.seen out.new) result
+        (L.spelled (row_of line.now)) }
+{
+    let said = say(line, out);
+    finish_after(out, said)
+}
+
+/// Flushes once if all was said, and not after a fault.
+pub fn finish_after<L: LineSink>(
+    out: &mut L,
+    said: Result<(), DeviceFault>,
+) -> Result<(), WriteFault>
+    ensures { (start : SinkSeen) (text : List ℕ) → Wrote start (L.seen out.old) said text
+        → WroteAndFlushed start (L.seen out.new) result text }
+{
+    said?;
+    out.finish()?;
+    Ok(())
+}
+
+/// Says the row of a line. After a fault a prefix of it went out.
+#[inline(always)]
+pub(crate) fn say_row<R: RowSink>(line: &Line<'_>, out: &mut R) -> Result<(), DeviceFault>
+    ensures { Wrote (R.seen out.old) (R.seen out.new) result (R.spelled (row_of line.now)) }
+{
     match *line {
         Line::Stored { frame, count } => say_of("stored", frame, "count", count, out),
         Line::Verified { frame, file, block } => say_block("verified", frame, file, block, out),
@@ -140,7 +172,14 @@ pub fn say<L: LineSink>(line: &Line<'_>, out: &mut L) -> Result<(), DeviceFault>
             letter,
             number,
             name,
-        } => say_refused(frame, letter, number, name, out),
+        } => {
+            let why = Why {
+                letter,
+                number,
+                name,
+            };
+            say_refused(frame, why, out)
+        }
         Line::RefusedAt {
             frame,
             letter,
@@ -148,7 +187,14 @@ pub fn say<L: LineSink>(line: &Line<'_>, out: &mut L) -> Result<(), DeviceFault>
             name,
             file,
             block,
-        } => say_refused_at(frame, letter, number, name, file, block, out),
+        } => {
+            let why = Why {
+                letter,
+                number,
+                name,
+            };
+            say_refused_at(frame, why, file, block, out)
+        }
         Line::Held { frame, file, block } => say_block("held", frame, file, block, out),
         Line::Proved {
             frame,
@@ -188,27 +234,4 @@ pub fn say<L: LineSink>(line: &Line<'_>, out: &mut L) -> Result<(), DeviceFault>
         Line::Refusal { refusal, path } => say_refusal(refusal, path, out),
         Line::AlreadyForm2 => say_already_form_2(out),
     }
-}
-
-/// Says the last line of a report, and then flushes once. After `WriteFault` a prefix of the line
-/// went out.
-pub fn say_last<L: LineSink>(line: &Line<'_>, out: &mut L) -> Result<(), WriteFault>
-    ensures { WroteAndFlushed (L.seen out.old) (L.seen out.new) result
-        (L.spelled (row_of line.now)) }
-{
-    let said = say(line, out);
-    finish_after(out, said)
-}
-
-/// Flushes once if all was said, and not after a fault.
-pub fn finish_after<L: LineSink>(
-    out: &mut L,
-    said: Result<(), DeviceFault>,
-) -> Result<(), WriteFault>
-    ensures { (start : SinkSeen) (text : List ℕ) → Wrote start (L.seen out.old) said text
-        → WroteAndFlushed start (L.seen out.new) result text }
-{
-    said?;
-    out.finish()?;
-    Ok(())
 }

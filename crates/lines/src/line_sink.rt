@@ -1,11 +1,9 @@
 //! What lines go to.
-ghost use Rattle.std.specs.Prelude.{◌≡◌, ◌≤◌, OnOk, length, true, map};
+ghost use Rattle.std.specs.Prelude.{◌≡◌, OnOk, true};
 ghost use Rattle.std.specs.Io.KnownBytes.{Keeps};
 ghost use Rattle.benc.specs.Device.{CountsFault, Wrote, one_more};
 
-use crate::object::write_object;
-use crate::part::Part;
-use crate::text::write_text;
+use crate::line::{Line, say_row};
 use benc::{DeviceFault, Sink};
 
 /// What the lines of a report go to. Every sink takes them as their texts, and `Objects` takes them
@@ -13,7 +11,8 @@ use benc::{DeviceFault, Sink};
 pub trait LineSink {
     ghost use Rattle.std.specs.Prelude.{ℕ, List};
     ghost use Rattle.benc.specs.Device.{SinkSeen};
-    ghost use Rattle.lines.specs.Rows.{Row, item_of, row};
+    ghost use Rattle.lines.specs.Rows.{Row};
+    ghost use Rattle.lines.specs.Table.{row_of};
 
     /// What callers see of its sink.
     ghost seen: { Self → SinkSeen };
@@ -21,12 +20,10 @@ pub trait LineSink {
     /// How it spells a line.
     ghost spelled: { Row → List ℕ };
 
-    /// Writes a line of this kind with these parts. It takes no memory, and does not flush. After a
-    /// fault a prefix of it went out. Condition: it has seven parts at most.
-    fn row(&mut self, kind: &'static str, parts: &[Part<'_>]) -> Result<(), DeviceFault>
-        requires { length parts.now ≤ 7 }
-        ensures { Wrote (seen self.old) (seen self.new) result
-            (spelled (row kind.now (map item_of parts.now))) };
+    /// Says a line: its row of the table goes out. It takes no memory, and does not flush. After a
+    /// fault a prefix of it went out.
+    fn say(&mut self, line: &Line<'_>) -> Result<(), DeviceFault>
+        ensures { Wrote (seen self.old) (seen self.new) result (spelled (row_of line.now)) };
 
     /// Flushes its sink, which is counted whether it fails or not. It writes nothing.
     fn finish(&mut self) -> Result<(), DeviceFault>
@@ -47,8 +44,9 @@ impl<W: Sink> LineSink for W {
 
     ghost spelled = { text_of };
 
-    fn row(&mut self, _kind: &'static str, parts: &[Part<'_>]) -> Result<(), DeviceFault> {
-        write_text(parts, self)
+    #[inline(always)]
+    fn say(&mut self, line: &Line<'_>) -> Result<(), DeviceFault> {
+        say_row(line, self)
     }
 
     fn finish(&mut self) -> Result<(), DeviceFault> {
@@ -63,7 +61,7 @@ impl<W: Sink> LineSink for W {
 /// A sink that lines go to as JSON objects.
 #[derive(Drop)]
 pub struct Objects<W: Sink> {
-    sink: W,
+    pub(crate) sink: W,
 }
 
 impl<W: Sink> Objects<W> {
@@ -82,8 +80,9 @@ impl<W: Sink> LineSink for Objects<W> {
 
     ghost spelled = { object_of };
 
-    fn row(&mut self, kind: &'static str, parts: &[Part<'_>]) -> Result<(), DeviceFault> {
-        write_object(kind, parts, &mut self.sink)
+    #[inline(always)]
+    fn say(&mut self, line: &Line<'_>) -> Result<(), DeviceFault> {
+        say_row(line, self)
     }
 
     fn finish(&mut self) -> Result<(), DeviceFault> {

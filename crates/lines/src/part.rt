@@ -6,7 +6,7 @@ pub(crate) const ROOM: usize = 8;
 /// A part of a line. One space stands between two parts. Keys, words and names have no character
 /// that is escaped in a JSON string.
 #[derive(Clone, Copy, Drop)]
-pub enum Part<'a> {
+pub(crate) enum Part<'a> {
     /// This word, or several.
     Word(&'static str),
     /// A number, under this key.

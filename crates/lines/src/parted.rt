@@ -4,9 +4,9 @@ ghost use Rattle.benc.specs.Device.{Wrote};
 ghost use Rattle.lines.specs.Rows.{item_of};
 ghost use Rattle.lines.specs.Table.{bad_part_row, part_items, part_row, parted_row};
 
-use crate::line_sink::LineSink;
 use crate::part::Part::{Number, Over, Sha256, Word};
 use crate::plain::say_word;
+use crate::row_sink::RowSink;
 use benc::DeviceFault;
 
 /// A line that the report of a part has alone. Parts are counted from 1.
@@ -32,8 +32,8 @@ pub enum Parted<'a> {
 }
 
 /// Says a line of a part's report.
-pub(crate) fn say_parted<L: LineSink>(said: &Parted<'_>, out: &mut L) -> Result<(), DeviceFault>
-    ensures { Wrote (L.seen out.old) (L.seen out.new) result (L.spelled (parted_row said.now)) }
+pub(crate) fn say_parted<R: RowSink>(said: &Parted<'_>, out: &mut R) -> Result<(), DeviceFault>
+    ensures { Wrote (R.seen out.old) (R.seen out.new) result (R.spelled (parted_row said.now)) }
 {
     match *said {
         Parted::Part { part, parts, hash } => say_part(part, parts, hash, out),
@@ -43,14 +43,14 @@ pub(crate) fn say_parted<L: LineSink>(said: &Parted<'_>, out: &mut L) -> Result<
     }
 }
 
-fn say_part<L: LineSink>(
+fn say_part<R: RowSink>(
     part: u64,
     parts: u64,
     hash: &[u8; 32],
-    out: &mut L,
+    out: &mut R,
 ) -> Result<(), DeviceFault>
-    ensures { Wrote (L.seen out.old) (L.seen out.new) result
-        (L.spelled (part_row part parts hash.now)) }
+    ensures { Wrote (R.seen out.old) (R.seen out.new) result
+        (R.spelled (part_row part parts hash.now)) }
 {
     out.row(
         "part",
@@ -63,14 +63,14 @@ fn say_part<L: LineSink>(
     )
 }
 
-fn say_bad_part<L: LineSink>(
+fn say_bad_part<R: RowSink>(
     part: u64,
     parts: u64,
     hash: &[u8; 32],
-    out: &mut L,
+    out: &mut R,
 ) -> Result<(), DeviceFault>
-    ensures { Wrote (L.seen out.old) (L.seen out.new) result
-        (L.spelled (bad_part_row part parts hash.now)) }
+    ensures { Wrote (R.seen out.old) (R.seen out.new) result
+        (R.spelled (bad_part_row part parts hash.now)) }
 {
     out.row(
         "part bad",

@@ -4,8 +4,8 @@ ghost use Rattle.benc.specs.Device.{Wrote};
 ghost use Rattle.lines.specs.Rows.{item_of};
 ghost use Rattle.lines.specs.Table.{already_form_2_row, detail_items, path_items, refusal_row};
 
-use crate::line_sink::LineSink;
 use crate::part::{Part, ROOM};
+use crate::row_sink::RowSink;
 use arrayvec::ArrayVec;
 use benc::DeviceFault;
 use filetree::Refusal;
@@ -14,13 +14,13 @@ use filetree::Refusal;
 type Parts<'a> = ArrayVec<Part<'a>, ROOM>;
 
 /// Says the line of a refusal, with the path of the file that it is about, if there is one.
-pub(crate) fn say_refusal<L: LineSink>(
+pub(crate) fn say_refusal<R: RowSink>(
     refusal: &Refusal,
     path: &[String],
-    out: &mut L,
+    out: &mut R,
 ) -> Result<(), DeviceFault>
-    ensures { Wrote (L.seen out.old) (L.seen out.new) result
-        (L.spelled (refusal_row refusal.now (map string_bytes path.now))) }
+    ensures { Wrote (R.seen out.old) (R.seen out.new) result
+        (R.spelled (refusal_row refusal.now (map string_bytes path.now))) }
 {
     let mut parts = Parts::new();
     parts.push(Part::Word("refused"));
@@ -32,8 +32,8 @@ pub(crate) fn say_refusal<L: LineSink>(
 }
 
 /// Says the line of a record that is of form 2 already.
-pub(crate) fn say_already_form_2<L: LineSink>(out: &mut L) -> Result<(), DeviceFault>
-    ensures { Wrote (L.seen out.old) (L.seen out.new) result (L.spelled already_form_2_row) }
+pub(crate) fn say_already_form_2<R: RowSink>(out: &mut R) -> Result<(), DeviceFault>
+    ensures { Wrote (R.seen out.old) (R.seen out.new) result (R.spelled already_form_2_row) }
 {
     out.row(
         "refused",

@@ -5,8 +5,8 @@ ghost use Rattle.benc.specs.Device.{Wrote};
 ghost use Rattle.lines.specs.Rows.{item_of, number as number_item};
 ghost use Rattle.lines.specs.Table.{file_row, hash_row, name_row, pieces_row, root_item, root_row, shown_row, titled_row, total_row};
 
-use crate::line_sink::LineSink;
 use crate::part::Part::{self, Number, Path, Sha1, Sha256, Text, Word};
+use crate::row_sink::RowSink;
 use benc::DeviceFault;
 
 /// A line of what a torrent holds. Sizes are given also as the text of an amount with a unit.
@@ -43,8 +43,8 @@ pub enum Shown<'a> {
 }
 
 /// Says a line of what a torrent holds.
-pub(crate) fn say_shown<L: LineSink>(shown: &Shown<'_>, out: &mut L) -> Result<(), DeviceFault>
-    ensures { Wrote (L.seen out.old) (L.seen out.new) result (L.spelled (shown_row shown.now)) }
+pub(crate) fn say_shown<R: RowSink>(shown: &Shown<'_>, out: &mut R) -> Result<(), DeviceFault>
+    ensures { Wrote (R.seen out.old) (R.seen out.new) result (R.spelled (shown_row shown.now)) }
 {
     match *shown {
         Shown::Name(name) => out.row("name", &[Word("name:"), Text("name", name)]),
@@ -67,24 +67,24 @@ pub(crate) fn say_shown<L: LineSink>(shown: &Shown<'_>, out: &mut L) -> Result<(
 }
 
 /// Says the line of a file's length and root.
-pub(crate) fn say_root<L: LineSink>(
+pub(crate) fn say_root<R: RowSink>(
     length: u64,
     root: &Option<&[u8; 32]>,
-    out: &mut L,
+    out: &mut R,
 ) -> Result<(), DeviceFault>
-    ensures { Wrote (L.seen out.old) (L.seen out.new) result
-        (L.spelled (root_row length (option_map (λ r. r.now) root.now))) }
+    ensures { Wrote (R.seen out.old) (R.seen out.new) result
+        (R.spelled (root_row length (option_map (λ r. r.now) root.now))) }
 {
     out.row("root", &[Number("length", length), root_part(root)])
 }
 
-fn say_file<'a, L: LineSink>(
+fn say_file<'a, R: RowSink>(
     length: u64,
     root: &Option<&'a [u8; 32]>,
     path: &'a [&'a str],
-    out: &mut L,
+    out: &mut R,
 ) -> Result<(), DeviceFault>
-    ensures { Wrote (L.seen out.old) (L.seen out.new) result (L.spelled
+    ensures { Wrote (R.seen out.old) (R.seen out.new) result (R.spelled
         (file_row length (option_map (λ r. r.now) root.now) (map (λ s. s.now) path.now))) }
 {
     out.row(
@@ -108,22 +108,22 @@ fn root_part<'a>(root: &Option<&'a [u8; 32]>) -> Part<'a>
 }
 
 // Says a line with a number behind its title.
-fn say_titled<L: LineSink>(
+fn say_titled<R: RowSink>(
     kind: &'static str,
     title: &'static str,
     key: &'static str,
     number: u64,
-    out: &mut L,
+    out: &mut R,
 ) -> Result<(), DeviceFault>
-    ensures { Wrote (L.seen out.old) (L.seen out.new) result
-        (L.spelled (titled_row kind.now title.now (number_item key.now number ∷ []))) }
+    ensures { Wrote (R.seen out.old) (R.seen out.new) result
+        (R.spelled (titled_row kind.now title.now (number_item key.now number ∷ []))) }
 {
     out.row(kind, &[Word(title), Number(key, number)])
 }
 
-fn say_total<L: LineSink>(bytes: u64, size: &str, out: &mut L) -> Result<(), DeviceFault>
-    ensures { Wrote (L.seen out.old) (L.seen out.new) result
-        (L.spelled (total_row bytes size.now)) }
+fn say_total<R: RowSink>(bytes: u64, size: &str, out: &mut R) -> Result<(), DeviceFault>
+    ensures { Wrote (R.seen out.old) (R.seen out.new) result
+        (R.spelled (total_row bytes size.now)) }
 {
     out.row(
         "total",
@@ -131,9 +131,9 @@ fn say_total<L: LineSink>(bytes: u64, size: &str, out: &mut L) -> Result<(), Dev
     )
 }
 
-fn say_pieces<L: LineSink>(count: u64, size: &str, out: &mut L) -> Result<(), DeviceFault>
-    ensures { Wrote (L.seen out.old) (L.seen out.new) result
-        (L.spelled (pieces_row count size.now)) }
+fn say_pieces<R: RowSink>(count: u64, size: &str, out: &mut R) -> Result<(), DeviceFault>
+    ensures { Wrote (R.seen out.old) (R.seen out.new) result
+        (R.spelled (pieces_row count size.now)) }
 {
     out.row(
         "pieces",

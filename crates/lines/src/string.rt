@@ -1,8 +1,8 @@
 //! Strings of JSON (RFC 8259, section 7).
-ghost use Rattle.std.specs.Prelude.{◌≡◌, ◌∷◌, [], map};
+ghost use Rattle.std.specs.Prelude.{◌≡◌, ◌∷◌, ◌++◌, [], List, ℕ, codes, map};
 ghost use Rattle.std.specs.List.{join_with_byte};
 ghost use Rattle.hex.specs.Hex.{encode_lower};
-ghost use Rattle.benc.specs.Device.{Wrote};
+ghost use Rattle.benc.specs.Device.{SinkSeen, Wrote};
 ghost use Rattle.filetree.specs.FileTree.{slash};
 ghost use Rattle.lines.specs.Strings.{quoted, short_escape, string_byte, string_bytes};
 
@@ -14,8 +14,8 @@ pub(crate) fn write_string<W: Sink>(text: &[u8], out: &mut W) -> Result<(), Devi
     ensures { Wrote (W.seen out.old) (W.seen out.new) result (quoted text.now) }
 {
     write_all(out, b"\"")?;
-    write_inside(text, out)?;
-    write_all(out, b"\"")
+    let said = write_inside(text, out);
+    close_string(out, said)
 }
 
 /// Writes a path as a JSON string: its components with `/` between them. After a fault a prefix of
@@ -28,8 +28,22 @@ pub(crate) fn write_path_string<W: Sink, S: AsStr>(
         (quoted (join_with_byte slash (map S.text path.now))) }
 {
     write_all(out, b"\"")?;
-    write_joined(path, out)?;
-    write_all(out, b"\"")
+    let said = write_joined(path, out);
+    close_string(out, said)
+}
+
+/// Writes the quote behind a string, if all of the string was written.
+pub(crate) fn close_string<W: Sink>(
+    out: &mut W,
+    said: Result<(), DeviceFault>,
+) -> Result<(), DeviceFault>
+    ensures { (start : SinkSeen) (text : List ℕ) → Wrote start (W.seen out.old) said text
+        → Wrote start (W.seen out.new) result (text ++ codes "\"") }
+{
+    match said {
+        Ok(()) => write_all(out, b"\""),
+        Err(fault) => Err(fault),
+    }
 }
 
 // Writes the components of a path, with `/` between them.

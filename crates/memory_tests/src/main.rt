@@ -46,7 +46,7 @@ fn make_call<N: NodeMap>(
         "hybrid draft" => draft_again(rt, torrent, true),
         "gather" => gather_again(rt, record),
         "check" => check_again(rt, torrent, record),
-        "check_onto" | "check_with_bad_pieces" | "say_check" => {
+        "say_check" | "say_check_with_bad_pieces" | "objects" => {
             report_again(rt, torrent, record, call)
         }
         "parts" => join_again(rt, torrent, record),

@@ -7,8 +7,8 @@ use crate::shelving::{PATH, name_untouched, print_verdicts};
 use benc::memory::MemSink;
 use folders::memory::{MemFile, MemShelf};
 use opening::Torrent;
-use part_reports::{JoinFault, join_marked_reports, kind_of, print_marked_report};
-use parts::{CheckFault, check_part_with_bad_pieces};
+use part_reports::{JoinFault, join_marked_reports, kind_of, say_marked_report};
+use parts::{CheckFault, say_check_part_with_bad_pieces};
 use std::io;
 
 // Room for a report.
@@ -39,7 +39,7 @@ fn part_again(
     let mut shelf = MemShelf::new(rt.alloc(), &files);
     let mut out = MemSink::with_room(rt.alloc(), ROOM)?;
     if !checks_part(rt, torrent, &mut shelf, part, &mut out)? {
-        name_untouched(rt, "check_part_with_bad_pieces", &shelf, &out)?;
+        name_untouched(rt, "say_check_part_with_bad_pieces", &shelf, &out)?;
         let _ = checks_part(rt, torrent, &mut shelf, part, &mut out)?;
     }
     print_bytes(rt, out.written())?;
@@ -57,7 +57,7 @@ fn checks_part(
 ) -> io::Result<bool>
     requires { part < 2 }
 {
-    match check_part_with_bad_pieces(rt.alloc(), torrent, shelf, part, 2, out) {
+    match say_check_part_with_bad_pieces(rt.alloc(), torrent, shelf, part, 2, out) {
         Ok(report) => print_verdicts(rt, &report)?,
         Err(CheckFault::NoMemory) => return Ok(false),
         Err(fault) => println!(rt; "{fault}")?,
@@ -85,7 +85,7 @@ fn joins(
 ) -> io::Result<bool> {
     match join_marked_reports(rt.alloc(), torrent, texts) {
         Ok(joined) => {
-            let _ = print_marked_report(&joined, torrent, out);
+            let _ = say_marked_report(&joined, torrent, out);
         }
         Err(JoinFault::NoMemory) => return Ok(false),
         Err(fault) => println!(rt; "{fault:?}")?,

@@ -8,7 +8,7 @@ use folders::memory::{MemFile, MemShelf};
 use folders::{NoMemory, Report};
 use opening::Torrent;
 use part_reports::{JoinFault, join_reports};
-use parts::{Places, check_part, print_part};
+use parts::{Places, check_part, say_part};
 use std::io;
 
 /// Checks that the torrent's file has this content, in two parts, joins what they report, and
@@ -54,7 +54,7 @@ fn part_again(
     if report.files.len() == torrent.files().len()
         && report.v1.is_some() == torrent.v1().is_some()
     {
-        let _ = print_part(&report, torrent, part, 2, &mut out);
+        let _ = say_part(&report, torrent, part, 2, &mut out);
     }
     Ok(out)
 }

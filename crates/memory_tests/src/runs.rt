@@ -13,23 +13,23 @@ use wire::Message;
 // The messages of one run, with their directions and without, and how many others stand before
 // them.
 #[derive(Drop)]
-struct Part<'p> {
+struct RunPart<'p> {
     before: usize,
     directed: &'p [Directed<'p>],
     plain: Vec<Message<'p>>,
 }
 
-impl<'p> Part<'p> {
+impl<'p> RunPart<'p> {
     fn new(
         alloc: Global,
         before: usize,
         directed: &'p [Directed<'p>],
-    ) -> Result<Part<'p>, AllocError> {
+    ) -> Result<RunPart<'p>, AllocError> {
         let mut plain = Vec::with_capacity(alloc, directed.len())?;
         for (_, message) in directed {
             plain.push(*message)?;
         }
-        Ok(Part {
+        Ok(RunPart {
             before,
             directed,
             plain,
@@ -81,7 +81,7 @@ fn run_part<'t, N: NodeMap>(
     before: usize,
     directed: &[Directed<'_>],
 ) -> io::Result<()> {
-    let part = Part::new(rt.alloc(), before, directed)?;
+    let part = RunPart::new(rt.alloc(), before, directed)?;
     let verdicts = run_again(rt, session, given, &part)?;
     print_verdicts(rt, &verdicts)?;
     print_state(rt, session)
@@ -97,7 +97,7 @@ fn run_again<'t, N: NodeMap>(
     rt: &HostRuntime,
     session: &mut Session<'t, N>,
     given: &Given<'t>,
-    part: &Part<'_>,
+    part: &RunPart<'_>,
 ) -> io::Result<Vec<Verdict>> {
     let verdicts = run_with_room(rt, session, given, part)?;
     match first_refused(&verdicts) {
@@ -120,7 +120,7 @@ fn run_anew<'t, N: NodeMap>(
     alloc: Global,
     session: &mut Session<'t, N>,
     given: &Given<'t>,
-    part: &Part<'_>,
+    part: &RunPart<'_>,
 ) -> Result<Vec<Verdict>, NoMemory> {
     *session = given.session_after(alloc, part.before)?;
     part.run(given.call, session)
@@ -131,7 +131,7 @@ fn run_with_room<N: NodeMap>(
     rt: &HostRuntime,
     session: &mut Session<'_, N>,
     given: &Given<'_>,
-    part: &Part<'_>,
+    part: &RunPart<'_>,
 ) -> io::Result<Vec<Verdict>> {
     match part.run(given.call, session) {
         Ok(verdicts) => Ok(verdicts),
@@ -148,7 +148,7 @@ fn judge<N: NodeMap>(
     rt: &HostRuntime,
     session: &mut Session<'_, N>,
     given: &Given<'_>,
-    part: &Part<'_>,
+    part: &RunPart<'_>,
     number: usize,
     verdicts: &[Verdict],
 ) -> io::Result<()> {
@@ -169,7 +169,7 @@ fn stands_without_it<N: NodeMap>(
     alloc: Global,
     session: &mut Session<'_, N>,
     given: &Given<'_>,
-    part: &Part<'_>,
+    part: &RunPart<'_>,
     verdicts: &[Verdict],
 ) -> Result<bool, NoMemory> {
     let mut other: Session<'_, N> = given.session_after(alloc, part.before)?;
@@ -180,7 +180,7 @@ fn stands_like<N: NodeMap>(
     session: &mut Session<'_, N>,
     other: &mut Session<'_, N>,
     given: &Given<'_>,
-    part: &Part<'_>,
+    part: &RunPart<'_>,
     verdicts: &[Verdict],
 ) -> Result<bool, NoMemory> {
     let without_it = are_of_steps(session, other, given, part, verdicts)?;
@@ -194,7 +194,7 @@ fn are_of_steps<N: NodeMap>(
     session: &Session<'_, N>,
     other: &mut Session<'_, N>,
     given: &Given<'_>,
-    part: &Part<'_>,
+    part: &RunPart<'_>,
     verdicts: &[Verdict],
 ) -> Result<bool, NoMemory> {
     for (message, verdict) in part.directed.iter().zip(verdicts) {

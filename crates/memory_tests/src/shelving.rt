@@ -9,7 +9,7 @@ use folders::{Lines, Report, ShelfFault, Unhurried};
 use gathering::{GatherFault, gather};
 use lines::Objects;
 use opening::Torrent;
-use parts::{CheckFault, check, check_onto, check_with_bad_pieces, say_check};
+use parts::{CheckFault, check, say_check, say_check_with_bad_pieces};
 use seeding::{SeedFault, seed, seed_onto};
 use session::{NodeMap, Session};
 use std::io;
@@ -73,7 +73,14 @@ fn checks_as_objects(
     shelf: &mut MemShelf<'_>,
 ) -> io::Result<bool> {
     let mut lines = Objects::new(MemSink::with_room(rt.alloc(), 256)?);
-    match say_check(rt.alloc(), torrent, shelf, Lines::All, &mut lines) {
+    match say_check(
+        rt.alloc(),
+        torrent,
+        shelf,
+        Lines::All,
+        &mut Unhurried,
+        &mut lines,
+    ) {
         Ok(report) => print_verdicts(rt, &report)?,
         Err(CheckFault::NoMemory) => return Ok(false),
         Err(fault) => println!(rt; "{fault}")?,
@@ -95,7 +102,7 @@ pub(crate) fn print_verdicts(rt: &HostRuntime, report: &Report) -> io::Result<()
     println!(rt; "{:?}", report.files.as_slice())
 }
 
-/// Checks the same by `check_onto`, or by the call of this name, with a report as it goes, and
+/// Checks the same by `say_check`, or by the call of this name, with a report as it goes, and
 /// prints the report.
 pub(crate) fn report_again(
     rt: &HostRuntime,
@@ -133,19 +140,19 @@ fn checks(
     call: &str,
 ) -> io::Result<bool> {
     match call {
-        "check_with_bad_pieces" => checks_with_bad_pieces(rt, torrent, shelf, out),
-        "say_check" => checks_as_objects(rt, torrent, shelf),
-        _ => checks_onto(rt, torrent, shelf, out),
+        "say_check_with_bad_pieces" => checks_with_bad_pieces(rt, torrent, shelf, out),
+        "objects" => checks_as_objects(rt, torrent, shelf),
+        _ => checks_as_text(rt, torrent, shelf, out),
     }
 }
 
-fn checks_onto(
+fn checks_as_text(
     rt: &HostRuntime,
     torrent: &Torrent<'_>,
     shelf: &mut MemShelf<'_>,
     out: &mut MemSink,
 ) -> io::Result<bool> {
-    match check_onto(rt.alloc(), torrent, shelf, Lines::All, out) {
+    match say_check(rt.alloc(), torrent, shelf, Lines::All, &mut Unhurried, out) {
         Ok(report) => print_verdicts(rt, &report)?,
         Err(CheckFault::NoMemory) => return Ok(false),
         Err(fault) => println!(rt; "{fault}")?,
@@ -160,7 +167,7 @@ fn checks_with_bad_pieces(
     shelf: &mut MemShelf<'_>,
     out: &mut MemSink,
 ) -> io::Result<bool> {
-    match check_with_bad_pieces(rt.alloc(), torrent, shelf, Lines::All, out) {
+    match say_check_with_bad_pieces(rt.alloc(), torrent, shelf, Lines::All, out) {
         Ok(report) => print_verdicts(rt, &report)?,
         Err(CheckFault::NoMemory) => return Ok(false),
         Err(fault) => println!(rt; "{fault}")?,

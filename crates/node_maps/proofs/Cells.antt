@@ -18,6 +18,7 @@ use Rattle.node_maps.specs.Digest.{Hash}
 use Rattle.node_maps.specs.Places.{IsTreePlace}
 use Rattle.node_maps.specs.Known.{Marked, place_cmp, look, within, tabulate}
 use Rattle.node_maps.specs.Flat.{FlatRow, cells, row_cells, HasCell, HasTreeCells, marks_below, marked_leaves}
+use Rattle.node_maps.specs.Pages.{marks_where}
 use Rattle.node_maps.proofs.Known.{nat_equal, same_known, look-within, within-at}
 
 -- ---- rows
@@ -92,30 +93,51 @@ pub no_marks : (marks : List Bool) → marks ≡ [] → marked_leaves marks ≡ 
 unfolding marks_below
 no_marks marks none = ap marked_leaves none
 
-pub contains-marks_below : (marks : List Bool) (n i : ℕ) → set.contains (marks_below marks n) i ≡ (ltb i n && get_or marks i false)
-unfolding marks_below
-contains-marks_below marks zero i = contains-empty nat_cmp i ∙ sym (and_left (ltb i 0) (get_or marks i false) (le-ltb i 0 (omega arith)))
-contains-marks_below marks (suc n) i = by_mark (contains-marks_below marks n i) (get_or marks n false) refl (cases_eq i n)
+-- a number is among those below n for which f holds
+contains-marks_where : (f : ℕ → Bool) (n i : ℕ) → set.contains (marks_where f n) i ≡ (ltb i n && f i)
+unfolding marks_where
+contains-marks_where f zero i = contains-empty nat_cmp i ∙ sym (and_left (ltb i 0) (f i) (le-ltb i 0 (omega arith)))
+contains-marks_where f (suc n) i = by_mark (contains-marks_where f n i) (f n) refl (cases_eq i n)
   where
-    below : i ≢ n → (ltb i n && get_or marks i false) ≡ (ltb i (suc n) && get_or marks i false)
-    below other = ap (λ b. b && get_or marks i false) (elim (cases_lt i n) [
+    below : i ≢ n → (ltb i n && f i) ≡ (ltb i (suc n) && f i)
+    below other = ap (λ b. b && f i) (elim (cases_lt i n) [
       | inl low ↦ lt-ltb i n low ∙ sym (lt-ltb i (suc n) (omega arith))
       | inr high ↦ le-ltb i n high ∙ sym (le-ltb i (suc n) (omega arith))
     ])
 
-    here : i ≡ n → (ltb i (suc n) && get_or marks i false) ≡ get_or marks n false
-    here same = ap (λ b. b && get_or marks i false) (lt-ltb i (suc n) (omega arith)) ∙ ap (λ k. get_or marks k false) same
+    here : i ≡ n → (ltb i (suc n) && f i) ≡ f n
+    here same = ap (λ b. b && f i) (lt-ltb i (suc n) (omega arith)) ∙ ap f same
 
-    by_mark : set.contains (marks_below marks n) i ≡ (ltb i n && get_or marks i false) → (b : Bool) → get_or marks n false ≡ b → (i ≡ n) ⊎ (i ≢ n)
-        → set.contains (cond b (set.insert (marks_below marks n) n) (marks_below marks n)) i ≡ (ltb i (suc n) && get_or marks i false)
-    by_mark before true e (inl same) = contains-insert nat_cmp_total (marks_below marks n) n i
-        ∙ or_left (eq_by_cmp nat_cmp i n) (set.contains (marks_below marks n) i) (nat_equal i n ∙ eq-eqb i n same) ∙ sym (here same ∙ e)
-    by_mark before true e (inr other) = contains-insert nat_cmp_total (marks_below marks n) n i
-        ∙ ap (λ b. b || set.contains (marks_below marks n) i) (nat_equal i n ∙ ne_eqb i n other)
+    by_mark : set.contains (marks_where f n) i ≡ (ltb i n && f i) → (b : Bool) → f n ≡ b → (i ≡ n) ⊎ (i ≢ n)
+        → set.contains (cond b (set.insert (marks_where f n) n) (marks_where f n)) i ≡ (ltb i (suc n) && f i)
+    by_mark before true e (inl same) = contains-insert nat_cmp_total (marks_where f n) n i
+        ∙ or_left (eq_by_cmp nat_cmp i n) (set.contains (marks_where f n) i) (nat_equal i n ∙ eq-eqb i n same) ∙ sym (here same ∙ e)
+    by_mark before true e (inr other) = contains-insert nat_cmp_total (marks_where f n) n i
+        ∙ ap (λ b. b || set.contains (marks_where f n) i) (nat_equal i n ∙ ne_eqb i n other)
         ∙ before ∙ below other
     by_mark before false e (inl same) = before
-        ∙ and_left (ltb i n) (get_or marks i false) (le-ltb i n (omega arith)) ∙ sym (here same ∙ e)
+        ∙ and_left (ltb i n) (f i) (le-ltb i n (omega arith)) ∙ sym (here same ∙ e)
     by_mark before false e (inr other) = before ∙ below other
+
+-- and where those for which f holds are all below n, it is among them where f holds
+pub contains-marks_of : (f : ℕ → Bool) (n i : ℕ) → (f i ≡ true → i < n) → set.contains (marks_where f n) i ≡ f i
+contains-marks_of f n i low = contains-marks_where f n i ∙ by_test (f i) refl
+  where
+    and_no : (t : Bool) → (t && false) ≡ false
+    and_no true = refl
+    and_no false = refl
+
+    by_test : (b : Bool) → f i ≡ b → (ltb i n && b) ≡ b
+    by_test true e = ap (λ t. t && true) (lt-ltb i n (low e))
+    by_test false e = and_no (ltb i n)
+
+marks_below-where : (marks : List Bool) (n : ℕ) → marks_below marks n ≡ marks_where (λ i. get_or marks i false) n
+unfolding marks_below marks_where
+marks_below-where marks zero = refl
+marks_below-where marks (suc n) = ap (λ s. cond (get_or marks n false) (set.insert s n) s) (marks_below-where marks n)
+
+contains-marks_below : (marks : List Bool) (n i : ℕ) → set.contains (marks_below marks n) i ≡ (ltb i n && get_or marks i false)
+contains-marks_below marks n i = ap (λ s. set.contains s i) (marks_below-where marks n) ∙ contains-marks_where (λ j. get_or marks j false) n i
 
 -- a number is among the marked leaves where its mark is set
 pub contains-marked : (marks : List Bool) (i : ℕ) → set.contains (marked_leaves marks) i ≡ get_or marks i false

@@ -1,5 +1,5 @@
 -- Rows of cells in which one row was changed.
-use Rattle.std.proofs.Common.{◌≡◌, ◌≢◌, ◌⊎◌, ℕ, zero, suc, ◌<◌, ◌≤◌, List, [], ◌∷◌, ◌++◌, length, get_or, take, replicate, set, Option, None}
+use Rattle.std.proofs.Common.{◌≡◌, ◌≢◌, ◌⊎◌, ℕ, zero, suc, ◌<◌, ◌≤◌, List, [], ◌∷◌, ◌++◌, length, take, replicate, set, Option, None}
 use Rattle.std.proofs.Common.{inl, inr, refl, ap, ◌∙◌, arith}
 use Rattle.std.specs.Prelude.{slice_get}
 use Rattle.std.specs.Option.{option_and_then, option_map, unwrap_or}
@@ -8,7 +8,7 @@ use Rattle.std.proofs.lemmas.List.{take_all}
 use Rattle.std.proofs.lemmas.Option.{slice_get_past}
 use Rattle.node_maps.specs.Digest.{Hash}
 use Rattle.node_maps.specs.Flat.{FlatRow, row_cells, AreSameFlatCells, AreSameFlatCellsBut}
-use Rattle.node_maps.proofs.Rows.{each_item}
+use Rattle.node_maps.proofs.Rows.{IsItemAt, each_item}
 
 -- the hash in a cell, if the cell is there and holds one
 abbrev pub hash_at : List (Option Hash) → ℕ → Option Hash
@@ -43,20 +43,20 @@ cell-row rows l i there = elim (cases_lt l (length rows)) [
       absurd (omega arith)
 ]
 
-module _ (rows : List FlatRow) (layer : ℕ) (row new : FlatRow) (low : layer < length rows) (is : row ≡ get_or rows layer row) where
+module _ {rows : List FlatRow} {layer : ℕ} {row : FlatRow} (x : IsItemAt rows layer row) (new : FlatRow) where
   pub flat-cells : ((i : ℕ) → hash_at new.items i ≡ hash_at row.items i) → AreSameFlatCells rows (set rows layer new)
   flat-cells same l i =
       let at : Option FlatRow → Option Hash = option_and_then (λ (r : FlatRow). hash_at r.items i) in
-      each_item (λ _ (o p : Option FlatRow). at p ≡ at o) rows layer row new low is (same i) (λ _ _. refl) l
+      each_item (λ _ (o p : Option FlatRow). at p ≡ at o) rows layer row new x.low x.is (same i) (λ _ _. refl) l
 
   pub flat-cells_but : (index : ℕ) → ((i : ℕ) → i ≢ index → hash_at new.items i ≡ hash_at row.items i)
       → AreSameFlatCellsBut layer index rows (set rows layer new)
   flat-cells_but index same l i =
       let at : Option FlatRow → Option Hash = option_and_then (λ (r : FlatRow). hash_at r.items i) in
-      each_item (λ k (o p : Option FlatRow). (k ≢ layer) ⊎ (i ≢ index) → at p ≡ at o) rows layer row new low is
+      each_item (λ k (o p : Option FlatRow). (k ≢ layer) ⊎ (i ≢ index) → at p ≡ at o) rows layer row new x.low x.is
       (λ d. elim d [ inl other ↦ absurd (other refl) | inr other ↦ same i other ]) (λ _ _ _. refl) l
 
   pub flat-others : (l : ℕ) → l ≢ layer → row_cells (set rows layer new) l ≡ row_cells rows l
   flat-others l other =
       let long : Option FlatRow → ℕ = λ (o : Option FlatRow). unwrap_or (option_map (λ (r : FlatRow). length r.items) o) 0 in
-      each_item (λ k (o p : Option FlatRow). k ≢ layer → long p ≡ long o) rows layer row new low is (λ no. absurd (no refl)) (λ _ _ _. refl) l other
+      each_item (λ k (o p : Option FlatRow). k ≢ layer → long p ≡ long o) rows layer row new x.low x.is (λ no. absurd (no refl)) (λ _ _ _. refl) l other

@@ -7,7 +7,7 @@ use Rattle.std.proofs.lemmas.Bool.{cases_eq, cond-true, cond-false, eq-eqb, ne_e
 use Rattle.node_maps.specs.Cell.{is_blank}
 use Rattle.node_maps.specs.declared.page.Page.{Page}
 use Rattle.node_maps.specs.Pages.{Numbered, AreAlike, IsChanged, is_spare}
-use Rattle.node_maps.proofs.Pages.{changed_here, changed-self}
+use Rattle.node_maps.proofs.Pages.{AddsBlank, changed_here, changed-self}
 use Rattle.node_maps.specs.Growth.{AreMade, IsGrown, IsGrownByOne}
 
 rest : List ℕ → List ℕ
@@ -45,14 +45,14 @@ made-alike old fresh c (n ∷ made) new g f' c' (mid, f, d, are, is) alike = (
 )
 
 -- a page that holds nothing was made and noted
-pub added-grown : (f g : Numbered) (q : ℕ) (p : Page) → f q ≡ None → IsChanged q (Some p) f g → p.kept.items ≡ []
-    → (fresh : List ℕ) (count : ℕ) (noted : List ℕ) → noted ≡ fresh ++ q ∷ [] → IsGrownByOne f fresh count g noted (count + 1)
-added-grown f g q p none is blank fresh count noted more = inr (
+pub added-grown : {f g : Numbered} {q : ℕ} {p : Page} → AddsBlank f g q p → (fresh : List ℕ) (count : ℕ) (noted : List ℕ) → noted ≡ fresh ++ q ∷ []
+    → IsGrownByOne f fresh count g noted (count + 1)
+added-grown {f} {g} {q} {p} x fresh count noted more = inr (
   q,
   record {
-    absent = none;
-    changed = changed-self q (Some p) f g is;
-    spare = ap is_spare (changed_here f g q (Some p) is) ∙ ap is_blank blank;
+    absent = x.none;
+    changed = changed-self q (Some p) f g x.changed;
+    spare = ap is_spare (changed_here f g q (Some p) x.changed) ∙ ap is_blank x.blank;
     noted = more;
     counted = refl;
   },

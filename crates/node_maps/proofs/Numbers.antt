@@ -1,40 +1,16 @@
 -- How many numbers have a page.
-use Rattle.std.proofs.Common.{◌≡◌, ◌≢◌, ◌⊎◌, ℕ, zero, suc, ◌+◌, ◌-◌, ◌^◌, ◌<◌, ◌≤◌, Bool, true, false, cond, eqb, ltb, not, ◌&&◌, ◌||◌, Some, None, is_some}
+use Rattle.std.proofs.Common.{◌≡◌, ◌≢◌, ℕ, zero, suc, ◌+◌, ◌-◌, ◌^◌, ◌<◌, ◌≤◌, Bool, true, false, cond, eqb, not, ◌&&◌, ◌||◌, Some, None, is_some}
 use Rattle.std.proofs.Common.{inl, inr, refl, sym, ap, ap₂, ◌∙◌, arith}
 use Rattle.std.specs.FinSet as set
 use Rattle.std.specs.Ordering.{nat_cmp, eq_by_cmp}
 use Rattle.std.specs.Cmp.{nat_cmp_total}
-use Rattle.std.proofs.lemmas.Bool.{cases_eq, cases_lt, and_left, or_left, lt-ltb, le-ltb, eq-eqb, ne_eqb, eqb-true, false≢true}
+use Rattle.std.proofs.lemmas.Bool.{cases_eq, eq-eqb, ne_eqb, eqb-true, false≢true}
 use Rattle.node_maps.specs.declared.page.Page.{Page}
-use Rattle.std.specs.FinSet.{same_set, contains-insert, contains-empty, nat_cmp-IsAntisymmetric}
+use Rattle.std.specs.FinSet.{same_set, nat_cmp-IsAntisymmetric}
 use Rattle.node_maps.specs.Pages.{Numbered, IsChanged, marks_where, AreCounted}
 use Rattle.node_maps.proofs.Known.{nat_equal}
-use Rattle.node_maps.proofs.Cells.{len-marked}
-
-pub contains-marks_where : (f : ℕ → Bool) (n i : ℕ) → set.contains (marks_where f n) i ≡ (ltb i n && f i)
-unfolding marks_where
-contains-marks_where f zero i = contains-empty nat_cmp i ∙ sym (and_left (ltb i 0) (f i) (le-ltb i 0 (omega arith)))
-contains-marks_where f (suc n) i = by_mark (contains-marks_where f n i) (f n) refl (cases_eq i n)
-  where
-    below : i ≢ n → (ltb i n && f i) ≡ (ltb i (suc n) && f i)
-    below other = ap (λ b. b && f i) (elim (cases_lt i n) [
-      | inl low ↦ lt-ltb i n low ∙ sym (lt-ltb i (suc n) (omega arith))
-      | inr high ↦ le-ltb i n high ∙ sym (le-ltb i (suc n) (omega arith))
-    ])
-
-    here : i ≡ n → (ltb i (suc n) && f i) ≡ f n
-    here same = ap (λ b. b && f i) (lt-ltb i (suc n) (omega arith)) ∙ ap f same
-
-    by_mark : set.contains (marks_where f n) i ≡ (ltb i n && f i) → (b : Bool) → f n ≡ b → (i ≡ n) ⊎ (i ≢ n)
-        → set.contains (cond b (set.insert (marks_where f n) n) (marks_where f n)) i ≡ (ltb i (suc n) && f i)
-    by_mark before true e (inl same) = contains-insert nat_cmp_total (marks_where f n) n i
-        ∙ or_left (eq_by_cmp nat_cmp i n) (set.contains (marks_where f n) i) (nat_equal i n ∙ eq-eqb i n same) ∙ sym (here same ∙ e)
-    by_mark before true e (inr other) = contains-insert nat_cmp_total (marks_where f n) n i
-        ∙ ap (λ b. b || set.contains (marks_where f n) i) (nat_equal i n ∙ ne_eqb i n other)
-        ∙ before ∙ below other
-    by_mark before false e (inl same) = before
-        ∙ and_left (ltb i n) (f i) (le-ltb i n (omega arith)) ∙ sym (here same ∙ e)
-    by_mark before false e (inr other) = before ∙ below other
+use Rattle.node_maps.proofs.Pages.{AddsBlank}
+use Rattle.node_maps.proofs.Cells.{contains-marks_of, len-marked}
 
 -- the numbers that have a page, as a set
 record HaveNumbers (f : Numbered) (c : ℕ) : Type 0 where
@@ -52,33 +28,14 @@ to_set f c is = record {
 }
   where
     are : (n : ℕ) → set.contains (marks_where (λ n. is_some (f n)) (2 ^ 32)) n ≡ is_some (f n)
-    are n = contains-marks_where (λ k. is_some (f k)) (2 ^ 32) n ∙ by_test (is_some (f n)) refl
-      where
-        by_test : (b : Bool) → is_some (f n) ≡ b → (ltb n (2 ^ 32) && b) ≡ b
-        by_test true e = ap (λ t. t && true) (lt-ltb n (2 ^ 32) (is.low n e))
-        by_test false e = and_no (ltb n (2 ^ 32))
-          where
-            and_no : (t : Bool) → (t && false) ≡ false
-            and_no true = refl
-            and_no false = refl
+    are n = contains-marks_of (λ k. is_some (f k)) (2 ^ 32) n (is.low n)
 
 from_set : (f : Numbered) (c : ℕ) → HaveNumbers f c → AreCounted f c
 from_set f c has = record {
   count_is = has.count_is ∙ ap set.len (same_set nat_cmp_total nat_cmp-IsAntisymmetric has.numbers (marks_where (λ n. is_some (f n)) (2 ^ 32))
-      (λ n. has.are n ∙ sym ((to_set_are n))));
+      (λ n. has.are n ∙ sym (contains-marks_of (λ k. is_some (f k)) (2 ^ 32) n (λ e. has.low n (has.are n ∙ e)))));
   low = λ n e. has.low n (has.are n ∙ e);
 }
-  where
-    to_set_are : (n : ℕ) → set.contains (marks_where (λ n. is_some (f n)) (2 ^ 32)) n ≡ is_some (f n)
-    to_set_are n = contains-marks_where (λ k. is_some (f k)) (2 ^ 32) n ∙ by_test (is_some (f n)) refl
-      where
-        by_test : (b : Bool) → is_some (f n) ≡ b → (ltb n (2 ^ 32) && b) ≡ b
-        by_test true e = ap (λ t. t && true) (lt-ltb n (2 ^ 32) (has.low n (has.are n ∙ e)))
-        by_test false e = and_no (ltb n (2 ^ 32))
-          where
-            and_no : (t : Bool) → (t && false) ≡ false
-            and_no true = refl
-            and_no false = refl
 
 numbers-none : (f : Numbered) → ((n : ℕ) → f n ≡ None) → HaveNumbers f 0
 numbers-none f none = record {
@@ -160,8 +117,8 @@ counted-same f g c same is = from_set g c (numbers-same f g c same (to_set f c i
 pub counted-few : (f : Numbered) (c : ℕ) → AreCounted f c → c ≤ 2 ^ 32
 counted-few f c is = numbers-few f c (to_set f c is)
 
-pub counted-more : (f g : Numbered) (q c : ℕ) (p : Page) → AreCounted f c → f q ≡ None → IsChanged q (Some p) f g → q < 2 ^ 32 → AreCounted g (c + 1)
-counted-more f g q c p is none changed small = from_set g (c + 1) (numbers-more f g q c (to_set f c is) p none changed small)
+pub counted-more : {f g : Numbered} {q : ℕ} {p : Page} (c : ℕ) → AddsBlank f g q p → AreCounted f c → q < 2 ^ 32 → AreCounted g (c + 1)
+counted-more {f} {g} {q} {p} c x is small = from_set g (c + 1) (numbers-more f g q c (to_set f c is) p x.none x.changed small)
 
 pub counted-some : (f : Numbered) (q c : ℕ) → AreCounted f c → is_some (f q) ≡ true → 1 ≤ c
 counted-some f q c is there = numbers-some f f q c (to_set f c is) there
@@ -170,5 +127,4 @@ pub counted-less : (f g : Numbered) (q c : ℕ) → AreCounted f c → is_some (
 counted-less f g q c is there changed = from_set g (c - 1) (numbers-less f g q c (to_set f c is) there changed)
 
 pub counted-are : (f : Numbered) (c : ℕ) → AreCounted f c → (n : ℕ) → set.contains (marks_where (λ k. is_some (f k)) (2 ^ 32)) n ≡ is_some (f n)
-unfolding marks_where to_set
-counted-are f c is n = (to_set f c is).are n
+counted-are f c is n = contains-marks_of (λ k. is_some (f k)) (2 ^ 32) n (is.low n)

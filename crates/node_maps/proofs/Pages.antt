@@ -1,5 +1,5 @@
 -- The pages of a layer, when one is added, written or given back.
-use Rattle.std.proofs.Common.{◌≡◌, ◌≢◌, ◌⊎◌, ℕ, zero, suc, ◌^◌, Bool, true, false, cond, eqb, ◌||◌, List, [], ◌∷◌, ◌++◌, length, get_or, set}
+use Rattle.std.proofs.Common.{◌≡◌, ◌≢◌, ◌⊎◌, ℕ, zero, suc, ◌^◌, Bool, true, false, cond, eqb, ◌||◌, List, [], ◌∷◌, ◌++◌, get_or, set}
 use Rattle.std.proofs.Common.{Bor, Option, Some, None, IsSome, is_some, ◌/◌, ◌%◌, inl, inr, refl, sym, ap, ◌∙◌, subst, arith}
 use Rattle.std.proofs.lemmas.Bool.{cases_eq, false≢true, cond-true, cond-false, eq-eqb, ne_eqb, or_left}
 use Rattle.std.proofs.lemmas.Bool.Decides.{nat_tests}
@@ -12,8 +12,8 @@ use Rattle.std.proofs.lemmas.List.{get_or-set_same}
 use Rattle.std.specs.Bool.{OnTrue}
 use Rattle.std.specs.Option.{option_map}
 use Rattle.std.specs.List.{insert, remove}
-use Rattle.node_maps.specs.Rising.{AreNumbersRising, IsNumberAt, IsGapFor, page_numbered}
-use Rattle.node_maps.proofs.Rising.{stands, found_gap, set-found, set-beside, insert-found, remove-found, within_items}
+use Rattle.node_maps.specs.Rising.{IsGapFor, page_numbered}
+use Rattle.node_maps.proofs.Rising.{HasItemAt, HasGap, stands, found_gap, set-found, found-written, insert-found, remove-found, within_items}
 use Rattle.node_maps.specs.Pages.{Numbered, page_within, find_under, cell_of, cell_in, is_among, is_spare, AreAlike, IsChanged, IsPut, AreSpare}
 
 -- ---- the fresh numbers
@@ -133,61 +133,60 @@ changed-twice q o f g h first second n = second n ∙ ap (cond (eqb q n) o) (fir
 
 -- ---- a number whose first bits a search found
 
-module _ {D : Type 0} (find : D → Numbered) (ns : List ℕ) (ds : List D) (rising : AreNumbersRising ns) (beside : length ds ≡ length ns) (shift q at : ℕ) where
-  abbrev key : ℕ
-  key = q / 2 ^ shift
+pub under_gap : {D : Type 0} (find : D → Numbered) (ns : List ℕ) (ds : List D) (shift q at : ℕ) → IsGapFor ns (q / 2 ^ shift) at
+    → find_under find ns ds shift q ≡ None
+under_gap find ns ds shift q at gap = ap (λ o. page_within find o q) (found_gap ns ds (q / 2 ^ shift) at gap)
 
-  pub under_there : IsNumberAt ns (q / 2 ^ shift) at → (d : D) → d ≡ get_or ds at d → find_under find ns ds shift q ≡ find d q
-  under_there is d here = ap (λ o. page_within find o q) (stands ns ds rising beside key at is d here)
+pub under-insert : {D : Type 0} (find : D → Numbered) {ns : List ℕ} {ds : List D} {at : ℕ} (shift q : ℕ) (x : HasGap ns ds (q / 2 ^ shift) at)
+    → (empty : Numbered) → ((n : ℕ) → empty n ≡ None) → (w : D) (page : Option Page) → IsChanged q page empty (find w) → {ms : List ℕ} {ys : List D}
+    → ms ≡ insert ns at (q / 2 ^ shift) → ys ≡ insert ds at w → IsChanged q page (find_under find ns ds shift) (find_under find ms ys shift)
+under-insert find {ns} {ds} {at} shift q x empty none w page below {ms} {ys} numbers items =
+    under_changed find (λ n. n / 2 ^ shift) (page_numbered ns ds) (page_numbered ms ys) q (Some w) page (insert-found x w numbers items)
+    (λ n. below n ∙ ap (cond (eqb q n) page) (none n ∙ sym (ap (λ o. page_within find o n) (found_gap ns ds (q / 2 ^ shift) at x.gap))))
 
-  pub under_gap : IsGapFor ns (q / 2 ^ shift) at → find_under find ns ds shift q ≡ None
-  under_gap gap = ap (λ o. page_within find o q) (found_gap ns ds key at gap)
+-- an index that is empty is given back
+under-remove : {D : Type 0} (find : D → Numbered) {ns : List ℕ} {ds : List D} {at : ℕ} (shift q : ℕ) (x : HasItemAt ns ds (q / 2 ^ shift) at)
+    → (d : D) → d ≡ get_or ds at d → ((n : ℕ) → find d n ≡ None) → {ms : List ℕ} {ys : List D} → ms ≡ remove ns at → ys ≡ remove ds at
+    → IsChanged q None (find_under find ns ds shift) (find_under find ms ys shift)
+under-remove find {ns} {ds} {at} shift q x d here none {ms} {ys} numbers items =
+    under_changed find (λ n. n / 2 ^ shift) (page_numbered ns ds) (page_numbered ms ys) q None None (remove-found x numbers items)
+    (λ n. sym (ap (cond (eqb q n) None) (ap (λ o. page_within find o n) (stands x d here) ∙ none n) ∙ both (eqb q n) None))
+  where
+    both : (b : Bool) (o : Option Page) → cond b o o ≡ o
+    both true o = refl
+    both false o = refl
 
-  pub under-set : IsNumberAt ns (q / 2 ^ shift) at → (d w : D) → d ≡ get_or ds at d → (page : Option Page) → IsChanged q page (find d) (find w)
+module _ {D : Type 0} (find : D → Numbered) {ns : List ℕ} {ds : List D} {at : ℕ} (shift q : ℕ) (x : HasItemAt ns ds (q / 2 ^ shift) at) (d : D)
+    (here : d ≡ get_or ds at d) where
+  pub under_there : find_under find ns ds shift q ≡ find d q
+  under_there = ap (λ o. page_within find o q) (stands x d here)
+
+  pub under-set : (w : D) (page : Option Page) → IsChanged q page (find d) (find w)
       → IsChanged q page (find_under find ns ds shift) (find_under find ns (set ds at w) shift)
-  under-set is d w here page below =
-      under_changed find (λ n. n / 2 ^ shift) (page_numbered ns ds) (page_numbered ns (set ds at w)) q (Some w) page (set-found ns ds rising beside key at is w)
-      (subst (λ o. IsChanged q page (page_within find o) (find w)) (sym (stands ns ds rising beside key at is d here)) below)
+  under-set w page below =
+      under_changed find (λ n. n / 2 ^ shift) (page_numbered ns ds) (page_numbered ns (set ds at w)) q (Some w) page (set-found x w)
+      (subst (λ o. IsChanged q page (page_within find o) (find w)) (sym (stands x d here)) below)
 
-  pub under-alike : IsNumberAt ns (q / 2 ^ shift) at → (d w : D) → d ≡ get_or ds at d → AreAlike (find d) (find w)
-      → AreAlike (find_under find ns ds shift) (find_under find ns (set ds at w) shift)
-  under-alike is d w here alike =
-      changed-alike q (find d q) (find_under find ns ds shift) (find_under find ns (set ds at w) shift) (sym (under_there is d here))
-      (under-set is d w here (find d q) (alike-changed q (find d) (find w) alike))
+  pub under-alike : (w : D) → AreAlike (find d) (find w) → AreAlike (find_under find ns ds shift) (find_under find ns (set ds at w) shift)
+  under-alike w alike =
+      changed-alike q (find d q) (find_under find ns ds shift) (find_under find ns (set ds at w) shift) (sym under_there)
+      (under-set w (find d q) (alike-changed q (find d) (find w) alike))
 
-  pub under-insert : IsGapFor ns (q / 2 ^ shift) at → (empty : Numbered) → ((n : ℕ) → empty n ≡ None) → (w : D) (page : Option Page)
-      → IsChanged q page empty (find w)
-      → IsChanged q page (find_under find ns ds shift) (find_under find (insert ns at (q / 2 ^ shift)) (insert ds at w) shift)
-  under-insert gap empty none w page below =
-      under_changed find (λ n. n / 2 ^ shift) (page_numbered ns ds) (page_numbered (insert ns at key) (insert ds at w)) q (Some w) page
-      (insert-found ns ds rising beside key at gap w)
-      (λ n. below n ∙ ap (cond (eqb q n) page) (none n ∙ sym (ap (λ o. page_within find o n) (found_gap ns ds key at gap))))
-
-  -- an index that is empty is given back
-  under-remove : IsNumberAt ns (q / 2 ^ shift) at → (d : D) → d ≡ get_or ds at d → ((n : ℕ) → find d n ≡ None)
-      → IsChanged q None (find_under find ns ds shift) (find_under find (remove ns at) (remove ds at) shift)
-  under-remove is d here none =
-      under_changed find (λ n. n / 2 ^ shift) (page_numbered ns ds) (page_numbered (remove ns at) (remove ds at)) q None None
-      (remove-found ns ds rising beside key at is)
-      (λ n. sym (ap (cond (eqb q n) None) (ap (λ o. page_within find o n) (stands ns ds rising beside key at is d here) ∙ none n) ∙ both (eqb q n) None))
-    where
-      both : (b : Bool) (o : Option Page) → cond b o o ≡ o
-      both true o = refl
-      both false o = refl
-
--- an index whose last page is given back goes with it
-pub under-emptied : {D : Type 0} (find : D → Numbered) (ns : List ℕ) (ds : List D) (rising : AreNumbersRising ns) (beside : length ds ≡ length ns)
-    (shift q at : ℕ)
-    → IsNumberAt ns (q / 2 ^ shift) at → (d w : D) → d ≡ get_or ds at d → IsChanged q None (find d) (find w) → ((n : ℕ) → find w n ≡ None)
-    → IsChanged q None (find_under find ns ds shift) (find_under find (remove ns at) (remove (set ds at w) at) shift)
-under-emptied find ns ds rising beside shift q at is d w here below none =
-    let beside' : length (set ds at w) ≡ length ns = set-beside ns ds rising beside (q / 2 ^ shift) at w in
-    let here' : w ≡ get_or (set ds at w) at w = sym (get_or-set_same ds at w w (within_items ns ds rising beside (q / 2 ^ shift) at is)) in
-    changed-twice q None (find_under find ns ds shift) (find_under find ns (set ds at w) shift) (find_under find (remove ns at) (remove (set ds at w) at) shift)
-    (under-set find ns ds rising beside shift q at is d w here None below)
-    (under-remove find ns (set ds at w) rising beside' shift q at is w here' none)
+  -- an index whose last page is given back goes with it
+  pub under-emptied : (w : D) → IsChanged q None (find d) (find w) → ((n : ℕ) → find w n ≡ None) → {ms : List ℕ} {ys : List D} → ms ≡ remove ns at
+      → ys ≡ remove (set ds at w) at → IsChanged q None (find_under find ns ds shift) (find_under find ms ys shift)
+  under-emptied w below none {ms} {ys} numbers items =
+      changed-twice q None (find_under find ns ds shift) (find_under find ns (set ds at w) shift) (find_under find ms ys shift)
+      (under-set w None below)
+      (under-remove find shift q (found-written x w) w (sym (get_or-set_same ds at w w (within_items x))) none numbers items)
 
 -- ---- pages that hold nothing
+
+-- a page that holds nothing was added, of a number that had none
+pub record AddsBlank (f g : Numbered) (q : ℕ) (p : Page) : Type 0 where
+  pub none : f q ≡ None
+  pub changed : IsChanged q (Some p) f g
+  pub blank : p.kept.items ≡ []
 
 pub spare-some : (o : Option Page) → is_spare o ≡ true → is_some o ≡ true
 spare-some None e = absurd (false≢true e)
@@ -205,19 +204,6 @@ with_hash-holds c h mark = by_mark (mark || mark_of c)
     by_mark false e = false≢true (ap is_empty e)
 
 module _ (f g : Numbered) (q : ℕ) where
-  -- one is added
-  module _ (p : Page) (none : f q ≡ None) (is : IsChanged q (Some p) f g) (items : p.kept.items ≡ []) where
-    pub added-cells : (i : ℕ) → cell_in g i ≡ cell_in f i
-    added-cells = changed_alike f g q (Some p) is (λ k. ap (λ xs. get_or xs k Empty) items ∙ sym (ap (λ o. cell_of o k) none))
-
-    pub added-spare : (fresh : List ℕ) → AreSpare f fresh → AreSpare g (fresh ++ q ∷ [])
-    added-spare fresh spare = record {
-      known = λ n e. among-push n q fresh ∙ elim (cases_eq q n) [
-        | inl same ↦ or_right (is_among n fresh) (eqb q n) (eq-eqb q n same)
-        | inr other ↦ or_left (is_among n fresh) (eqb q n) (spare.known n (ap is_spare (sym (changed_other f g q (Some p) is n (λ e. other (sym e)))) ∙ e))
-      ];
-    }
-
   -- one is given back
   module _ (is : IsChanged q None f g) where
     pub gone-cells : is_spare (f q) ≡ true → (i : ℕ) → cell_in g i ≡ cell_in f i
@@ -247,12 +233,24 @@ module _ (f g : Numbered) (q : ℕ) where
       | inr other ↦ ap is_some (changed_other f g q (g q) is n other)
     ]
 
--- a page more leaves each other there
-pub changed-keeps : (f g : Numbered) (q : ℕ) (p : Page) → IsChanged q (Some p) f g → (n : ℕ) → IsSome (f n) → IsSome (g n)
-changed-keeps f g q p is n was = elim (cases_eq n q) [
-  | inl same ↦ ap (λ k. is_some (g k)) same ∙ ap is_some (changed_here f g q (Some p) is)
-  | inr other ↦ ap is_some (changed_other f g q (Some p) is n other) ∙ was
-]
+module _ {f g : Numbered} {q : ℕ} {p : Page} (x : AddsBlank f g q p) where
+  pub added-cells : (i : ℕ) → cell_in g i ≡ cell_in f i
+  added-cells = changed_alike f g q (Some p) x.changed (λ k. ap (λ xs. get_or xs k Empty) x.blank ∙ sym (ap (λ o. cell_of o k) x.none))
+
+  pub added-spare : (fresh : List ℕ) → AreSpare f fresh → AreSpare g (fresh ++ q ∷ [])
+  added-spare fresh spare = record {
+    known = λ n e. among-push n q fresh ∙ elim (cases_eq q n) [
+      | inl same ↦ or_right (is_among n fresh) (eqb q n) (eq-eqb q n same)
+      | inr other ↦ or_left (is_among n fresh) (eqb q n) (spare.known n (ap is_spare (sym (changed_other f g q (Some p) x.changed n (λ e. other (sym e)))) ∙ e))
+    ];
+  }
+
+  -- each page that was there is there
+  pub changed-keeps : (n : ℕ) → IsSome (f n) → IsSome (g n)
+  changed-keeps n was = elim (cases_eq n q) [
+    | inl same ↦ ap (λ k. is_some (g k)) same ∙ ap is_some (changed_here f g q (Some p) x.changed)
+    | inr other ↦ ap is_some (changed_other f g q (Some p) x.changed n other) ∙ was
+  ]
 
 -- the same pages have the same cells
 pub alike-cells : (f g : Numbered) → AreAlike f g → (i : ℕ) → cell_in g i ≡ cell_in f i

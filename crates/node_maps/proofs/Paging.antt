@@ -1,5 +1,5 @@
 -- Rows of pages, when they grow, when a cell is written, and when they are trimmed.
-use Rattle.std.proofs.Common.{◌≡◌, ◌≢◌, ◌⊎◌, ℕ, zero, suc, ◌+◌, ◌-◌, ◌/◌, ◌%◌, ◌^◌, ◌<◌, ◌≤◌, Bool, true, false, cond, eqb, ltb, ◌&&◌, ◌||◌, List, [], ◌∷◌}
+use Rattle.std.proofs.Common.{◌≡◌, ◌≢◌, ◌⊎◌, ℕ, zero, suc, ◌+◌, ◌-◌, ◌/◌, ◌%◌, ◌^◌, ◌<◌, ◌≤◌, Bool, true, false, cond, eqb, ltb, ◌||◌, List, [], ◌∷◌}
 use Rattle.std.proofs.Common.{length, get_or, Option, Some, None, inl, inr, refl, sym, ap, ap₂, ◌∙◌, subst, arith}
 use Rattle.std.specs.Prelude.{slice_get}
 use Rattle.std.specs.Option.{option_and_then, option_map, unwrap_or}
@@ -9,7 +9,7 @@ use Rattle.std.specs.FinSet.{same_set, contains-insert, nat_cmp-IsAntisymmetric}
 use Rattle.std.specs.Ordering.{nat_cmp, eq_by_cmp}
 use Rattle.std.specs.Cmp.{nat_cmp_total}
 use Rattle.std.proofs.lemmas.Bool.Decides.{nat_tests}
-use Rattle.std.proofs.lemmas.Bool.{cases_lt, cases_eq, cond-false, or_left, eq-eqb, ne_eqb, lt-ltb, false≢true}
+use Rattle.std.proofs.lemmas.Bool.{cases_lt, cases_eq, cond-false, or_left, eq-eqb, ne_eqb, false≢true}
 use Rattle.std.proofs.lemmas.Option.{none-some, slice_get_past, slice_get_read}
 use Rattle.node_maps.specs.declared.paged_row.PagedRow.{PagedRow}
 use Rattle.node_maps.specs.declared.page.Cell.{Cell}
@@ -22,7 +22,7 @@ use Rattle.node_maps.specs.Room.{page_span}
 use Rattle.node_maps.specs.Paged.{cell_at, hashes, HoldsTree, marked_cells, row_pages, held_below, held_pages, AreTrimmed, AreNotMore, GrowsBy}
 use Rattle.node_maps.specs.Pages.{marks_where, cell_of}
 use Rattle.node_maps.specs.PagedRow.{pages_of, row_hashes}
-use Rattle.node_maps.proofs.Numbers.{contains-marks_where}
+use Rattle.node_maps.proofs.Cells.{contains-marks_of}
 use Rattle.node_maps.proofs.Known.{nat_equal, same_known, look-within, within-at, tabulate-put}
 
 -- ---- a cell with a hash
@@ -91,17 +91,8 @@ leaf_low h i at = subst (λ k. i < 2 ^ k) (let e : h - 0 ≡ h = omega arith in 
 
 -- a number is among the marked leaves where its cell is marked
 pub contains-marked_cells : (h : ℕ) (rows : List PagedRow) → HoldsTree h rows → (i : ℕ) → set.contains (marked_cells h rows) i ≡ mark_of (cell_at rows 0 i)
-contains-marked_cells h rows in_tree i = contains-marks_where (λ k. mark_of (cell_at rows 0 k)) (2 ^ h) i ∙ by_mark (mark_of (cell_at rows 0 i)) refl
-  where
-    by_mark : (b : Bool) → mark_of (cell_at rows 0 i) ≡ b → (ltb i (2 ^ h) && mark_of (cell_at rows 0 i)) ≡ mark_of (cell_at rows 0 i)
-    by_mark true e =
-        let holds = mark_hash (cell_at rows 0 i) e in
-        ap (λ b. b && mark_of (cell_at rows 0 i)) (lt-ltb i (2 ^ h) (leaf_low h i (in_tree.place 0 i holds.0 holds.1)))
-    by_mark false e = ap (λ b. ltb i (2 ^ h) && b) e ∙ and_no (ltb i (2 ^ h)) ∙ sym e
-      where
-        and_no : (b : Bool) → (b && false) ≡ false
-        and_no true = refl
-        and_no false = refl
+contains-marked_cells h rows in_tree i = contains-marks_of (λ k. mark_of (cell_at rows 0 k)) (2 ^ h) i (λ e.
+    (let holds = mark_hash (cell_at rows 0 i) e in leaf_low h i (in_tree.place 0 i holds.0 holds.1)))
 
 -- ---- a cell that is written
 

@@ -1,6 +1,6 @@
 -- Rising numbers, and the item of a number when one is found, added, written or taken out.
 use Rattle.std.proofs.Common.{◌≡◌, ◌≢◌, ◌⊎◌, ℕ, zero, suc, ◌+◌, ◌-◌, ◌<◌, ◌≤◌, true, false, cond, eqb, List, [], ◌∷◌, length, get_or, set, Some, None, IsSome}
-use Rattle.std.proofs.Common.{is_some, Result, Ok, Err, IfOk, IfErr, MatchResult, inl, inr, refl, sym, ap, ◌∙◌, subst, arith}
+use Rattle.std.proofs.Common.{is_some, Result, Ok, Err, IfOk, IfErr, MatchResult, inl, inr, refl, sym, ap, ap₂, ◌∙◌, subst, arith}
 use Rattle.std.specs.List.{insert, remove}
 use Rattle.std.specs.List.Sorted.{IsBinarySearchResult}
 use Rattle.std.specs.Ordering.{nat_cmp}
@@ -115,7 +115,7 @@ pub found_gap : {A : Type 0} (ns : List ℕ) (ps : List A) (q i : ℕ) → IsGap
 found_gap ns ps q i gap = found_absent ns ps q
     (λ j lt same. elim (cases_lt j i) [ inl less ↦ omega (arith, gap.below j less) | inr more ↦ omega (arith, gap.above j more lt) ])
 
-pub rising-insert : (ns : List ℕ) (q at : ℕ) → IsGapFor ns q at → AreNumbersRising ns → AreNumbersRising (insert ns at q)
+rising-insert : (ns : List ℕ) (q at : ℕ) → IsGapFor ns q at → AreNumbersRising ns → AreNumbersRising (insert ns at q)
 rising-insert ns q at gap rising i j lt in_range =
     let new : List ℕ = insert ns at q in
     let length_new : length new ≡ suc (length ns) = length-insert ns at q gap.in_range ∙ omega arith in
@@ -126,7 +126,7 @@ rising-insert ns q at gap rising i j lt in_range =
     gap.in_range) in
     grind (arith, below' i, here i, above' i, below' j, here j, above' j, rising i j, rising i (j - 1), rising (i - 1) (j - 1), gap.below i, gap.above (j - 1))
 
-pub rising-remove : (ns : List ℕ) (at : ℕ) → at < length ns → AreNumbersRising ns → AreNumbersRising (remove ns at)
+rising-remove : (ns : List ℕ) (at : ℕ) → at < length ns → AreNumbersRising ns → AreNumbersRising (remove ns at)
 rising-remove ns at inside rising i j lt in_range =
     let new : List ℕ = remove ns at in
     let length_new : length new + 1 ≡ length ns = length-remove ns at inside in
@@ -136,29 +136,53 @@ rising-remove ns at inside rising i j lt in_range =
 
 -- ---- an item at a number that a search found
 
-module _ {A : Type 0} (ns : List ℕ) (xs : List A) (rising : AreNumbersRising ns) (beside : length xs ≡ length ns) (q at : ℕ) where
-  pub stands : IsNumberAt ns q at → (x : A) → x ≡ get_or xs at x → page_numbered ns xs q ≡ Some x
-  stands is x here = found_present ns xs q at x beside is (not_before_at ns rising q at is) ∙ ap Some (sym here)
+-- the number stands among rising numbers, beside each of which there is an item
+pub record HasItemAt {A : Type 0} (ns : List ℕ) (xs : List A) (q at : ℕ) : Type 0 where
+  pub rising : AreNumbersRising ns
+  pub beside : length xs ≡ length ns
+  pub is : IsNumberAt ns q at
 
-  pub within_items : IsNumberAt ns q at → at < length xs
-  within_items is = omega (arith, is.in_range, beside)
+-- it is not among them, and there is a gap for it
+pub record HasGap {A : Type 0} (ns : List ℕ) (xs : List A) (q at : ℕ) : Type 0 where
+  pub rising : AreNumbersRising ns
+  pub beside : length xs ≡ length ns
+  pub gap : IsGapFor ns q at
 
-  pub set-found : IsNumberAt ns q at → (w : A) (r : ℕ) → page_numbered ns (set xs at w) r ≡ cond (eqb q r) (Some w) (page_numbered ns xs r)
-  set-found is w = found-set ns xs q at w beside is (not_before_at ns rising q at is)
+module _ {A : Type 0} {ns : List ℕ} {xs : List A} {q at : ℕ} (x : HasItemAt ns xs q at) where
+  pub stands : (y : A) → y ≡ get_or xs at y → page_numbered ns xs q ≡ Some y
+  stands y here = found_present ns xs q at y x.beside x.is (not_before_at ns x.rising q at x.is) ∙ ap Some (sym here)
 
-  pub set-beside : (w : A) → length (set xs at w) ≡ length ns
-  set-beside w = length-set xs at w ∙ beside
+  pub within_items : at < length xs
+  within_items = omega (arith, x.is.in_range, x.beside)
 
-  pub insert-found : IsGapFor ns q at → (w : A) (r : ℕ) → page_numbered (insert ns at q) (insert xs at w) r ≡ cond (eqb q r) (Some w) (page_numbered ns xs r)
-  insert-found gap w = found-insert ns xs q at w beside (not_before_gap ns q at gap)
+  pub set-found : (w : A) (r : ℕ) → page_numbered ns (set xs at w) r ≡ cond (eqb q r) (Some w) (page_numbered ns xs r)
+  set-found w = found-set ns xs q at w x.beside x.is (not_before_at ns x.rising q at x.is)
 
-  pub insert-beside : IsGapFor ns q at → (w : A) → length (insert xs at w) ≡ length (insert ns at q)
-  insert-beside gap w = length-insert xs at w (omega (arith, gap.in_range, beside)) ∙ ap (λ n. n + 1) beside ∙ sym (length-insert ns at q gap.in_range)
+  pub found-written : (w : A) → HasItemAt ns (set xs at w) q at
+  found-written w = record { rising = x.rising; beside = length-set xs at w ∙ x.beside; is = x.is }
 
-  pub remove-found : IsNumberAt ns q at → (r : ℕ) → page_numbered (remove ns at) (remove xs at) r ≡ cond (eqb q r) None (page_numbered ns xs r)
-  remove-found is = found-remove ns xs q at beside is (not_elsewhere ns rising q at is)
+  -- both are taken out
+  module _ {ms : List ℕ} {ys : List A} (numbers : ms ≡ remove ns at) (items : ys ≡ remove xs at) where
+    pub remove-found : (r : ℕ) → page_numbered ms ys r ≡ cond (eqb q r) None (page_numbered ns xs r)
+    remove-found r = ap₂ (λ ms ys. page_numbered ms ys r) numbers items ∙ found-remove ns xs q at x.beside x.is (not_elsewhere ns x.rising q at x.is) r
 
-  pub remove-beside : IsNumberAt ns q at → length (remove xs at) ≡ length (remove ns at)
-  remove-beside is =
-      let inside : at < length xs = within_items is in
-      omega (arith, length-remove xs at inside, length-remove ns at is.in_range, beside)
+    pub remove-rising : AreNumbersRising ms
+    remove-rising = subst AreNumbersRising (sym numbers) (rising-remove ns at x.is.in_range x.rising)
+
+    pub remove-beside : length ys ≡ length ms
+    remove-beside =
+        omega (arith, ap length numbers, ap length items, length-remove xs at within_items, length-remove ns at x.is.in_range, x.beside)
+
+-- both are added
+module _ {A : Type 0} {ns : List ℕ} {xs : List A} {q at : ℕ} (x : HasGap ns xs q at) (w : A) {ms : List ℕ} {ys : List A} (numbers : ms ≡ insert ns at q)
+    (items : ys ≡ insert xs at w) where
+  pub insert-found : (r : ℕ) → page_numbered ms ys r ≡ cond (eqb q r) (Some w) (page_numbered ns xs r)
+  insert-found r = ap₂ (λ ms ys. page_numbered ms ys r) numbers items ∙ found-insert ns xs q at w x.beside (not_before_gap ns q at x.gap) r
+
+  pub insert-rising : AreNumbersRising ms
+  insert-rising = subst AreNumbersRising (sym numbers) (rising-insert ns q at x.gap x.rising)
+
+  pub insert-beside : length ys ≡ length ms
+  insert-beside =
+      let room : at ≤ length xs = omega (arith, x.gap.in_range, x.beside) in
+      omega (arith, ap length numbers, ap length items, length-insert xs at w room, length-insert ns at q x.gap.in_range, x.beside)

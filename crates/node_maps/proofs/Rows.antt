@@ -37,36 +37,41 @@ pub no_row : (rows : List PagedRow) (layer n : ℕ) → length rows ≤ layer �
 no_row rows layer n past some =
     false≢true (sym (ap (λ (o : Option PagedRow). is_some (option_and_then (λ (r : PagedRow). pages_of r n) o)) (slice_get_past rows layer past)) ∙ some)
 
-module _ (rows : List PagedRow) (layer : ℕ) (row new : PagedRow) (low : layer < length rows) (is : row ≡ get_or rows layer row) where
+-- the item stands at a place of a list
+pub record IsItemAt {X : Type 0} (xs : List X) (i : ℕ) (x : X) : Type 0 where
+  pub low : i < length xs
+  pub is : x ≡ get_or xs i x
+
+module _ {rows : List PagedRow} {layer : ℕ} {row : PagedRow} (x : IsItemAt rows layer row) (new : PagedRow) where
   pub row-cells : AreSameRowCells row new → AreSamePagedCells rows (set rows layer new)
   row-cells same l i =
       let at : Option PagedRow → Cell = λ (o : Option PagedRow). cell_of (option_and_then (λ (r : PagedRow). pages_of r (i / 512)) o) (i % 512) in
-      each_item (λ _ (o p : Option PagedRow). at p ≡ at o) rows layer row new low is (same i) (λ _ _. refl) l
+      each_item (λ _ (o p : Option PagedRow). at p ≡ at o) rows layer row new x.low x.is (same i) (λ _ _. refl) l
 
   pub row-cells_but : (index : ℕ) → AreSameRowCellsBut index row new → AreSamePagedCellsBut layer index rows (set rows layer new)
   row-cells_but index same l i =
       let at : Option PagedRow → Cell = λ (o : Option PagedRow). cell_of (option_and_then (λ (r : PagedRow). pages_of r (i / 512)) o) (i % 512) in
-      each_item (λ k (o p : Option PagedRow). (k ≢ layer) ⊎ (i ≢ index) → at p ≡ at o) rows layer row new low is
+      each_item (λ k (o p : Option PagedRow). (k ≢ layer) ⊎ (i ≢ index) → at p ≡ at o) rows layer row new x.low x.is
       (λ d. elim d [ inl other ↦ absurd (other refl) | inr other ↦ same i other ]) (λ _ _ _. refl) l
 
   pub row-cell : (index : ℕ) (hash : Hash) (mark : Bool) → cell_of_row new index ≡ with_hash (cell_of_row row index) hash mark
       → cell_at (set rows layer new) layer index ≡ with_hash (cell_at rows layer index) hash mark
   row-cell index hash mark here =
       let at : Option PagedRow → Cell = λ (o : Option PagedRow). cell_of (option_and_then (λ (r : PagedRow). pages_of r (index / 512)) o) (index % 512) in
-      this_item (λ (o p : Option PagedRow). at p ≡ with_hash (at o) hash mark) rows layer row new low is here
+      this_item (λ (o p : Option PagedRow). at p ≡ with_hash (at o) hash mark) rows layer row new x.low x.is here
 
   pub row-keeps : KeepsRowPages row new → KeepPages rows (set rows layer new)
   row-keeps keeps l n =
       let has : Option PagedRow → Type 0 = λ (o : Option PagedRow). IsSome (option_and_then (λ (r : PagedRow). pages_of r n) o) in
-      each_item (λ _ (o p : Option PagedRow). has o → has p) rows layer row new low is (keeps n) (λ _ _ was. was) l
+      each_item (λ _ (o p : Option PagedRow). has o → has p) rows layer row new x.low x.is (keeps n) (λ _ _ was. was) l
 
   pub row-has : (first end : ℕ) → HasRowPages new first end → HasPages (set rows layer new) layer first end
   row-has first end has n from to =
-      this_item (λ (_ p : Option PagedRow). IsSome (option_and_then (λ (r : PagedRow). pages_of r n) p)) rows layer row new low is (has n from to)
+      this_item (λ (_ p : Option PagedRow). IsSome (option_and_then (λ (r : PagedRow). pages_of r n) p)) rows layer row new x.low x.is (has n from to)
 
   pub row-had : (first end : ℕ) → HasPages rows layer first end → HasRowPages row first end
   row-had first end had n from to =
-      this_item (λ (o _ : Option PagedRow). IsSome (option_and_then (λ (r : PagedRow). pages_of r n) o) → IsSome (pages_of row n)) rows layer row new low is
+      this_item (λ (o _ : Option PagedRow). IsSome (option_and_then (λ (r : PagedRow). pages_of r n) o) → IsSome (pages_of row n)) rows layer row new x.low x.is
       (λ there. there) (had n from to)
 
   count : Option PagedRow → ℕ
@@ -74,28 +79,28 @@ module _ (rows : List PagedRow) (layer : ℕ) (row new : PagedRow) (low : layer 
 
   pub row-as_many : new.count ≡ row.count → AreAsMany rows (set rows layer new)
   unfolding count
-  row-as_many same l = each_item (λ _ o p. count p ≡ count o) rows layer row new low is same (λ _ _. refl) l
+  row-as_many same l = each_item (λ _ o p. count p ≡ count o) rows layer row new x.low x.is same (λ _ _. refl) l
 
   pub row-grows : (more : ℕ) → new.count ≤ row.count + more → GrowsBy layer more rows (set rows layer new)
   unfolding count
   row-grows more grows = record {
-    here = this_item (λ o p. count p ≤ count o + more) rows layer row new low is grows;
-    others = λ l other. each_item (λ k o p. k ≢ layer → count p ≡ count o) rows layer row new low is (λ other. absurd (other refl)) (λ _ _ _. refl) l other;
+    here = this_item (λ o p. count p ≤ count o + more) rows layer row new x.low x.is grows;
+    others = λ l other. each_item (λ k o p. k ≢ layer → count p ≡ count o) rows layer row new x.low x.is (λ other. absurd (other refl)) (λ _ _ _. refl) l other;
   }
 
   pub row-fewer : new.count ≤ row.count → AreNotMore rows (set rows layer new)
   unfolding count
-  row-fewer fewer l = each_item (λ _ o p. count p ≤ count o) rows layer row new low is fewer (λ _ _. omega arith) l
+  row-fewer fewer l = each_item (λ _ o p. count p ≤ count o) rows layer row new x.low x.is fewer (λ _ _. omega arith) l
 
   pub row-trimmed : AreSpare (pages_of new) [] → AreTrimmed rows layer → AreTrimmed (set rows layer new) (layer + 1)
   row-trimmed spare before = record {
     full = λ l r below there. elim (cases_eq l layer) [
-      | inl same ↦ this_item (λ _ (p : Option PagedRow). p ≡ Some r → AreSpare (pages_of r) []) rows layer row new low is
-          (λ e. (let whole : new ≡ r = cc in subst (λ (x : PagedRow). AreSpare (pages_of x) []) whole spare))
+      | inl same ↦ this_item (λ _ (p : Option PagedRow). p ≡ Some r → AreSpare (pages_of r) []) rows layer row new x.low x.is
+          (λ e. (let whole : new ≡ r = cc in subst (λ (y : PagedRow). AreSpare (pages_of y) []) whole spare))
           (subst (λ k. slice_get (set rows layer new) k ≡ Some r) same there)
       | inr other ↦
           let stays : slice_get (set rows layer new) l ≡ slice_get rows l =
-          each_item (λ k (o p : Option PagedRow). k ≢ layer → p ≡ o) rows layer row new low is (λ other. absurd (other refl)) (λ _ _ _. refl) l other in
+          each_item (λ k (o p : Option PagedRow). k ≢ layer → p ≡ o) rows layer row new x.low x.is (λ other. absurd (other refl)) (λ _ _ _. refl) l other in
           before.full l r (omega arith) (sym stays ∙ there)
     ];
   }

@@ -75,7 +75,7 @@ impl PagedRow {
     {
         let mut done = 0;
         'parts: while done < count {
-            let part = Part::first_of(from + done, count - done);
+            let part = PagePart::first_of(from + done, count - done);
             let Some(page) = self.pages.page(part.number) else {
                 return false;
             };
@@ -100,7 +100,7 @@ impl PagedRow {
     {
         let mut done = 0;
         'parts: while done < count {
-            let part = Part::first_of(from + done, count - done);
+            let part = PagePart::first_of(from + done, count - done);
             if let Some(page) = self.pages.page(part.number) {
                 page.copy_to(part.first, part.count, out);
             }
@@ -205,15 +205,15 @@ impl PagedRow {
 
 // Places side by side on one page.
 #[derive(Clone, Copy)]
-struct Part {
+struct PagePart {
     number: u64,
     first: usize,
     count: usize,
 }
 
-impl Part {
+impl PagePart {
     // What of `count` places, from one on, is on the page of the first.
-    fn first_of(from: u64, count: u64) -> Part
+    fn first_of(from: u64, count: u64) -> PagePart
         requires { 0 < count }
         ensures number { result.number ≡ from / page_length }
         ensures first { result.first ≡ from % page_length }
@@ -222,7 +222,7 @@ impl Part {
         ensures inside { result.first + result.count ≤ page_length }
     {
         let first = from % PAGE_LENGTH as u64;
-        Part {
+        PagePart {
             number: from / PAGE_LENGTH as u64,
             first: first as usize,
             count: (PAGE_LENGTH as u64 - first).min(count) as usize,

@@ -1,5 +1,5 @@
 -- One answer for all bytes.
-use Rattle.std.proofs.Common.{◌≡◌, ◌≢◌, ◌⊎◌, Result, Ok, Err, IfOk, IfErr, MatchResult, ℕ, suc, List, [], ◌∷◌, ◌++◌, length, map, ◌≤◌, if◌then◌else◌, Option}
+use Rattle.std.proofs.Common.{◌≡◌, ◌≢◌, ◌⊎◌, Result, Ok, Err, IfOk, IfErr, MatchResult, ℕ, suc, List, [], ◌∷◌, ◌++◌, length, map, ◌≤◌, if◌then◌else◌}
 use Rattle.std.proofs.Common.{Some, None, inl, inr, refl, sym, ap, subst, ◌∙◌, arith, slice_get}
 use Rattle.std.proofs.lemmas.Bool.{cases_lt}
 use Rattle.std.proofs.lemmas.Option.{slice_get_past}
@@ -12,7 +12,7 @@ use Rattle.benc.specs.Value.{Bencode}
 use Rattle.benc.specs.declared.fault.Fault.{Fault}
 use Rattle.benc.specs.declared.fault.FaultKind.{FaultKind}
 use Rattle.opening.specs.Describes.{Describes, IsDescribed}
-use Rattle.opening.specs.Description.{Description, FileEntry, TreeEntry, Version1}
+use Rattle.opening.specs.Description.{Description, FileEntry}
 use Rattle.filetree.specs.declared.files.ListedFile.{ListedFile}
 use Rattle.opening.specs.PieceLayers.{tree_at}
 use Rattle.filetree.specs.Tests.{First, NoneHolds, TestRow}
@@ -53,25 +53,16 @@ files_one p fs es ds one other = same_list es ds (λ k. elim (cases_lt k (length
   | inr past ↦ slice_get_past es k (omega (arith, one.count, past)) ∙ sym (slice_get_past ds k (omega (arith, other.count, past)))
 ])
 
-abbrev make : List ℕ → ℕ → List FileEntry → List TreeEntry → List ℕ → List ℕ → Option Version1 → Description
-make a b c d e f g = record { name = a; piece_length = b; files = c; trees = d; info_hash_v2 = e; info_hash_v1 = f; v1 = g }
-
-same_description : (t u : Description) → t.name ≡ u.name → t.piece_length ≡ u.piece_length → t.files ≡ u.files → t.trees ≡ u.trees
-    → t.info_hash_v2 ≡ u.info_hash_v2 → t.info_hash_v1 ≡ u.info_hash_v1 → t.v1 ≡ u.v1 → t ≡ u
-same_description t u e0 e1 e2 e3 e4 e5 e6 =
-    ap (λ (x : List ℕ). make x t.piece_length t.files t.trees t.info_hash_v2 t.info_hash_v1 t.v1) e0
-    ∙ ap (λ (x : ℕ). make u.name x t.files t.trees t.info_hash_v2 t.info_hash_v1 t.v1) e1
-    ∙ ap (λ (x : List FileEntry). make u.name u.piece_length x t.trees t.info_hash_v2 t.info_hash_v1 t.v1) e2
-    ∙ ap (λ (x : List TreeEntry). make u.name u.piece_length u.files x t.info_hash_v2 t.info_hash_v1 t.v1) e3
-    ∙ ap (λ (x : List ℕ). make u.name u.piece_length u.files u.trees x t.info_hash_v1 t.v1) e4
-    ∙ ap (λ (x : List ℕ). make u.name u.piece_length u.files u.trees u.info_hash_v2 x t.v1) e5
-    ∙ ap (λ (x : Option Version1). make u.name u.piece_length u.files u.trees u.info_hash_v2 u.info_hash_v1 x) e6
-
 described_one : (v : Bencode) (t u : Description) → IsDescribed v t → IsDescribed v u → t ≡ u
-described_one v t u one other =
-    same_description t u (one.name ∙ sym other.name) (one.piece_length ∙ sym other.piece_length) (files_one _ _ t.files u.files one.files other.files)
-    (one.trees ∙ sym other.trees)
-    (one.info_hash_v2 ∙ sym other.info_hash_v2) (one.info_hash_v1 ∙ sym other.info_hash_v1) (one.v1 ∙ sym other.v1)
+described_one v t u one other = λ i. record {
+  name = (one.name ∙ sym other.name) i;
+  piece_length = (one.piece_length ∙ sym other.piece_length) i;
+  files = files_one _ _ t.files u.files one.files other.files i;
+  trees = (one.trees ∙ sym other.trees) i;
+  info_hash_v2 = (one.info_hash_v2 ∙ sym other.info_hash_v2) i;
+  info_hash_v1 = (one.info_hash_v1 ∙ sym other.info_hash_v1) i;
+  v1 = (one.v1 ∙ sym other.v1) i;
+}
 
 -- what bencoding says of spellings and faults
 abbrev OneValue : Type 0
@@ -100,9 +91,7 @@ no_both value fault b t r one other = elim other [
 ]
 
 same_fault : (f g : Fault) → f.kind ≡ g.kind → f.offset ≡ g.offset → f ≡ g
-same_fault f g kind offset =
-    ap (λ (k : FaultKind). let h : Fault = record { kind = k; offset = f.offset } in h) kind
-    ∙ ap (λ (n : ℕ). let h : Fault = record { kind = g.kind; offset = n } in h) offset
+same_fault f g kind offset = λ i. record { kind = kind i; offset = offset i }
 
 pub refusal_is_one : OneValue → NoFault → OneFault → (b : List ℕ) (r s : Refusal) → RefusesTorrent b r → RefusesTorrent b s → r ≡ s
 refusal_is_one value fault one_fault b r s one other = elim one [
@@ -128,29 +117,8 @@ refusal_is_one value fault one_fault b r s one other = elim one [
 
 -- a refusal is out of memory, or another one
 memory_or_not : (r : Refusal) → (r ≡ refusals.NoMemory) ⊎ (r ≢ refusals.NoMemory)
-memory_or_not refusals.TooLarge = inr (λ is. cc)
-memory_or_not (refusals.NotBencode f) = inr (λ is. cc)
-memory_or_not (refusals.Missing k) = inr (λ is. cc)
-memory_or_not (refusals.WrongType k) = inr (λ is. cc)
-memory_or_not refusals.Version = inr (λ is. cc)
-memory_or_not refusals.PieceLength = inr (λ is. cc)
-memory_or_not refusals.Shape = inr (λ is. cc)
-memory_or_not refusals.Path = inr (λ is. cc)
-memory_or_not refusals.Symlink = inr (λ is. cc)
-memory_or_not refusals.Length = inr (λ is. cc)
-memory_or_not refusals.Root = inr (λ is. cc)
-memory_or_not refusals.RootReused = inr (λ is. cc)
-memory_or_not refusals.NoFiles = inr (λ is. cc)
-memory_or_not refusals.TooManyPieces = inr (λ is. cc)
-memory_or_not refusals.LayerMissing = inr (λ is. cc)
-memory_or_not refusals.LayerSize = inr (λ is. cc)
-memory_or_not refusals.LayerMismatch = inr (λ is. cc)
-memory_or_not refusals.HybridFiles = inr (λ is. cc)
-memory_or_not refusals.HybridAlign = inr (λ is. cc)
-memory_or_not refusals.HybridPieces = inr (λ is. cc)
 memory_or_not refusals.NoMemory = inl refl
-memory_or_not refusals.PathClash = inr (λ is. cc)
-memory_or_not refusals.Write = inr (λ is. cc)
+memory_or_not r = inr (λ is. cc)
 
 -- what is opened is what the bytes describe
 pub opens_only : ((b : List ℕ) (t u : Description) → Describes b t → Describes b u → t ≡ u) → ((b : List ℕ) (t : Description) (r : Refusal) → Describes b t

@@ -1,5 +1,6 @@
 -- A torrent is legal exactly if none of the tests holds.
-use Rattle.std.proofs.Common.{◌≡◌, inl, inr, ℕ, ◌<◌, ◌≤◌, ◌^◌, Bool, true, false, List, ◌++◌, map, Option, Some, None, pos, refl, sym, ◌∙◌, subst, arith}
+use Rattle.std.proofs.Common.{◌≡◌, inl, inr, ℕ, ◌<◌, ◌≤◌, ◌^◌, Bool, true, false, List, []}
+use Rattle.std.proofs.Common.{◌∷◌, ◌++◌, map, Option, Some, None, pos, refl, sym, ◌∙◌, subst, arith}
 use Rattle.std.specs.Prelude.{option_and_then}
 use Rattle.std.specs.List.{list_any}
 use Rattle.std.proofs.lemmas.Bool.{cases_eq, cases_lt}
@@ -7,7 +8,7 @@ use Rattle.std.proofs.lemmas.Option.{none-some}
 use Rattle.benc.specs.Value.{Bencode, int, text, list, dict, Pairs, no_pairs, pair}
 use Rattle.filetree.specs.Dictionary.{as_int, as_dict}
 use Rattle.filetree.specs.FileTree.{HasBadPath, HasBadPathIn, IsBadComponent}
-use Rattle.filetree.specs.Tests.{NoneHolds}
+use Rattle.filetree.specs.Tests.{NoneHolds, TestRow}
 use Rattle.filetree.specs.TreeTests.{file_rows, shape_rows}
 use Rattle.filetree.proofs.Tables.{none_both}
 use Rattle.filetree.specs.declared.files.ListedFile.{ListedFile}
@@ -211,6 +212,19 @@ legal_if_accepted v none =
       };
     }
 
+-- tables one after the other, none of whose tests holds
+abbrev joined : List (List TestRow) → List TestRow
+joined [] = []
+joined (rows ∷ tables) = rows ++ joined tables
+
+abbrev EachNone : List (List TestRow) → Type 0
+EachNone [] = Unit {0}
+EachNone (rows ∷ tables) = NoneHolds rows × EachNone tables
+
+none_joined : (tables : List (List TestRow)) → EachNone tables → NoneHolds (joined tables)
+none_joined [] each = each
+none_joined (rows ∷ tables) each = none_both rows (joined tables) each.0 (none_joined tables each.1)
+
 -- the tests of each kind make all of them
 pub table_none : (v : Bencode) → NoneHolds (top_rows v) → NoneHolds (version_rows (info_in v)) → NoneHolds (present_rows (info_in v))
     → NoneHolds (kind_rows (info_in v)) → NoneHolds (layers_rows v)
@@ -218,24 +232,19 @@ pub table_none : (v : Bencode) → NoneHolds (top_rows v) → NoneHolds (version
     → NoneHolds (count_rows (piece_length_in v) (files_of v))
     → NoneHolds (layer_rows (piece_length_in v) (layers_in v) (roots_in (files_of v)))
     → NoneHolds (hybrid_rows (piece_length_in v) (info_in v) (name_in v) (files_of v)) → NoneHolds (table v)
-table_none v a b c d e f g h i j k =
-    let r11 = hybrid_rows (piece_length_in v) (info_in v) (name_in v) (files_of v) in
-    let r10 = layer_rows (piece_length_in v) (layers_in v) (roots_in (files_of v)) in
-    let r9 = count_rows (piece_length_in v) (files_of v) in
-    let r8 = file_rows (walks_of v) in
-    let r7 = shape_rows (file_tree_in v) in
-    let r6 = piece_length_rows (piece_length_in v) in
-    let r5 = layers_rows v in
-    let r4 = kind_rows (info_in v) in
-    let r3 = present_rows (info_in v) in
-    let r2 = version_rows (info_in v) in
-    none_both (top_rows v) (r2 ++ (r3 ++ (r4 ++ (r5 ++ (r6 ++ (r7 ++ (r8 ++ (r9 ++ (r10 ++ r11))))))))) a
-    (none_both r2 (r3 ++ (r4 ++ (r5 ++ (r6 ++ (r7 ++ (r8 ++ (r9 ++ (r10 ++ r11)))))))) b
-    (none_both r3 (r4 ++ (r5 ++ (r6 ++ (r7 ++ (r8 ++ (r9 ++ (r10 ++ r11))))))) c
-    (none_both r4 (r5 ++ (r6 ++ (r7 ++ (r8 ++ (r9 ++ (r10 ++ r11)))))) d
-    (none_both r5 (r6 ++ (r7 ++ (r8 ++ (r9 ++ (r10 ++ r11))))) e
-    (none_both r6 (r7 ++ (r8 ++ (r9 ++ (r10 ++ r11)))) f
-    (none_both r7 (r8 ++ (r9 ++ (r10 ++ r11))) g (none_both r8 (r9 ++ (r10 ++ r11)) h (none_both r9 (r10 ++ r11) i (none_both r10 r11 j k)))))))))
+table_none v a b c d e f g h i j k = none_joined (
+    top_rows v
+    ∷ version_rows (info_in v)
+    ∷ present_rows (info_in v)
+    ∷ kind_rows (info_in v)
+    ∷ layers_rows v
+    ∷ piece_length_rows (piece_length_in v)
+    ∷ shape_rows (file_tree_in v)
+    ∷ file_rows (walks_of v)
+    ∷ count_rows (piece_length_in v) (files_of v)
+    ∷ layer_rows (piece_length_in v) (layers_in v) (roots_in (files_of v))
+    ∷ hybrid_rows (piece_length_in v) (info_in v) (name_in v) (files_of v)
+    ∷ []) (a, (b, (c, (d, (e, (f, (g, (h, (i, (j, (k, tt)))))))))))
 
 version_accepted : (v : Bencode) → IsLegal v → NoneHolds (version_rows (info_in v))
 version_accepted v is = (

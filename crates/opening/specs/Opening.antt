@@ -16,7 +16,7 @@ use Rattle.opening.specs.Steps.{pairs_seen}
 use Rattle.opening.specs.Trees.{pieces_in, roots_in}
 use Rattle.opening.specs.declared.info.Keys.{Keys}
 use Rattle.opening.specs.declared.roots.Root.{Root}
-use Rattle.opening.specs.declared.open.Contents.{Contents}
+use Rattle.opening.specs.declared.torrent.Contents.{Contents}
 
 -- the tests of the files together, and of their layers
 abbrev pub content_rows : ℕ → Pairs → List ListedFile → List TestRow

@@ -24,7 +24,7 @@ use crate::laws::{refusal_is_one, torrent_is_not_refused, torrent_is_one};
 use crate::layer_tests;
 use crate::layers::Layers;
 use crate::roots::{Roots, place_files, roots_of};
-use crate::torrent::{File, Torrent, TreeInfo};
+use crate::torrent::{Contents, Torrent};
 use crate::version1::version1;
 use benc::laws::spelling_is_of_canonical;
 use benc::{Fault, FaultKind, Value, decode_with_span};
@@ -34,7 +34,6 @@ use pieces::PieceLength;
 use sha1::Sha1;
 use sha2::{Digest, Sha256};
 use std::alloc::Global;
-use std::collections::BTreeMap;
 
 /// The most bytes that a torrent file may have.
 pub const MAX_TORRENT: usize = 67_108_864;
@@ -76,14 +75,6 @@ impl<'a> Torrent<'a> {
         refusal_is_one();
         open_bytes(alloc, input)
     }
-}
-
-// The files and trees of a torrent, and the number of each tree by its root.
-#[derive(Drop)]
-struct Contents<'a> {
-    files: Vec<File<'a>>,
-    trees: Vec<TreeInfo<'a>>,
-    numbers: BTreeMap<Hash, usize>,
 }
 
 // Tests the files together, and the layers of their trees.
@@ -171,24 +162,11 @@ fn read<'a>(alloc: Global, top: &Value<'a>, info_bytes: &[u8]) -> Result<Torrent
         files: listed,
     } = read_listed(alloc, top)?;
     let layers = Layers::of(keys.layers);
-    let Contents {
-        files,
-        trees,
-        numbers,
-    } = read_contents(alloc, listed, &layers, piece_length)?;
-    let v1 = version1(keys.info, keys.name, &files, piece_length)?;
+    let contents = read_contents(alloc, listed, &layers, piece_length)?;
+    let v1 = version1(keys.info, keys.name, &contents.files, piece_length)?;
     let hash_v2 = info_hash_v2(info_bytes);
     let hash_v1 = Sha1::digest(info_bytes);
-    Ok(Torrent::new(
-        keys.name,
-        piece_length,
-        files,
-        trees,
-        numbers,
-        hash_v2,
-        hash_v1,
-        v1,
-    ))
+    Ok(Torrent::new(keys.name, piece_length, contents, hash_v2, hash_v1, v1))
 }
 
 // The SHA-256 digest of the bytes of an info dictionary.

@@ -33,6 +33,14 @@ pub struct TreeInfo<'a> {
     pub layer: &'a [Hash],
 }
 
+/// The files and trees of a torrent, and the number of each tree by its root.
+#[derive(Drop)]
+pub(crate) struct Contents<'a> {
+    pub(crate) files: Vec<File<'a>>,
+    pub(crate) trees: Vec<TreeInfo<'a>>,
+    pub(crate) numbers: BTreeMap<Hash, usize>,
+}
+
 /// An opened torrent, which borrows the bytes that it was read from.
 ///
 /// Its lists of files and trees have room for what they hold, and for no more.
@@ -82,21 +90,25 @@ impl<'a> Torrent<'a> {
     pub(crate) fn new(
         name: &'a str,
         piece_length: PieceLength,
-        files: Vec<File<'a>>,
-        trees: Vec<TreeInfo<'a>>,
-        numbers: BTreeMap<Hash, usize>,
+        contents: Contents<'a>,
         info_hash_v2: Hash,
         info_hash_v1: [u8; 20],
         v1: Option<V1<'a>>,
     ) -> Torrent<'a>
-        requires sound { IsSound (described name.now piece_length files.items trees.items
-            info_hash_v2 info_hash_v1 v1) }
-        requires numbers { AreNumbers numbers (map root_of_tree (map tree_entry trees.items)) }
-        requires room { HasExactRoom files × HasExactRoom trees }
+        requires sound { IsSound (described name.now piece_length contents.files.items
+            contents.trees.items info_hash_v2 info_hash_v1 v1) }
+        requires numbers { AreNumbers contents.numbers
+            (map root_of_tree (map tree_entry contents.trees.items)) }
+        requires room { HasExactRoom contents.files × HasExactRoom contents.trees }
         ensures { result
-            ≡ described name.now piece_length files.entry.items trees.entry.items info_hash_v2
-            info_hash_v1 v1.entry }
+            ≡ described name.now piece_length contents.entry.files.items contents.entry.trees.items
+            info_hash_v2 info_hash_v1 v1.entry }
     {
+        let Contents {
+            files,
+            trees,
+            numbers,
+        } = contents;
         Torrent {
             name,
             piece_length,

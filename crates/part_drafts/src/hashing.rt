@@ -55,10 +55,25 @@ pub fn hash_part<S: SeekShelf>(
         Ok(text) => text,
         Err(_) => return Err(PartFault::NoMemory),
     };
-    match put_rows(alloc, shelf, &kind, &listing.files, part, parts, &mut text) {
+    let which = PartNumber { part, parts };
+    match put_rows(alloc, shelf, &kind, &listing.files, which, &mut text) {
         Ok(()) => Ok(text),
         Err(fault) => Err(fault),
     }
+}
+
+// The number of a part, counted from 0, and how many there are.
+#[derive(Clone, Copy)]
+struct PartNumber {
+    part: u64,
+    parts: u64,
+}
+
+// A listed file, and what a part has of it.
+#[derive(Clone, Copy)]
+struct FileShare<'f> {
+    file: &'f ListedFile,
+    span: Span,
 }
 
 // Puts behind a text what is found of the rows of all files.
@@ -67,23 +82,23 @@ fn put_rows<S: SeekShelf>(
     shelf: &mut S,
     kind: &TorrentKind,
     files: &[ListedFile],
-    part: u64,
-    parts: u64,
+    which: PartNumber,
     text: &mut Vec<u8>,
 ) -> Result<(), PartFault>
-    requires { part < parts }
+    requires { which.part < which.parts }
     ensures rows { PutsRows S.Shelf S.opens_at S.File.seen kind.now.piece_length kind.now.hybrid
-        (total_of (map listed files.now)) parts part (map listed files.now) shelf.old shelf.new
-        text.old.items text.new.items result }
+        (total_of (map listed files.now)) which.parts which.part (map listed files.now) shelf.old
+        shelf.new text.old.items text.new.items result }
     ensures stays { S.Shelf.contents shelf.new ≡ S.Shelf.contents shelf.old }
 {
-    let division = Division::of(kind.piece_length, files, parts);
+    let division = Division::of(kind.piece_length, files, which.parts);
     let mut buffer = kind.buffer(alloc);
     let mut before: u64 = 0;
     'files: for number in 0..files.len() {
         let file = &files[number];
-        let span = division.span(part, before, file.length);
-        match put_row(alloc, shelf, kind, file, span, text, buffer.as_mut_slice()) {
+        let span = division.span(which.part, before, file.length);
+        let share = FileShare { file, span };
+        match put_row(alloc, shelf, kind, share, text, buffer.as_mut_slice()) {
             Ok(()) => before = before.saturating_add(hashed(file.length)),
             Err(fault) => return Err(fault.at(number)),
         }
@@ -97,30 +112,29 @@ fn put_row<S: SeekShelf>(
     alloc: Global,
     shelf: &mut S,
     kind: &TorrentKind,
-    file: &ListedFile,
-    span: Span,
+    share: FileShare<'_>,
     text: &mut Vec<u8>,
     buffer: &mut [u8],
 ) -> Result<(), RowFault>
     requires { 0 < length buffer.old }
     ensures row { PutsShare S.Shelf S.opens_at S.File.seen kind.now.piece_length kind.now.hybrid
-        shelf.old (record { file = listed file.now; span = span }) shelf.new text.old.items
-        text.new.items result }
+        shelf.old (record { file = listed share.entry.file.now; span = share.entry.span }) shelf.new
+        text.old.items text.new.items result }
     ensures stays { S.Shelf.contents shelf.new ≡ S.Shelf.contents shelf.old }
     ensures buffer { length buffer.new ≡ length buffer.old }
 {
-    let touched = is_touched(kind, file, span);
+    let touched = is_touched(kind, share.file, share.span);
     if !touched {
         return Ok(());
     }
-    let found = match visit_row(alloc, shelf, kind, file, span, buffer) {
+    let found = match visit_row(alloc, shelf, kind, share, buffer) {
         Ok(found) => found,
         Err(fault) => return Err(fault),
     };
     if found.length == 0 {
         return Ok(());
     }
-    match put_digests(text, kind, file.length, &found) {
+    match put_digests(text, kind, share.file.length, &found) {
         Ok(()) => Ok(()),
         Err(_) => Err(RowFault::NoMemory),
     }
@@ -139,18 +153,19 @@ fn visit_row<S: SeekShelf>(
     alloc: Global,
     shelf: &mut S,
     kind: &TorrentKind,
-    file: &ListedFile,
-    span: Span,
+    share: FileShare<'_>,
     buffer: &mut [u8],
 ) -> Result<FileHashes, RowFault>
     requires some { 0 < length buffer.old }
     requires touched { IsTouched kind.now.piece_length
-        (record { file = listed file.now; span = span }) }
+        (record { file = listed share.file.now; span = share.span }) }
     ensures found { FindsShare S.Shelf S.opens_at S.File.seen kind.now.piece_length kind.now.hybrid
-        shelf.old (record { file = listed file.now; span = span }) shelf.new result }
+        shelf.old (record { file = listed share.entry.file.now; span = share.entry.span }) shelf.new
+        result }
     ensures stays { S.Shelf.contents shelf.new ≡ S.Shelf.contents shelf.old }
     ensures buffer { length buffer.new ≡ length buffer.old }
 {
+    let FileShare { file, span } = share;
     let Ok(path) = components(alloc, &file.path) else {
         return Err(RowFault::NoMemory);
     };

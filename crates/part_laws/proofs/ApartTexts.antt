@@ -1,6 +1,8 @@
 -- The contents that the texts of reports make together if each part saw its own.
 use Rattle.std.proofs.Common.{◌≡◌, ℕ, zero, suc, ◌+◌, true, List, [], ◌∷◌, ◌++◌, length, slice_get, Option, Some, None, refl, sym, ap, subst}
 use Rattle.std.proofs.lemmas.Option.{none-some, same_Some, slice_get_within}
+use Rattle.lines.specs.Rows.{spell}
+use Rattle.lines.specs.Texts.{text_of}
 use Rattle.opening.specs.Description.{Description, FileEntry}
 use Rattle.opening.specs.Sound.{IsSound}
 use Rattle.pieces.specs.Cuts.{cut}
@@ -9,7 +11,7 @@ use Rattle.folders.specs.Verdicts.{is_yes}
 use Rattle.folders.specs.declared.report.FileVerdict.{FileVerdict}
 use Rattle.folders.specs.declared.report.V1Verdict.{V1Verdict}
 use Rattle.parts.specs.Joins.{IsJoin}
-use Rattle.parts.specs.PartLines.{end_lines, lines_text, part_text}
+use Rattle.parts.specs.PartLines.{part_end_rows, part_text, place_rows}
 use Rattle.parts.specs.Parts.{AreAllPlaces, Holds, IsTruePart, PartReport}
 use Rattle.parts.specs.Shares.{share}
 use Rattle.part_reports.specs.Heads.{HasHead}
@@ -42,15 +44,15 @@ module _ (k : Kind) (t : Description) (texts : List (List ℕ)) (own : ℕ → C
     (each : (i : ℕ) (p : PartReport) → slice_get reports i ≡ Some p → IsReportedBy k t texts own i (length reports) p)
   where
     -- the number of the text that is the report of a part
-    text_of : (i : ℕ) (o : Option PartReport) → slice_get reports i ≡ o → ℕ
-    text_of i None is = 0
-    text_of i (Some p) is = (each i p is).number
+    number_at : (i : ℕ) (o : Option PartReport) → slice_get reports i ≡ o → ℕ
+    number_at i None is = 0
+    number_at i (Some p) is = (each i p is).number
 
     of_part : ℕ → Contents
-    of_part i = own (text_of i (slice_get reports i) refl)
+    of_part i = own (number_at i (slice_get reports i) refl)
 
-    true_by : (i : ℕ) (p : PartReport) (o : Option PartReport) (is : slice_get reports i ≡ o) → o ≡ Some p → IsTruePart t (own (text_of i o is)) p
-    unfolding text_of
+    true_by : (i : ℕ) (p : PartReport) (o : Option PartReport) (is : slice_get reports i ≡ o) → o ≡ Some p → IsTruePart t (own (number_at i o is)) p
+    unfolding number_at
     true_by i p None is at = absurd (none-some p at)
     true_by i p (Some q) is at = subst (IsTruePart t (own (each i q is).number)) (same_Some q p at) (each i q is).are_true
 
@@ -59,9 +61,9 @@ module _ (k : Kind) (t : Description) (texts : List (List ℕ)) (own : ℕ → C
     apart_true i p at = true_by i p (slice_get reports i) refl at
 
     piece_by : (n : ℕ) (f : FileEntry) (j : ℕ) (piece : List ℕ) (i : ℕ) (p : PartReport) (o : Option PartReport) (is : slice_get reports i ≡ o)
-        → o ≡ Some p → Holds p.places (f.first_piece + j) → (bytes : List ℕ) → own (text_of i o is) n ≡ Some bytes → piece ≡ cut t.piece_length bytes j
+        → o ≡ Some p → Holds p.places (f.first_piece + j) → (bytes : List ℕ) → own (number_at i o is) n ≡ Some bytes → piece ≡ cut t.piece_length bytes j
         → HasReportedPiece k t texts own n f j piece
-    unfolding text_of
+    unfolding number_at
     piece_by n f j piece i p None is at held bytes there piece_is = absurd (none-some p at)
     piece_by n f j piece i p (Some q) is at held bytes there piece_is =
         let read = each i q is in
@@ -100,7 +102,7 @@ module _ (t : Description) (texts : List (List ℕ)) (own : ℕ → Contents) (f
     plain_each i p at =
         let read = j.are i p at in
         let count = length j.reports in
-        let more : List ℕ = lines_text t (share t i count) p.files t.files ++ end_lines p.files p.v1 in
+        let more : List ℕ = spell text_of (place_rows t (share t i count) p.files t.files ++ part_end_rows p.files p.v1) in
         let said : List ℕ = part_text t i count p.files p.v1 in
         let within = slice_get_within j.reports i p at in
         record {

@@ -1,9 +1,12 @@
 -- What is read of the texts of marked reports is true of the contents that they are true of.
 use Rattle.std.proofs.Common.{◌≡◌, ℕ, ◌<◌, ◌^◌, Bool, true, false, List, [], ◌∷◌, ◌++◌, length, slice_get}
 use Rattle.std.proofs.Common.{Option, Some, refl, sym, ap, ap₂, ◌∙◌, subst, arith}
+use Rattle.std.proofs.lemmas.Grind.{flat_map-append}
 use Rattle.std.proofs.lemmas.List.{length-map}
 use Rattle.std.proofs.lemmas.Option.{slice_get_within}
 use Rattle.chains.proofs.Cases.{item_at}
+use Rattle.lines.specs.Rows.{Row, spell}
+use Rattle.lines.specs.Texts.{text_of}
 use Rattle.opening.specs.Description.{Description, FileEntry}
 use Rattle.opening.specs.Sound.{IsSound}
 use Rattle.folders.specs.Folder.{Contents}
@@ -12,8 +15,8 @@ use Rattle.folders.specs.declared.report.FileVerdict.{FileVerdict}
 use Rattle.folders.specs.declared.report.FileVerdict.TheVariants as file
 use Rattle.folders.specs.declared.report.V1Verdict.{V1Verdict}
 use Rattle.parts.specs.MarkedChecks.{AreAllMarked}
-use Rattle.parts.specs.MarkedLines.{marked_head_text, marked_lines_text, marked_text, verdicts_of}
-use Rattle.parts.specs.PartLines.{end_lines, has_place, part_text, report_head_text}
+use Rattle.parts.specs.MarkedLines.{marked_head_row, marked_place_rows, marked_text, verdicts_of}
+use Rattle.parts.specs.PartLines.{has_place, head_row, part_end_rows, part_text, place_rows}
 use Rattle.parts.specs.Parts.{IsPartVerdict, IsTruePart, Touches, piece_count}
 use Rattle.parts.specs.Runs.{AreRunsIn, Run}
 use Rattle.parts.specs.Shares.{share}
@@ -24,13 +27,14 @@ use Rattle.parts.proofs.HeldPieces.{piece_touches}
 use Rattle.parts.proofs.PlaceTests.{place_test}
 use Rattle.parts.proofs.SharedPlaces.{sum_next}
 use Rattle.part_reports.specs.Heads.{HasHead}
-use Rattle.part_reports.specs.Lines.{CanReportMarked, IsSmall, MarkedPart, part_of}
+use Rattle.part_reports.specs.Lines.{CanReportMarked, HasNoRun, IsSmall, MarkedPart, part_of}
 use Rattle.part_reports.specs.MarkedJoins.{IsReadAs}
 use Rattle.part_reports.specs.Marks.{AreRunsWithin, CanTell}
 use Rattle.part_reports.specs.Texts.{IsTrueReport, reported}
 use Rattle.part_reports.specs.declared.kind.Kind.TheVariants as kind
 use Rattle.part_reports.proofs.Faults.{marked_head}
 use Rattle.part_reports.proofs.Heads.{one_head}
+use Rattle.part_reports.proofs.LineTexts.{end_is}
 use Rattle.part_reports.proofs.MarkedFiles.{off_silent, verdict_at}
 use Rattle.part_reports.proofs.Readings.{says_small}
 use Rattle.part_reports.proofs.RunLines.{end_no_run}
@@ -144,13 +148,21 @@ marked_true t contents part count marked v1 sound can told =
     let other : MarkedPart = read_part t part count told.marked told.v1 in
     let count_m : length marked ≡ length t.files = sym (length-map marked (λ x. x.0)) ∙ can.says.count in
     let count_o : length told.marked ≡ length t.files = sym (length-map told.marked (λ x. x.0)) ∙ told.are_true.count in
-    let lines = same_rest (marked_head_text t part count) _ _ told.is in
-    let both = marked_agree t r marked told.marked (end_lines (verdicts_of marked) v1) (end_lines (verdicts_of told.marked) told.v1) sound count_m count_o
-    (read_clear t m sound can) (true_clear t r contents other sound refl told.are_true told.runs) (end_no_run v1 (is_yes (verdicts_of marked) v1))
-    (end_no_run told.v1 (is_yes (verdicts_of told.marked) told.v1)) lines in
+    let end : List Row = part_end_rows (verdicts_of marked) v1 in
+    let other_end : List Row = part_end_rows (verdicts_of told.marked) told.v1 in
+    let lines = sym (flat_map-append text_of (marked_place_rows t r marked t.files) end) ∙ same_rest (text_of (marked_head_row t part count)) _ _ told.is
+    ∙ flat_map-append text_of (marked_place_rows t r told.marked t.files) other_end in
+    let both = marked_agree t r marked told.marked (spell text_of end) (spell text_of other_end) sound count_m count_o
+    (read_clear t m sound can) (true_clear t r contents other sound refl told.are_true told.runs)
+    (subst HasNoRun (sym (end_is (verdicts_of marked) v1)) (end_no_run v1 (is_yes (verdicts_of marked) v1)))
+    (subst HasNoRun (sym (end_is (verdicts_of told.marked) told.v1)) (end_no_run told.v1 (is_yes (verdicts_of told.marked) told.v1))) lines in
     let said : List ℕ = part_text t part count (verdicts_of marked) v1 in
     let plain : said ≡ part_text t part count (verdicts_of told.marked) told.v1 =
-    ap₂ (λ l e. report_head_text t part count ++ (l ++ e)) (plain_lines_agree t r t.files marked told.marked (count_m ∙ sym count_o) both.0) both.1 in
+    ap (λ s. text_of (head_row t part count) ++ s) (
+    flat_map-append text_of (place_rows t r (verdicts_of marked) t.files) end
+    ∙ ap₂ (λ l e. spell text_of l ++ e) (plain_lines_agree t r t.files marked told.marked (count_m ∙ sym count_o) both.0) both.1
+    ∙ sym (flat_map-append text_of (place_rows t r (verdicts_of told.marked) t.files) other_end)
+    ) in
     let report : IsTrueReport t contents said = record {
       part = part;
       count = count;
@@ -190,7 +202,7 @@ told_by t contents part count marked v1 there small r =
     head_at : (p n : ℕ) (xs : List (FileVerdict × List Run)) (w : Option V1Verdict) (said : List ℕ) → p < n → n < 2 ^ 64
         → said ≡ marked_text t p n xs w → HasHead kind.Marked said p n t.info_hash_v2
     head_at p n xs w said low high is =
-        let more : List ℕ = marked_lines_text t (share t p n) xs t.files ++ end_lines (verdicts_of xs) w in
+        let more : List ℕ = spell text_of (marked_place_rows t (share t p n) xs t.files ++ part_end_rows (verdicts_of xs) w) in
         record {
           there = low;
           small = high;

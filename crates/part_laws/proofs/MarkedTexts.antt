@@ -2,12 +2,15 @@
 use Rattle.std.proofs.Common.{◌≡◌, ◌⊎◌, inl, inr, ℕ, zero, suc, ◌+◌, ◌<◌, ◌≤◌, Bool, true, false, List, [], ◌∷◌, ◌++◌, length, map, slice_get}
 use Rattle.std.proofs.Common.{Option, Some, refl, sym, ap, ◌∙◌, subst, unwrap_or, arith}
 use Rattle.std.specs.Prelude.{◌↔◌}
+use Rattle.std.proofs.lemmas.Grind.{flat_map-append}
 use Rattle.std.proofs.lemmas.Option.{none-some, same_Some, slice_get_within}
 use Rattle.chains.proofs.Cases.{item_at}
+use Rattle.lines.specs.Rows.{Row, spell}
+use Rattle.lines.specs.Texts.{text_of}
 use Rattle.opening.specs.Description.{Description, FileEntry}
 use Rattle.opening.specs.Sound.{IsSound}
 use Rattle.folders.specs.Folder.{Contents}
-use Rattle.folders.specs.Printed.{end_text, file_verdict_text}
+use Rattle.folders.specs.Printed.{end_rows, verdict_row}
 use Rattle.folders.specs.declared.report_lines.Lines.TheVariants as lines
 use Rattle.folders.specs.declared.report.FileVerdict.{FileVerdict}
 use Rattle.folders.specs.declared.report.FileVerdict.TheVariants as file
@@ -16,10 +19,9 @@ use Rattle.parts.specs.Laws.{PartsMakeTheReport}
 use Rattle.parts.specs.MarkedLines.{verdicts_of}
 use Rattle.parts.specs.Parts.{Holds, IsPartVerdict, IsTruePart, PartReport, piece_count}
 use Rattle.parts.specs.RowBits.{HasGoodPiece}
-use Rattle.parts.specs.Runs.{AreRunsIn, AreRunsOf, IsInOne, Run, runs_text}
-use Rattle.parts.specs.Telling.{AreToldRuns, has_runs}
+use Rattle.parts.specs.Runs.{AreRunsIn, AreRunsOf, IsInOne, Run, runs_rows}
+use Rattle.parts.specs.Telling.{AreToldRuns, has_runs, line_and_runs}
 use Rattle.parts.specs.Visiting.{AreTold, verdicts_in}
-use Rattle.parts.specs.Words.{words_in_text}
 use Rattle.parts.specs.declared.places.Places.{Places}
 use Rattle.parts.specs.declared.telling.Telling.TheVariants as telling
 use Rattle.parts.proofs.HeldPieces.{piece_touches}
@@ -28,7 +30,7 @@ use Rattle.parts.proofs.Streams.{place_of_piece}
 use Rattle.part_reports.specs.Lines.{MarkedPart, part_of}
 use Rattle.part_reports.specs.MarkedJoins.{AreJoinedAs}
 use Rattle.part_reports.specs.Marks.{IsPieceMarked}
-use Rattle.part_reports.specs.WholeLines.{AreShown, IsNotBad, ShowsAll, whole_lines}
+use Rattle.part_reports.specs.WholeLines.{AreShown, IsNotBad, ShowsAll, whole_lines_rows}
 use Rattle.part_reports.specs.declared.kind.Kind.TheVariants as kind
 use Rattle.part_reports.specs.declared.marked_report.MarkedReport.{MarkedReport}
 use Rattle.part_reports.proofs.MarkedFiles.{said_at, verdict_at}
@@ -215,11 +217,15 @@ joined_runs t contents texts joined marked sound are j shows = runs_are t conten
 
 -- ---- the text
 
+-- what is told of a file: its line and those of its runs
+abbrev told_file : Description → FileEntry → FileVerdict → List Run → List ℕ
+told_file t f v runs = spell text_of (line_and_runs t lines.All f v runs)
+
 -- what is told of each file
 told_of : Description → List (FileVerdict × List Run) → List FileEntry → List (FileVerdict × List ℕ)
 told_of t [] fs = []
 told_of t (x ∷ xs) [] = (x.0, []) ∷ told_of t xs []
-told_of t (x ∷ xs) (f ∷ fs) = (x.0, file_verdict_text x.0 f ++ runs_text t f x.1) ∷ told_of t xs fs
+told_of t (x ∷ xs) (f ∷ fs) = (x.0, told_file t f x.0 x.1) ∷ told_of t xs fs
 
 told_verdicts : (t : Description) (xs : List (FileVerdict × List Run)) (fs : List FileEntry) → verdicts_in (told_of t xs fs) ≡ verdicts_of xs
 unfolding told_of
@@ -232,39 +238,41 @@ unfolding told_of
 nothing_left t [] = refl
 nothing_left t (x ∷ xs) = nothing_left t xs
 
-told_text : (t : Description) (xs : List (FileVerdict × List Run)) (fs : List FileEntry) → whole_lines t xs fs ≡ all_told (told_of t xs fs)
+told_text : (t : Description) (xs : List (FileVerdict × List Run)) (fs : List FileEntry)
+    → spell text_of (whole_lines_rows t xs fs) ≡ all_told (told_of t xs fs)
 unfolding told_of
 told_text t [] fs = refl
 told_text t (x ∷ xs) [] = sym (nothing_left t xs)
-told_text t (x ∷ xs) (f ∷ fs) = ap (λ l. (file_verdict_text x.0 f ++ runs_text t f x.1) ++ l) (told_text t xs fs)
+told_text t (x ∷ xs) (f ∷ fs) =
+    let own : List Row = verdict_row x.0 f ∷ runs_rows t f x.1 in
+    flat_map-append text_of own (whole_lines_rows t xs fs) ∙ ap (λ l. spell text_of own ++ l) (told_text t xs fs)
 
 -- at a file's place stands what is told of it
 told_there : (t : Description) (xs : List (FileVerdict × List Run)) (fs : List FileEntry) (n : ℕ) (f : FileEntry) (y : FileVerdict × List ℕ)
     → slice_get fs n ≡ Some f → slice_get (told_of t xs fs) n ≡ Some y
-    → (x : FileVerdict × List Run) × (slice_get xs n ≡ Some x) × (x.0 ≡ y.0) × (y.1 ≡ file_verdict_text x.0 f ++ runs_text t f x.1)
+    → (x : FileVerdict × List Run) × (slice_get xs n ≡ Some x) × (x.0 ≡ y.0) × (y.1 ≡ told_file t f x.0 x.1)
 unfolding told_of
 told_there t [] fs n f y there at = absurd (none-some y at)
 told_there t (x ∷ xs) [] n f y there at = absurd (none-some f there)
 told_there t (x ∷ xs) (g ∷ fs) zero f y there at =
-    let one : FileVerdict × List ℕ = (x.0, file_verdict_text x.0 g ++ runs_text t g x.1) in
+    let one : FileVerdict × List ℕ = (x.0, told_file t g x.0 x.1) in
     let same : one ≡ y = same_Some one y at in (
       x,
       refl,
       ap (λ (z : FileVerdict × List ℕ). z.0) same,
-      sym (ap (λ (z : FileVerdict × List ℕ). z.1) same)
-          ∙ ap (λ (h : FileEntry). file_verdict_text x.0 h ++ runs_text t h x.1) (same_Some g f there),
+      sym (ap (λ (z : FileVerdict × List ℕ). z.1) same) ∙ ap (λ (h : FileEntry). told_file t h x.0 x.1) (same_Some g f there),
     )
 told_there t (x ∷ xs) (g ∷ fs) (suc n) f y there at = told_there t xs fs n f y there at
 
 all_tell : (t : Description) (contents : Contents) (marked : List (FileVerdict × List Run))
     → ((n : ℕ) (f : FileEntry) (x : FileVerdict × List Run) → slice_get t.files n ≡ Some f → slice_get marked n ≡ Some x
     → AreToldRuns (AreRunsOf t f) (has_runs x.0) (contents n) x.1)
-    → AreTold words_in_text t (telling.LineAndRuns lines.All) contents (told_of t marked t.files)
+    → AreTold text_of t (telling.LineAndRuns lines.All) contents (told_of t marked t.files)
 all_tell t contents marked runs n f y there at =
     let x = told_there t marked t.files n f y there at in (
       x.0.1,
       subst (λ v. AreToldRuns (AreRunsOf t f) (has_runs v) (contents n) x.0.1) x.2 (runs n f x.0 there x.1),
-      x.3 ∙ ap (λ v. file_verdict_text v f ++ runs_text t f x.0.1) x.2,
+      x.3 ∙ ap (λ v. told_file t f v x.0.1) x.2,
     )
 
 pub join_prints : PartsMakeTheReport → JoinPrintsTheCheck
@@ -276,6 +284,7 @@ join_prints law t contents texts joined marked sound are j shows = elim (law t c
         told = told_of t marked t.files;
         verdicts_are = told_verdicts t marked t.files ∙ shows.verdicts;
         tells = all_tell t contents marked (joined_runs t contents texts joined marked sound are j shows);
-        is = ap (λ l. l ++ end_text lines.All joined.report.files.items joined.report.v1) (told_text t marked t.files);
+        is = flat_map-append text_of (whole_lines_rows t marked t.files) (end_rows lines.All joined.report.files.items joined.report.v1)
+            ∙ ap (λ l. l ++ spell text_of (end_rows lines.All joined.report.files.items joined.report.v1)) (told_text t marked t.files);
       })
     ]

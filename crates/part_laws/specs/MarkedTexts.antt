@@ -1,9 +1,11 @@
 -- What the texts of marked reports make together: what a check prints that tells of bad pieces.
 use Rattle.std.specs.Prelude.{◌≡◌, ◌⊎◌, ℕ, ◌<◌, ◌^◌, true, false, List, [], ◌∷◌, ◌++◌, Option, Some, slice_get}
+use Rattle.lines.specs.Rows.{spell}
+use Rattle.lines.specs.Texts.{text_of}
 use Rattle.opening.specs.Description.{Description, FileEntry}
 use Rattle.opening.specs.Sound.{IsSound}
 use Rattle.folders.specs.Folder.{Contents, GoodFolder}
-use Rattle.folders.specs.Printed.{end_text}
+use Rattle.folders.specs.Printed.{end_rows}
 use Rattle.folders.specs.Verdicts.{is_yes}
 use Rattle.folders.specs.declared.report_lines.Lines.TheVariants as lines
 use Rattle.folders.specs.declared.report.FileVerdict.{FileVerdict}
@@ -19,7 +21,6 @@ use Rattle.parts.specs.Runs.{AreRunsOf, Run}
 use Rattle.parts.specs.Shares.{share}
 use Rattle.parts.specs.Telling.{AreToldRuns, has_runs}
 use Rattle.parts.specs.Visiting.{AreTold, verdicts_in}
-use Rattle.parts.specs.Words.{words_in_text}
 use Rattle.parts.specs.declared.telling.Telling.TheVariants as telling
 use Rattle.part_reports.specs.MarkedJoins.{AreJoinedAs}
 use Rattle.part_reports.specs.Reasons.{IsMarkedReport}
@@ -63,8 +64,8 @@ pub record IsCheckText (t : Description) (contents : Contents) (verdicts : List 
   pub report : IsReportOfContents t contents verdicts v1
   pub told : List (FileVerdict × List ℕ)
   pub verdicts_are : verdicts_in told ≡ verdicts
-  pub tells : AreTold words_in_text t (telling.LineAndRuns lines.All) contents told
-  pub is : text ≡ all_told told ++ end_text lines.All verdicts v1
+  pub tells : AreTold text_of t (telling.LineAndRuns lines.All) contents told
+  pub is : text ≡ all_told told ++ spell text_of (end_rows lines.All verdicts v1)
 
 -- ---- the laws
 

@@ -2,7 +2,7 @@
 pub mod Faults
 pub mod Fronts
 pub mod Heads
-pub mod LinesAll
+pub mod LineTexts
 pub mod Listed
 pub mod MarkedFiles
 pub mod MarkedRuns

@@ -1,5 +1,5 @@
 -- The lines of some files, one part after another, and the worst of what they say.
-use Rattle.std.proofs.Common.{◌≡◌, ℕ, zero, suc, ◌+◌, ◌<◌, ◌≤◌, Bool, true, false, ◌&&◌, List, [], ◌∷◌, ◌++◌}
+use Rattle.std.proofs.Common.{◌≡◌, ℕ, zero, suc, ◌+◌, ◌≤◌, Bool, true, false, ◌&&◌, List, [], ◌∷◌, ◌++◌}
 use Rattle.std.proofs.Common.{length, drop, replicate, slice_get, Some}
 use Rattle.std.proofs.Common.{refl, sym, ap, ap₂, ◌∙◌, subst, append_assoc, arith}
 use Rattle.std.specs.List.{list_all}
@@ -9,11 +9,10 @@ use Rattle.opening.specs.Description.{Description, FileEntry}
 use Rattle.folders.specs.Verdicts.{is_good, is_whole}
 use Rattle.folders.specs.declared.report.FileVerdict.{FileVerdict}
 use Rattle.folders.specs.declared.report.FileVerdict.TheVariants as file
-use Rattle.parts.specs.MarkedLines.{marked_line, marked_lines_text, verdicts_of}
-use Rattle.parts.specs.PartLines.{has_place, held_line}
 use Rattle.parts.specs.Runs.{Run}
 use Rattle.parts.specs.Worse.{worse}
 use Rattle.parts.specs.declared.places.Places.{Places}
+use Rattle.part_reports.specs.ReadLines.{marked_line, marked_lines_text}
 
 -- ---- lines
 
@@ -31,16 +30,6 @@ split_marked t r (x ∷ xs) ys (f ∷ fs) within =
 abbrev pub silent : FileVerdict × List Run
 silent = (file.Good, [])
 
--- nothing is told of files that have no place in the part
-pub quiet_marked : (t : Description) (r : Places) (n : ℕ) (fs : List FileEntry)
-    → ((m : ℕ) (f : FileEntry) → m < n → slice_get fs m ≡ Some f → has_place t r f ≡ false) → marked_lines_text t r (replicate n silent) fs ≡ []
-quiet_marked t r zero fs off = refl
-quiet_marked t r (suc n) [] off = refl
-quiet_marked t r (suc n) (f ∷ fs) off =
-    let later : List ℕ = marked_lines_text t r (replicate n silent) fs in
-    ap (λ b. (held_line b file.Good f ++ []) ++ later) (off 0 f (omega arith) refl)
-    ∙ quiet_marked t r n fs (λ m g lt there. off (suc m) g (omega (arith, lt)) there)
-
 pub at_drop : {A : Type 0} (xs : List A) (k n : ℕ) (x : A) → slice_get (drop k xs) n ≡ Some x → slice_get xs (k + n) ≡ Some x
 at_drop xs zero n x there = subst (λ m. slice_get xs m ≡ Some x) (let e : n ≡ 0 + n = omega arith in e) there
 at_drop [] (suc k) n x there = absurd (none-some x there)
@@ -52,34 +41,19 @@ at_drop (y ∷ xs) (suc k) n x there =
 
 pub worse_good : (v : FileVerdict) → worse v file.Good ≡ v
 worse_good file.Good = refl
-worse_good file.Missing = refl
-worse_good file.Unreadable = refl
-worse_good file.WrongLength = refl
-worse_good (file.Bad p) = refl
+worse_good v = refl
 
 pub good_worse : (v w : FileVerdict) → is_good (worse v w) ≡ (is_good v && is_good w)
-good_worse file.Good w = refl
-good_worse file.Missing w = refl
 good_worse file.Unreadable file.Missing = refl
-good_worse file.Unreadable w = refl
 good_worse file.WrongLength file.Missing = refl
-good_worse file.WrongLength file.Unreadable = refl
-good_worse file.WrongLength w = refl
 good_worse (file.Bad p) file.Good = refl
-good_worse (file.Bad p) (file.Bad q) = refl
-good_worse (file.Bad p) w = refl
+good_worse v w = refl
 
 pub whole_worse : (v w : FileVerdict) → is_whole (worse v w) ≡ (is_whole v && is_whole w)
-whole_worse file.Good w = refl
-whole_worse file.Missing w = refl
 whole_worse file.Unreadable file.Missing = refl
-whole_worse file.Unreadable w = refl
 whole_worse file.WrongLength file.Missing = refl
-whole_worse file.WrongLength file.Unreadable = refl
-whole_worse file.WrongLength w = refl
 whole_worse (file.Bad p) file.Good = refl
-whole_worse (file.Bad p) (file.Bad q) = refl
-whole_worse (file.Bad p) w = refl
+whole_worse v w = refl
 
 pub and_true : (b : Bool) → (b && true) ≡ b
 and_true true = refl
@@ -89,21 +63,10 @@ and_true false = refl
 pub all_more : {A : Type 0} (p : A → Bool) (xs : List A) (x : A) → list_all p (xs ++ x ∷ []) ≡ (list_all p xs && p x)
 all_more p xs x = list_all-append p xs (x ∷ []) ∙ ap (λ b. list_all p xs && b) (and_true (p x))
 
-pub all_good : (p : FileVerdict → Bool) (n : ℕ) → p file.Good ≡ true → list_all p (replicate n file.Good) ≡ true
-all_good p zero is = refl
-all_good p (suc n) is = rw (is, all_good p n is) refl
-
-pub all_padded : (p : FileVerdict → Bool) (xs : List FileVerdict) (n : ℕ) → p file.Good ≡ true → list_all p (xs ++ replicate n file.Good) ≡ list_all p xs
-all_padded p xs n is =
-    list_all-append p xs (replicate n file.Good) ∙ ap (λ b. list_all p xs && b) (all_good p n is) ∙ and_true (list_all p xs)
-
-pub one_of : {A : Type 0} (n k : ℕ) (x y : A) → slice_get (replicate n x) k ≡ Some y → y ≡ x
-one_of zero k x y at = absurd (none-some y at)
-one_of (suc n) zero x y at = sym (same_Some x y at)
-one_of (suc n) (suc k) x y at = one_of n k x y at
-
 pub good_at : (n k : ℕ) (v : FileVerdict) → slice_get (replicate n file.Good) k ≡ Some v → v ≡ file.Good
-good_at n k v at = one_of n k file.Good v at
+good_at zero k v at = absurd (none-some v at)
+good_at (suc n) zero v at = sym (same_Some file.Good v at)
+good_at (suc n) (suc k) v at = good_at n k v at
 
 -- lists of one length that have the same items are one
 pub same_items : {A : Type 0} (xs ys : List A) → length xs ≡ length ys
@@ -113,12 +76,3 @@ same_items [] (y ∷ ys) len same = absurd (omega (arith, len))
 same_items (x ∷ xs) [] len same = absurd (omega (arith, len))
 same_items (x ∷ xs) (y ∷ ys) len same =
     ap₂ (λ z zs. z ∷ zs) (same 0 x y refl refl) (same_items xs ys (omega (arith, len)) (λ n a b at there. same (suc n) a b at there))
-
--- a test of the verdicts of silent files
-pub silent_all : (p : FileVerdict → Bool) (n : ℕ) → p file.Good ≡ true → list_all p (verdicts_of (replicate n silent)) ≡ true
-silent_all p zero is = refl
-silent_all p (suc n) is = rw (is, silent_all p n is) refl
-
-pub silent_verdicts : (n : ℕ) → verdicts_of (replicate n silent) ≡ replicate n file.Good
-silent_verdicts zero = refl
-silent_verdicts (suc n) = ap (λ l. file.Good ∷ l) (silent_verdicts n)

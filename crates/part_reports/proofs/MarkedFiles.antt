@@ -1,23 +1,23 @@
 -- What is told of files, in the lines of a report.
 use Rattle.std.proofs.Common.{◌≡◌, ◌⊎◌, inl, inr, ℕ, zero, suc, Bool, true, false, List, [], ◌∷◌, ◌++◌, length, slice_get}
-use Rattle.std.proofs.Common.{Some, option_map, replicate, refl, sym, ap, ap₂, ◌∙◌, subst, append_assoc, append-nil}
+use Rattle.std.proofs.Common.{Some, option_map, refl, sym, ap, ap₂, ◌∙◌, subst, append_assoc, append-nil}
 use Rattle.std.proofs.lemmas.Option.{none-some, same_Some, slice_get-map}
 use Rattle.chains.proofs.Cases.{item_stays, pushed_at, pushed_last}
 use Rattle.opening.specs.Description.{Description, FileEntry}
-use Rattle.folders.specs.Printed.{file_verdict_text}
 use Rattle.folders.specs.declared.report.FileVerdict.{FileVerdict}
 use Rattle.folders.specs.declared.report.FileVerdict.TheVariants as file
-use Rattle.parts.specs.MarkedLines.{marked_line, marked_lines_text, verdicts_of}
-use Rattle.parts.specs.PartLines.{has_place, held_line}
-use Rattle.parts.specs.Runs.{Run, runs_text}
+use Rattle.parts.specs.MarkedLines.{verdicts_of}
+use Rattle.parts.specs.PartLines.{has_place}
+use Rattle.parts.specs.Runs.{Run}
 use Rattle.parts.specs.declared.places.Places.{Places}
+use Rattle.part_reports.specs.ReadLines.{file_verdict_text, held_line, marked_line, marked_lines_text, runs_text}
 use Rattle.part_reports.specs.Lines.{BeginsWithFile, HasLine, HasNoRun, HasRuns, IsSmall, ReadsFileLine, ReadsLine, ReadsRuns, TellsOfFile}
 use Rattle.part_reports.specs.Marks.{CanMark, IsInRuns, IsTold}
 use Rattle.part_reports.specs.Reported.{CanSay}
 use Rattle.part_reports.specs.declared.marked_report.BadPieces.{BadPieces}
 use Rattle.part_reports.specs.declared.kind.Kind.{Kind}
 use Rattle.part_reports.specs.declared.kind.Kind.TheVariants as kind
-use Rattle.part_reports.proofs.Listed.{one_of, silent}
+use Rattle.part_reports.proofs.Listed.{silent}
 use Rattle.part_reports.proofs.RunLines.{verdict_no_run}
 use Rattle.part_reports.proofs.RunMarks.{in_none, marks_none}
 use Rattle.part_reports.proofs.SameLines.{same_line}
@@ -26,10 +26,8 @@ use Rattle.part_reports.proofs.SameLines.{same_line}
 
 pub off_good : (t : Description) (r : Places) (f : FileEntry) (v : FileVerdict) → has_place t r f ≡ false → CanSay t r f v → v ≡ file.Good
 off_good t r f file.Good off can = refl
-off_good t r f file.Missing off can = (let x : ⊥ = cc in absurd x)
-off_good t r f file.Unreadable off can = (let x : ⊥ = cc in absurd x)
-off_good t r f file.WrongLength off can = (let x : ⊥ = cc in absurd x)
 off_good t r f (file.Bad p) off can = (let on = can.0 in (let x : ⊥ = cc in absurd x))
+off_good t r f v off can = (let x : ⊥ = cc in absurd x)
 
 good_runs : (k : Kind) (t : Description) (r : Places) (f : FileEntry) (runs : List Run) → CanMark k t r f file.Good runs → runs ≡ []
 good_runs kind.Plain t r f runs can = can
@@ -129,6 +127,24 @@ plain_file t r f text v rest bad small line = record {
       (same.0, sym told.can_mark, same.1 ∙ ap (λ rs. runs_text t f rs ++ more) told.can_mark);
 }
 
+-- nothing is read of a file without a place
+pub off_file : (k : Kind) (t : Description) (r : Places) (f : FileEntry) (text : List ℕ) (bad : BadPieces) → has_place t r f ≡ false
+    → ReadsFileLine k t r f text file.Good text bad bad
+off_file k t r f text bad off = record {
+  runs = [];
+  can = tt;
+  can_mark = no_runs_of_good k t r f;
+  is = ap (λ b. (held_line b file.Good f ++ []) ++ text) (sym off);
+  marks = marks_none (IsInRuns f []) bad (in_none f);
+  only = λ w others rest told.
+      let none = off_silent k t r f (w, others) off told.can told.can_mark in (
+        ap (λ (x : FileVerdict × List Run). x.0) (sym none),
+        ap (λ (x : FileVerdict × List Run). x.1) (sym none),
+        told.is ∙ ap (λ (x : FileVerdict × List Run). marked_line t r f x.0 x.1 ++ rest) none
+            ∙ ap (λ b. (held_line b file.Good f ++ []) ++ rest) off,
+      );
+}
+
 -- a file of a marked report was read
 pub marked_file : (t : Description) (r : Places) (f : FileEntry) (text : List ℕ) (v : FileVerdict) (rest more : List ℕ) (old new : BadPieces)
     → ((w : FileVerdict) → CanSay t r f w → IsSmall w) → ReadsLine t r f (has_place t r f) text v rest → ReadsRuns t r f v rest more old new
@@ -204,12 +220,6 @@ more_told t read i f v runs q there count (inr last) = record {
   at = pushed_last read (v, runs) i (sym count);
   within = last;
 }
-
--- nothing is told of silent files
-pub silent_untold : (t : Description) (n q : ℕ) → IsTold t (replicate n silent) q → ⊥
-silent_untold t n q told =
-    let none : told.told.1 ≡ [] = ap (λ (x : FileVerdict × List Run). x.1) (one_of n told.number silent told.told told.at) in
-    in_none told.file q (subst (λ rs. IsInRuns told.file rs q) none told.within)
 
 -- the verdict of what is told of a file
 pub said_at : (marked : List (FileVerdict × List Run)) (n : ℕ) (v : FileVerdict) → slice_get (verdicts_of marked) n ≡ Some v

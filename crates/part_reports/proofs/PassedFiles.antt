@@ -1,16 +1,11 @@
 -- The place of a byte, counted from a file that was passed.
-use Rattle.std.proofs.Common.{◌≡◌, ℕ, zero, suc, ◌+◌, ◌-◌, ◌/◌, ◌<◌, ◌≤◌, false, cond, nat_lt, List, [], ◌∷◌}
-use Rattle.std.proofs.Common.{length, map, take, drop, sum_by, slice_get, get_or, option_map, Some}
-use Rattle.std.proofs.Common.{sym, ap, ◌∙◌, subst, arith}
+use Rattle.std.proofs.Common.{◌≡◌, ℕ, zero, suc, ◌+◌, ◌-◌, ◌/◌, ◌≤◌, false, cond, nat_lt, List, [], ◌∷◌}
+use Rattle.std.proofs.Common.{length, take, drop, sum_by}
+use Rattle.std.proofs.Common.{sym, ap, ◌∙◌, arith}
 use Rattle.std.proofs.lemmas.Bool.Decides.{nat_tests}
 use Rattle.std.proofs.lemmas.List.Sums.{sum_by-cons}
-use Rattle.std.proofs.lemmas.Option.{same_Some, slice_get-get_or, slice_get-map}
-use Rattle.opening.specs.Description.{Description, FileEntry}
-use Rattle.opening.specs.Seen.{file_entry}
-use Rattle.opening.specs.declared.torrent.File.{File}
-use Rattle.parts.specs.Parts.{place_count}
+use Rattle.opening.specs.Description.{FileEntry}
 use Rattle.parts.specs.Shares.{piece_at_byte}
-use Rattle.parts.proofs.SharedPlaces.{place_later, sum_next}
 
 abbrev pub byte_length : FileEntry → ℕ
 byte_length f = f.length
@@ -31,31 +26,3 @@ place_behind pl past (f ∷ fs) (suc k) byte within le =
   where
     no_lt : (a b : ℕ) → b ≤ a → nat_lt a b ≡ false
     no_lt a b le = grind (arith, nat_tests, le)
-
--- ---- files as they lie in memory
-
-pub same_default : (xs : List File) (i : ℕ) (d e : File) → i < length xs → get_or xs i d ≡ get_or xs i e
-same_default xs i d e lt = same_Some (get_or xs i d) (get_or xs i e) (sym (slice_get-get_or xs i d lt) ∙ slice_get-get_or xs i e lt)
-
-pub in_torrent : (t : Description) (xs : List File) (i : ℕ) (d : File) → map file_entry xs ≡ t.files → i < length xs
-    → slice_get t.files i ≡ Some (file_entry (get_or xs i d))
-in_torrent t xs i d of lt =
-    subst (λ fs. slice_get fs i ≡ Some (file_entry (get_or xs i d))) of
-    (slice_get-map file_entry xs i ∙ ap (option_map file_entry) (slice_get-get_or xs i d lt))
-
--- one more file is passed
-pub next_passed : (t : Description) (xs : List File) (i : ℕ) (d e : File) (left byte : ℕ) → map file_entry xs ≡ t.files → i < length xs
-    → (get_or xs i d).length ≤ left → left + sum_by byte_length (take i t.files) ≡ byte
-    → left - (get_or xs i e).length + sum_by byte_length (take (i + 1) t.files) ≡ byte
-next_passed t xs i d e left byte of lt le is =
-    let same = ap (λ (f : File). f.length) (same_default xs i d e lt) in
-    let next = (sum_next byte_length t i (file_entry (get_or xs i e)) (in_torrent t xs i e of lt)).0 in
-    omega (arith, same, next, le, is)
-
-pub next_place : (t : Description) (xs : List File) (i : ℕ) (d e : File) (left place : ℕ) → map file_entry xs ≡ t.files → i < length xs
-    → (get_or xs i d).length ≤ left → piece_at_byte t.piece_length (place_count t) (drop i t.files) left ≡ place
-    → piece_at_byte t.piece_length (place_count t) (drop (i + 1) t.files) (left - (get_or xs i e).length) ≡ place
-next_place t xs i d e left place of lt le is =
-    let same = ap (λ (f : File). f.length) (same_default xs i d e lt) in
-    let f = file_entry (get_or xs i e) in
-    sym (place_later t.piece_length (place_count t) t.files i left f (in_torrent t xs i e of lt) (omega (arith, same, le))) ∙ is

@@ -1,6 +1,6 @@
 -- The readings of the lines of a part's files.
-use Rattle.std.proofs.Common.{◌≡◌, ◌⊎◌, ℕ, zero, suc, ◌+◌, ◌-◌, ◌<◌, ◌≤◌, List, [], ◌∷◌}
-use Rattle.std.proofs.Common.{◌++◌, length, take, drop, set, slice_get}
+use Rattle.std.proofs.Common.{◌≡◌, ℕ, ◌+◌, ◌<◌, List, ◌∷◌}
+use Rattle.std.proofs.Common.{◌++◌, length, drop, set, slice_get}
 use Rattle.std.proofs.Common.{Option, Some, inl, inr, sym, ap, ◌∙◌, subst, append_assoc, arith}
 use Rattle.std.proofs.lemmas.Bool.{cases_lt}
 use Rattle.std.proofs.lemmas.List.{drop_more, length-map, length-set}
@@ -12,12 +12,12 @@ use Rattle.folders.specs.Verdicts.{is_yes}
 use Rattle.folders.specs.declared.report.FileVerdict.{FileVerdict}
 use Rattle.folders.specs.declared.report.FileVerdict.TheVariants as file
 use Rattle.folders.specs.declared.report.V1Verdict.{V1Verdict}
-use Rattle.parts.specs.MarkedLines.{marked_line, marked_lines_text, verdicts_of}
-use Rattle.parts.specs.PartLines.{end_lines}
+use Rattle.parts.specs.MarkedLines.{verdicts_of}
 use Rattle.parts.specs.Runs.{Run}
 use Rattle.parts.specs.declared.places.Places.{Places}
 use Rattle.parts.proofs.SharedPlaces.{sum_next}
 use Rattle.parts.specs.Parts.{piece_count}
+use Rattle.part_reports.specs.ReadLines.{end_lines, marked_line, marked_lines_text}
 use Rattle.part_reports.specs.Lines.{HasLines, IsSmall, TellsOfFile}
 use Rattle.part_reports.specs.Marks.{CanMarkAll}
 use Rattle.part_reports.specs.Reported.{CanReport, CanSay, CanSayAll}
@@ -26,25 +26,6 @@ use Rattle.part_reports.proofs.Listed.{at_drop}
 use Rattle.part_reports.proofs.MarkedFiles.{CanBeTold, files_no_run, verdict_at}
 use Rattle.part_reports.proofs.RunLines.{end_no_run}
 use Rattle.part_reports.proofs.SameLines.{AreSmall}
-
--- an item of two lists is one of the first, or of the second
-pub in_either : {A : Type 0} (xs ys : List A) (n : ℕ) (x : A) → slice_get (xs ++ ys) n ≡ Some x
-    → ((n < length xs) × (slice_get xs n ≡ Some x)) ⊎ ((length xs ≤ n) × (slice_get ys (n - length xs) ≡ Some x))
-in_either [] ys n x at = inr (omega arith, subst (λ k. slice_get ys k ≡ Some x) (let e : n ≡ n - 0 = omega arith in e) at)
-in_either (y ∷ xs) ys zero x at = inl (omega arith, at)
-in_either (y ∷ xs) ys (suc n) x at = elim (in_either xs ys n x at) [
-  | inl before ↦ inl (omega (arith, before.0), before.1)
-  | inr after ↦
-      let k : n - length xs ≡ suc n - length (y ∷ xs) = omega arith in
-      inr (omega (arith, after.0), subst (λ m. slice_get ys m ≡ Some x) k after.1)
-]
-
-pub taken : {A : Type 0} (xs : List A) (i n : ℕ) (x : A) → n < i → slice_get (take i xs) n ≡ Some x → slice_get xs n ≡ Some x
-taken [] zero n x lt at = absurd (omega (arith, lt))
-taken [] (suc i) n x lt at = at
-taken (y ∷ xs) zero n x lt at = absurd (omega (arith, lt))
-taken (y ∷ xs) (suc i) zero x lt at = at
-taken (y ∷ xs) (suc i) (suc n) x lt at = taken xs i n x (omega (arith, lt)) at
 
 pub at_other : {A : Type 0} (xs : List A) (i n : ℕ) (x : A) → (n ≡ i → ⊥) → slice_get (set xs i x) n ≡ slice_get xs n
 at_other xs i n x other = elim (cases_lt n (length xs)) [
@@ -61,14 +42,11 @@ at_same xs i x lt = slice_get-get_or (set xs i x) i x (omega (arith, lt, length-
 -- what a part can say of a file of a sound torrent has a small number
 pub says_small : (t : Description) (r : Places) (n : ℕ) (f : FileEntry) (v : FileVerdict) → IsSound t → slice_get t.files n ≡ Some f → CanSay t r f v
     → IsSmall v
-says_small t r n f file.Good sound there can = tt
-says_small t r n f file.Missing sound there can = tt
-says_small t r n f file.Unreadable sound there can = tt
-says_small t r n f file.WrongLength sound there can = tt
 says_small t r n f (file.Bad p) sound there can =
     let pieces : FileEntry → ℕ = λ g. piece_count t g in
     let end = sum_next pieces t n f there in
     omega (arith, can.1.to, end.1, sound.laid_out.first_pieces n f there, sound.laid_out.pieces)
+says_small t r n f v sound there can = tt
 
 pub all_small : (t : Description) (r : Places) (vs : List FileVerdict) → IsSound t → CanSayAll t r t.files vs → AreSmall t r t.files vs
 all_small t r vs sound says n f v there at on = says_small t r n f v sound there (says n f v there at)

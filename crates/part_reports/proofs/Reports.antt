@@ -12,18 +12,15 @@ use Rattle.folders.specs.declared.report.V1Verdict.{V1Verdict}
 use Rattle.folders.specs.declared.report.V1Verdict.TheVariants as version1
 use Rattle.parts.specs.Joins.{IsJoin, IsWorst, NoWorse, NoWorseV1, says_of, says_of_v1}
 use Rattle.parts.specs.Laws.{WorseJoins, WorseJoinsV1}
-use Rattle.parts.specs.MarkedLines.{verdicts_of}
 use Rattle.parts.specs.Parts.{PartReport}
 use Rattle.parts.specs.Worse.{worse, worse_v1}
 use Rattle.part_reports.specs.Lines.{JoinsMore, MarkedPart}
 use Rattle.part_reports.specs.MarkedJoins.{AreMarksOf, AreReadAs, IsReadAs, IsTextAs, report_text_of}
 use Rattle.part_reports.specs.Marks.{IsPieceMarked, IsTold, MarksMore}
-use Rattle.part_reports.specs.Reported.{CanReport}
 use Rattle.part_reports.specs.Reasons.{AreNamed, IsReportOfKind}
 use Rattle.part_reports.proofs.Faults.{head_of}
 use Rattle.part_reports.proofs.Heads.{one_head}
 use Rattle.part_reports.specs.declared.kind.Kind.{Kind}
-use Rattle.part_reports.specs.declared.kind.Kind.TheVariants as kind
 use Rattle.part_reports.specs.declared.marked_report.MarkedReport.{MarkedReport}
 use Rattle.part_reports.proofs.Listed.{good_at}
 
@@ -82,15 +79,7 @@ text_there texts i other text within is =
 -- the report of a part, which was read, is one
 pub read_report : (k : Kind) (t : Description) (texts : List (List ℕ)) (part count : ℕ) (p : MarkedPart) → part < count → count < 2 ^ 64
     → IsReadAs k t texts part count p → IsReportOfKind k t part count (report_text_of k t part count p)
-read_report kind.Plain t texts part count p there small read = record {
-  there = there;
-  small = small;
-  files = verdicts_of p.marked;
-  v1 = p.v1;
-  can = subst (λ r. CanReport t r (verdicts_of p.marked) p.v1) read.places read.can.says;
-  is = refl;
-}
-read_report kind.Marked t texts part count p there small read = record {
+read_report k t texts part count p there small read = record {
   there = there;
   small = small;
   said = p;

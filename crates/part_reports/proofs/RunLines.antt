@@ -6,21 +6,21 @@ use Rattle.std.specs.List.{prefix_len}
 use Rattle.std.proofs.lemmas.Bool.Decides.{nat_tests}
 use Rattle.std.proofs.lemmas.Fmt.{decimal_is_IsNumeral}
 use Rattle.std.proofs.lemmas.Option.{none-some, same_Some}
+use Rattle.lines.specs.Texts.{items_text}
 use Rattle.opening.specs.Description.{Description, FileEntry}
 use Rattle.opening.specs.Sound.{IsSound}
-use Rattle.folders.specs.Printed.{file_verdict_text, stream_words}
 use Rattle.folders.specs.Verdicts.{IsFileOf}
 use Rattle.folders.specs.declared.report.FileVerdict.{FileVerdict}
 use Rattle.folders.specs.declared.report.FileVerdict.TheVariants as file
 use Rattle.folders.specs.declared.report.V1Verdict.{V1Verdict}
 use Rattle.folders.specs.declared.report.V1Verdict.TheVariants as version1
-use Rattle.parts.specs.PartLines.{answer_line}
 use Rattle.parts.specs.Parts.{piece_count}
-use Rattle.parts.specs.Runs.{Run, run_text, runs_text}
+use Rattle.parts.specs.Runs.{Run}
 use Rattle.parts.proofs.GoodPieces.{piece_fits}
 use Rattle.parts.specs.Spans.{end_in, first_in}
 use Rattle.parts.specs.Telling.{has_runs}
 use Rattle.parts.specs.declared.places.Places.{Places}
+use Rattle.part_reports.specs.ReadLines.{answer_line, file_verdict_text, run_text, runs_text, stream_words}
 use Rattle.part_reports.specs.Lines.{HasNoRun, HasRuns, IsSmall, ReadsRuns}
 use Rattle.part_reports.specs.Marks.{AreRunsWithin, BeginsAtBad, CanTell, IsInRuns}
 use Rattle.part_reports.specs.RunLines.{BeginsRightly, HasOneRun, IsRunWithin, ReadsAll}
@@ -39,6 +39,7 @@ behind_numbers t f r more =
 
 pub run_front : (t : Description) (f : FileEntry) (r : Run) (more : List ℕ) → run_text t f r ++ more
     ≡ codes "bad pieces " ++ (decimal (f.first_piece + r.first) ++ 32 ∷ (decimal (f.first_piece + r.last) ++ 32 ∷ behind_numbers t f r more))
+unfolding items_text
 run_front t f r more = simp append_assoc refl
 
 same_run : (r s : Run) → r.first ≡ s.first → r.last ≡ s.last → r ≡ s
@@ -147,10 +148,6 @@ stopped t f from to at runs text rest at_is is none empty has =
 -- the runs begin rightly if their lines do
 pub rightly : (t : Description) (f : FileEntry) (from to : ℕ) (v : FileVerdict) (runs : List Run) (text more : List ℕ) → AreRunsWithin from to runs
     → BeginsAtBad f v runs → text ≡ runs_text t f runs ++ more → BeginsRightly t f from to v text
-rightly t f from to file.Good runs text more are begins is = tt
-rightly t f from to file.Missing runs text more are begins is = tt
-rightly t f from to file.Unreadable runs text more are begins is = tt
-rightly t f from to file.WrongLength runs text more are begins is = tt
 rightly t f from to (file.Bad p) [] text more are begins is = absurd (none-some begins.0 begins.1)
 rightly t f from to (file.Bad p) (r ∷ rs) text more are begins is = (
   r,
@@ -158,14 +155,11 @@ rightly t f from to (file.Bad p) (r ∷ rs) text more are begins is = (
   ap (λ (x : Run). f.first_piece + x.first) (same_Some r begins.0 begins.1) ∙ begins.2,
   (runs_text t f rs ++ more, is ∙ append_assoc (run_text t f r) (runs_text t f rs) more),
 )
+rightly t f from to v runs text more are begins is = tt
 
 pub begins_at : (t : Description) (f : FileEntry) (from to : ℕ) (v : FileVerdict) (runs : List Run) (text more : List ℕ) → IsSound t → IsFileOf t f
     → to ≤ piece_count t f → AreRunsWithin from to runs → (runs ≡ [] → HasOneRun t f from to text → ⊥) → text ≡ runs_text t f runs ++ more
     → BeginsRightly t f from to v text → BeginsAtBad f v runs
-begins_at t f from to file.Good runs text more sound own le are some is begins = tt
-begins_at t f from to file.Missing runs text more sound own le are some is begins = tt
-begins_at t f from to file.Unreadable runs text more sound own le are some is begins = tt
-begins_at t f from to file.WrongLength runs text more sound own le are some is begins = tt
 begins_at t f from to (file.Bad p) [] text more sound own le are some is begins = absurd (some refl (begins.0, begins.1, begins.3))
 begins_at t f from to (file.Bad p) (r ∷ rs) text more sound own le are some is begins =
     let other = begins.3 in
@@ -173,25 +167,24 @@ begins_at t f from to (file.Bad p) (r ∷ rs) text more sound own le are some is
     let same = one_run t f from to r begins.0 later other.0 sound own le (first_within from to r rs are) begins.1
     (sym (append_assoc (run_text t f r) (runs_text t f rs) more) ∙ sym is ∙ other.1) in
     (r, refl, ap (λ (x : Run). f.first_piece + x.first) same.0 ∙ begins.2)
+begins_at t f from to v runs text more sound own le are some is begins = tt
 
 -- ---- what begins with no line of a run
 
 pub verdict_no_run : (f : FileEntry) (v : FileVerdict) (xs : List ℕ) → IsSmall v → HasNoRun (file_verdict_text v f ++ xs)
-verdict_no_run f file.Good xs small begins = omega (arith, ap (λ l. get_or l 0 0) begins.1)
-verdict_no_run f file.Missing xs small begins = omega (arith, ap (λ l. get_or l 0 0) begins.1)
-verdict_no_run f file.Unreadable xs small begins = omega (arith, ap (λ l. get_or l 0 0) begins.1)
-verdict_no_run f file.WrongLength xs small begins = omega (arith, ap (λ l. get_or l 0 0) begins.1)
+unfolding items_text
 verdict_no_run f (file.Bad p) xs small begins =
     let behind = same_rest (codes "bad ") _ (codes "pieces " ++ begins.0) (sym (bad_line p f xs) ∙ begins.1) in
     let len : length (decimal p) ≡ 0 = sym (decimal_len p 32 _ small refl) ∙ ap (prefix_len is_ascii_digit) behind in
     omega (arith, len, (decimal_is_IsNumeral p small).0.0)
+verdict_no_run f v xs small begins = omega (arith, ap (λ l. get_or l 0 0) begins.1)
 
 pub end_no_run : (v1 : Option V1Verdict) (answer : Bool) → HasNoRun (stream_words v1 ++ answer_line answer)
+unfolding items_text
 end_no_run None true begins = omega (arith, ap (λ l. get_or l 0 0) begins.1)
 end_no_run None false begins = omega (arith, ap (λ l. get_or l 0 0) begins.1)
 end_no_run (Some version1.Good) answer begins = omega (arith, ap (λ l. get_or l 0 0) begins.1)
-end_no_run (Some version1.NotChecked) answer begins = omega (arith, ap (λ l. get_or l 0 0) begins.1)
-end_no_run (Some (version1.Bad p)) answer begins = omega (arith, ap (λ l. get_or l 0 0) begins.1)
+end_no_run (Some v) answer begins = omega (arith, ap (λ l. get_or l 0 0) begins.1)
 
 -- ---- the runs of a file, read
 

@@ -2,15 +2,14 @@
 use Rattle.std.proofs.Common.{◌≡◌, ℕ, ◌^◌, ◌<◌, ◌≤◌, Bool, true, false, not, ◌&&◌, ◌+◌, ◌-◌, ◌++◌, IsTrue, List, Option}
 use Rattle.std.proofs.Common.{Some, None, is_some, refl, sym, ap, subst, ◌∙◌, arith}
 use Rattle.std.proofs.lemmas.Option.{same_Some}
-use Rattle.folders.specs.Printed.{stream_words}
 use Rattle.folders.specs.Verdicts.{is_checked, is_good, is_whole, stream_is_good}
 use Rattle.folders.specs.declared.report.FileVerdict.{FileVerdict}
 use Rattle.folders.specs.declared.report.V1Verdict.{V1Verdict}
 use Rattle.folders.specs.declared.report.V1Verdict.TheVariants as version1
 use Rattle.opening.specs.Description.{Description}
-use Rattle.parts.specs.PartLines.{answer_line}
 use Rattle.parts.specs.Parts.{place_count}
 use Rattle.parts.specs.declared.places.Places.{Places}
+use Rattle.part_reports.specs.ReadLines.{answer_line, stream_words}
 use Rattle.part_reports.specs.Lines.{HasEnd, IsSmallV1, SaysEnd}
 use Rattle.part_reports.specs.Reported.{CanSayV1}
 
@@ -62,9 +61,8 @@ says_none r pieces worst v is = (let x : ⊥ = cc in absurd x)
 
 -- what can be said has a small number, where there are not too many pieces
 pub small_said : (r : Places) (pieces : ℕ) (v : V1Verdict) → pieces < 2 ^ 64 → CanSayV1 r pieces v → IsSmallV1 v
-small_said r pieces version1.Good few can = tt
-small_said r pieces version1.NotChecked few can = tt
 small_said r pieces (version1.Bad q) few can = omega (arith, few, can.1)
+small_said r pieces v few can = tt
 
 -- what another end says of the version 1 pieces is what was read of them
 pub same_said_v1 : (t : Description) (r : Places) (pieces : ℕ) (worst : FileVerdict) (text : List ℕ) (v1 : Option V1Verdict) → pieces + 1 ≡ place_count t

@@ -1,35 +1,34 @@
 -- The lines of a part's files, read and joined up to some file.
-use Rattle.std.proofs.Common.{◌≡◌, ℕ, ◌+◌, ◌<◌, ◌≤◌, false, ◌&&◌, List, [], ◌∷◌}
-use Rattle.std.proofs.Common.{◌++◌, length, take, drop, replicate, set, slice_get}
+use Rattle.std.proofs.Common.{◌≡◌, ℕ, zero, suc, ◌+◌, ◌<◌, ◌≤◌, ◌&&◌, List, [], ◌∷◌}
+use Rattle.std.proofs.Common.{◌++◌, length, take, drop, set, slice_get}
 use Rattle.std.proofs.Common.{Option, Some, is_some, inl, inr, refl, sym, ap, ap₂, ◌∙◌, subst, append_assoc, append-nil, arith}
 use Rattle.std.specs.List.{list_all}
-use Rattle.std.proofs.lemmas.List.{drop_all, drop_more, length-append, length-map, length-replicate, length-set, map-append, take-append-drop}
-use Rattle.std.proofs.lemmas.List.{length-take-le, take_all, take_more}
-use Rattle.std.proofs.lemmas.Option.{same_Some, slice_get_within, get_or_from_slice_get}
+use Rattle.std.proofs.lemmas.List.{drop_all, drop_more, length-append, length-map, length-set, map-append}
+use Rattle.std.proofs.lemmas.List.{set-get_or, take_all, take_more}
+use Rattle.std.proofs.lemmas.Option.{none-some, same_Some, slice_get_within, get_or_from_slice_get}
 use Rattle.chains.proofs.Cases.{item_at}
 use Rattle.opening.proofs.SoundTrees.{push_at}
 use Rattle.opening.specs.Description.{Description, FileEntry}
 use Rattle.opening.specs.Sound.{IsSound}
-use Rattle.folders.specs.Printed.{stream_words}
 use Rattle.folders.specs.Verdicts.{is_good, is_whole, stream_is_good}
 use Rattle.folders.specs.declared.report.FileVerdict.{FileVerdict}
 use Rattle.folders.specs.declared.report.FileVerdict.TheVariants as file
 use Rattle.folders.specs.declared.report.V1Verdict.{V1Verdict}
-use Rattle.parts.specs.MarkedLines.{marked_line, marked_lines_text, verdicts_of}
-use Rattle.parts.specs.PartLines.{answer_line, end_lines, has_place}
+use Rattle.parts.specs.MarkedLines.{verdicts_of}
 use Rattle.parts.specs.Runs.{Run}
 use Rattle.parts.specs.Worse.{worse, worse_v1}
 use Rattle.parts.specs.declared.places.Places.{Places}
-use Rattle.part_reports.specs.Lines.{BeginsWithFile, HasEnd, HasLines, JoinsLines, ReadsEnd, ReadsFileLine}
+use Rattle.part_reports.specs.ReadLines.{answer_line, end_lines, marked_line, marked_lines_text, stream_words}
+use Rattle.part_reports.specs.Lines.{AreOff, BeginsWithFile, HasEnd, HasLines, JoinsLines, ReadsEnd, ReadsFileLine}
 use Rattle.part_reports.specs.Marks.{CanMark, IsInRuns, IsTold, MarksMore}
 use Rattle.part_reports.specs.Reported.{CanSay}
 use Rattle.part_reports.specs.declared.marked_report.BadPieces.{BadPieces}
 use Rattle.part_reports.specs.declared.kind.Kind.{Kind}
 use Rattle.part_reports.specs.declared.marked_report.MarkedReport.{MarkedReport}
-use Rattle.part_reports.proofs.Listed.{all_more, good_worse, one_of, quiet_marked}
-use Rattle.part_reports.proofs.Listed.{same_items, silent, silent_all, split_marked, whole_worse, worse_good}
-use Rattle.part_reports.proofs.MarkedFiles.{more_told, no_runs_of_good, off_silent, said_at, silent_untold, told_more, verdict_at}
-use Rattle.part_reports.proofs.Readings.{Reading, at_other, at_same, counted, left_of, next_told, reading_of, taken}
+use Rattle.part_reports.proofs.Listed.{all_more, good_worse}
+use Rattle.part_reports.proofs.Listed.{split_marked, whole_worse, worse_good}
+use Rattle.part_reports.proofs.MarkedFiles.{more_told, off_file, said_at, told_more}
+use Rattle.part_reports.proofs.Readings.{Reading, at_other, at_same, counted, left_of, next_told, reading_of}
 use Rattle.part_reports.proofs.RunMarks.{marks_both, marks_none}
 
 -- What is told of the first files was read and joined: this is the worst verdict, and this follows. Nothing else can be read there.
@@ -50,65 +49,29 @@ pub record LinesSoFar (k : Kind) (t : Description) (r : Places) (lines : List �
   pub only : (marked : List (FileVerdict × List Run)) (v1 : Option V1Verdict) → Reading k t r lines marked v1
       → (take i marked ≡ read) × (rest ≡ left_of t r marked v1 i)
 
--- these files have no place in the part
-abbrev pub AreOff : Description → Places → (ℕ → Type 0) → Type 0
-AreOff t r Are = (n : ℕ) (f : FileEntry) → Are n → slice_get t.files n ≡ Some f → has_place t r f ≡ false
+-- ---- no file, the next, and those without a place
 
--- ---- the first file that may have a place, the next, and all
-
-pub so_far_none : (k : Kind) (t : Description) (r : Places) (lines : List ℕ) (old : List FileVerdict) (was : BadPieces) (first : ℕ)
-    → first ≤ length t.files → AreOff t r (λ n. n < first) → LinesSoFar k t r lines old old was was first file.Good lines
-so_far_none k t r lines old was first inside off = record {
-  read = read;
-  count = count;
-  says = λ n f x there at.
-      let is : x ≡ silent = one_of first n silent x at in
-      subst (λ (y : FileVerdict × List Run). CanSay t r f y.0 × CanMark k t r f y.0 y.1) (sym is) (tt, no_runs_of_good k t r f);
-  is = sym (ap (λ x. x ++ lines) none);
-  good = silent_all is_good first refl;
-  whole = silent_all is_whole first refl;
+pub so_far_none : (k : Kind) (t : Description) (r : Places) (lines : List ℕ) (old : List FileVerdict) (was : BadPieces)
+    → LinesSoFar k t r lines old old was was 0 file.Good lines
+so_far_none k t r lines old was = record {
+  read = [];
+  count = refl;
+  says = λ n f x there at. absurd (none-some x at);
+  is = refl;
+  good = refl;
+  whole = refl;
   own = refl;
-  each = λ n a x at said.
-      let is : x.0 ≡ file.Good = ap (λ (y : FileVerdict × List Run). y.0) (one_of first n silent x said) in
-      at ∙ ap Some (sym (ap (worse a) is ∙ worse_good a));
+  each = λ n a x at said. absurd (none-some x said);
   stays = λ n le. refl;
-  marks = marks_none (IsTold t read) was (silent_untold t first);
-  only = λ marked v1 reading.
-      let len = counted k t r lines marked v1 reading in
-      let front : List (FileVerdict × List Run) = take first marked in
-      let front_len : length front ≡ first = length-take-le first marked (omega (arith, inside, len)) in
-      let same : front ≡ read = same_items front read (front_len ∙ sym count) (λ n x y x_at y_at.
-      let lt = slice_get_within front n x x_at in
-      let f = item_at t.files n (omega (arith, lt, front_len, inside)) in
-      let at = taken marked first n x (omega (arith, lt, front_len)) x_at in
-      off_silent k t r f.0 x (off n f.0 (omega (arith, lt, front_len)) f.1) (reading.can.says n f.0 x.0 f.1 (verdict_at marked n x at))
-      (reading.marks n f.0 x f.1 at) ∙ sym (one_of first n silent y y_at)) in
-      let split : marked_lines_text t r marked t.files ≡ marked_lines_text t r front t.files ++ marked_lines_text t r (drop first marked) (drop first t.files)
-      = ap (λ m. marked_lines_text t r m t.files) (sym (take-append-drop first marked))
-      ∙ split_marked t r front (drop first marked) t.files (omega (arith, front_len, inside))
-      ∙ ap (λ n. marked_lines_text t r front t.files ++ marked_lines_text t r (drop first marked) (drop n t.files)) front_len in
-      let empty : marked_lines_text t r front t.files ≡ [] = ap (λ m. marked_lines_text t r m t.files) same ∙ none in (
-        same,
-        reading.is
-            ∙ ap (λ l. l ++ end_lines (verdicts_of marked) v1)
-            (split ∙ ap (λ l. l ++ marked_lines_text t r (drop first marked) (drop first t.files)) empty),
-      );
+  marks = marks_none (IsTold t []) was (λ q told. none-some told.told told.at);
+  only = λ marked v1 reading. (refl, reading.is);
 }
-  where
-    read : List (FileVerdict × List Run)
-    read = replicate first silent
 
-    count : length read ≡ first
-    count = length-replicate {A = FileVerdict × List Run} first silent
-
-    none : marked_lines_text t r read t.files ≡ []
-    none = quiet_marked t r first t.files (λ n f lt there. off n f lt there)
-
-pub so_far_next : (k : Kind) (t : Description) (r : Places) (lines : List ℕ) (old new : List FileVerdict) (was now later : BadPieces) (i : ℕ)
-    (worst : FileVerdict) (rest : List ℕ) (f : FileEntry) (v a : FileVerdict) (more : List ℕ) → IsSound t → slice_get t.files i ≡ Some f
-    → slice_get new i ≡ Some a → ReadsFileLine k t r f rest v more now later → LinesSoFar k t r lines old new was now i worst rest
+pub so_far_next : {k : Kind} {t : Description} {r : Places} {lines : List ℕ} {old new : List FileVerdict} {was now later : BadPieces} {i : ℕ}
+    {worst : FileVerdict} {rest : List ℕ} {f : FileEntry} {v a : FileVerdict} {more : List ℕ} → LinesSoFar k t r lines old new was now i worst rest
+    → IsSound t → slice_get t.files i ≡ Some f → slice_get new i ≡ Some a → ReadsFileLine k t r f rest v more now later
     → LinesSoFar k t r lines old (set new i (worse a v)) was later (i + 1) (worse worst v) more
-so_far_next k t r lines old new was now later i worst rest f v a more sound there at file so_far =
+so_far_next {k} {t} {r} {lines} {old} {new} {was} {now} {later} {i} {worst} {rest} {f} {v} {a} {more} so_far sound there at file =
     let one : FileVerdict × List Run = (v, file.runs) in
     let read : List (FileVerdict × List Run) = so_far.read ++ one ∷ [] in
     let within : i < length t.files = slice_get_within t.files i f there in
@@ -167,13 +130,30 @@ so_far_next k t r lines old new was now later i worst rest f v a more sound ther
           );
     }
 
+-- files that have no place in the part are passed: nothing is read of them
+pub so_far_off : {k : Kind} {t : Description} {r : Places} {lines : List ℕ} {old new : List FileVerdict} {was now : BadPieces} {worst : FileVerdict}
+    {rest : List ℕ} (n i j : ℕ) → LinesSoFar k t r lines old new was now i worst rest → IsSound t → length old ≡ length t.files → i + n ≡ j
+    → j ≤ length t.files → AreOff t r (λ m. (i ≤ m) × (m < j)) → LinesSoFar k t r lines old new was now j worst rest
+so_far_off {k} {t} {r} {lines} {old} {new} {was} {now} {worst} {rest} zero i j so_far sound whole all within off =
+    subst (λ m. LinesSoFar k t r lines old new was now m worst rest) (let e : i ≡ j = omega (arith, all) in e) so_far
+so_far_off {k} {t} {r} {lines} {old} {new} {was} {now} {worst} {rest} (suc n) i j so_far sound whole all within off =
+    let f = item_at t.files i (omega (arith, all, within)) in
+    let a = item_at new i (omega (arith, all, within, whole, so_far.own)) in
+    let next = so_far_next so_far sound f.1 a.1 (off_file k t r f.0 rest now (off i f.0 (omega arith, omega (arith, all)) f.1)) in
+    let same : set new i (worse a.0 file.Good) ≡ new =
+    ap (set new i) (worse_good a.0 ∙ sym (get_or_from_slice_get new i a.0 a.0 a.1)) ∙ set-get_or new i a.0 in
+    so_far_off n (i + 1) j
+    (subst (λ items. LinesSoFar k t r lines old items was now (i + 1) worst rest) same
+    (subst (λ w. LinesSoFar k t r lines old (set new i (worse a.0 file.Good)) was now (i + 1) w rest) (worse_good worst) next))
+    sound whole (omega (arith, all)) within (λ m g both. off m g (omega (arith, both.0), both.1))
+
 -- ---- what another reading says
 
 -- so what is told of the next file is there
-pub file_there : (k : Kind) (t : Description) (r : Places) (lines : List ℕ) (old new : List FileVerdict) (was now : BadPieces) (i : ℕ)
-    (worst : FileVerdict) (rest : List ℕ) (f : FileEntry) → IsSound t → slice_get t.files i ≡ Some f
-    → LinesSoFar k t r lines old new was now i worst rest → HasLines k t r lines → BeginsWithFile k t r f rest
-file_there k t r lines old new was now i worst rest f sound there so_far has =
+pub told_there : {k : Kind} {t : Description} {r : Places} {lines : List ℕ} {old new : List FileVerdict} {was now : BadPieces} {i : ℕ}
+    {worst : FileVerdict} {rest : List ℕ} {f : FileEntry} → LinesSoFar k t r lines old new was now i worst rest → IsSound t
+    → slice_get t.files i ≡ Some f → HasLines k t r lines → BeginsWithFile k t r f rest
+told_there {k} {t} {r} {lines} {old} {new} {was} {now} {i} {worst} {rest} {f} so_far sound there has =
     let reading = reading_of k t r lines has in
     let marked = has.0.marked in
     let v1 = has.0.v1 in
@@ -186,9 +166,9 @@ file_there k t r lines old new was now i worst rest f sound there so_far has =
     )
 
 -- and behind all files the end is there
-pub end_there : (k : Kind) (t : Description) (r : Places) (lines : List ℕ) (old new : List FileVerdict) (was now : BadPieces) (worst : FileVerdict)
-    (rest : List ℕ) → LinesSoFar k t r lines old new was now (length t.files) worst rest → HasLines k t r lines → HasEnd t r worst rest
-end_there k t r lines old new was now worst rest so_far has =
+pub end_there : {k : Kind} {t : Description} {r : Places} {lines : List ℕ} {old new : List FileVerdict} {was now : BadPieces} {worst : FileVerdict}
+    {rest : List ℕ} → LinesSoFar k t r lines old new was now (length t.files) worst rest → HasLines k t r lines → HasEnd t r worst rest
+end_there {k} {t} {r} {lines} {old} {new} {was} {now} {worst} {rest} so_far has =
     let reading = reading_of k t r lines has in
     let marked = has.0.marked in
     let v1 = has.0.v1 in
@@ -209,12 +189,12 @@ end_there k t r lines old new was now worst rest so_far has =
     )
 
 -- if the end of the lines was read too, what they say was joined
-pub joined_whole : (k : Kind) (t : Description) (r : Places) (lines : List ℕ) (old new : MarkedReport) (worst : FileVerdict) (rest : List ℕ)
-    (v1 : Option V1Verdict)
+pub joined_whole : {k : Kind} {t : Description} {r : Places} {lines : List ℕ} (old new : MarkedReport) {worst : FileVerdict} {rest : List ℕ}
+    {v1 : Option V1Verdict}
     → LinesSoFar k t r lines old.report.files.items new.report.files.items old.bad new.bad (length t.files) worst rest → ReadsEnd t r worst rest v1
     → is_some new.report.v1 ≡ is_some old.report.v1
     → ((a b : V1Verdict) → old.report.v1 ≡ Some a → v1 ≡ Some b → new.report.v1 ≡ Some (worse_v1 a b)) → JoinsLines k t r lines old new
-joined_whole k t r lines old new worst rest v1 so_far end hybrid version1 = record {
+joined_whole {k} {t} {r} {lines} old new {worst} {rest} {v1} so_far end hybrid version1 = record {
   part = record { places = r; marked = so_far.read; v1 = v1 };
   places = refl;
   says = record {

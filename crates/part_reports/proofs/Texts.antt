@@ -1,7 +1,7 @@
 -- What the texts of reports make together.
-use Rattle.std.proofs.Common.{◌≡◌, ℕ, ◌-◌, ◌<◌, ◌^◌, Bool, true, false, List, ◌++◌, length, slice_get, Option, Some, is_some}
+use Rattle.std.proofs.Common.{◌≡◌, ℕ, zero, suc, ◌-◌, ◌<◌, ◌^◌, Bool, true, false, List, [], ◌∷◌, ◌++◌, length, map, slice_get, Option, Some, is_some}
 use Rattle.std.proofs.Common.{refl, sym, ap, subst, ◌∙◌, arith}
-use Rattle.std.proofs.lemmas.Option.{slice_get_within}
+use Rattle.std.proofs.lemmas.Option.{none-some, same_Some, slice_get_within}
 use Rattle.chains.proofs.Cases.{item_at, some_of}
 use Rattle.opening.specs.Description.{Description, FileEntry, Version1}
 use Rattle.opening.specs.Sound.{IsSound}
@@ -12,12 +12,15 @@ use Rattle.folders.specs.declared.report.FileVerdict.TheVariants as file
 use Rattle.folders.specs.declared.report.V1Verdict.{V1Verdict}
 use Rattle.folders.specs.declared.report.V1Verdict.TheVariants as version1
 use Rattle.parts.specs.Laws.{PartsMakeTheReport, YesOfParts}
-use Rattle.parts.specs.PartLines.{answer_line, end_lines, has_place, lines_text, part_text, report_head_text}
+use Rattle.parts.specs.MarkedLines.{verdicts_of}
+use Rattle.parts.specs.PartLines.{has_place, part_text}
 use Rattle.parts.specs.Parts.{IsPartV1, IsPartVerdict, IsTruePart, PartReport, piece_count, place_count}
+use Rattle.parts.specs.Runs.{Run}
 use Rattle.parts.specs.Shares.{share}
 use Rattle.parts.specs.declared.places.Places.{Places}
 use Rattle.parts.proofs.PlaceTests.{place_test}
 use Rattle.parts.proofs.SharedPlaces.{sum_next}
+use Rattle.part_reports.specs.ReadLines.{answer_line, end_lines, lines_text, report_head_text}
 use Rattle.part_reports.specs.Heads.{HasHead}
 use Rattle.part_reports.specs.Joined.{AreJoined, IsRead}
 use Rattle.part_reports.specs.Lines.{IsSmall, IsSmallV1}
@@ -26,6 +29,7 @@ use Rattle.part_reports.specs.declared.kind.Kind.TheVariants as kind
 use Rattle.part_reports.specs.Texts.{AreTrueReports, IsTrueReport, TextsMakeTheReport, TruePartsReport, YesOfTexts}
 use Rattle.part_reports.proofs.Heads.{one_head}
 use Rattle.part_reports.proofs.Faults.{plain_head}
+use Rattle.part_reports.proofs.LineTexts.{plain_is}
 use Rattle.part_reports.proofs.SameLines.{AreSmall, same_lines, same_rest, same_stream}
 use Rattle.part_reports.proofs.Readings.{all_small}
 
@@ -39,20 +43,17 @@ on_true false not = absurd (not refl)
 can_say : (t : Description) (r : Places) (f : FileEntry) (content : Option (List ℕ)) (v : FileVerdict)
     → (has_place t r f ≡ false → v ≡ file.Good) → IsPartVerdict t r f content v → CanSay t r f v
 can_say t r f content file.Good off is = tt
-can_say t r f content file.Missing off is = on_true (has_place t r f) (λ no. let e = off no in (let x : ⊥ = cc in absurd x))
-can_say t r f content file.Unreadable off is = on_true (has_place t r f) (λ no. let e = off no in (let x : ⊥ = cc in absurd x))
-can_say t r f content file.WrongLength off is = on_true (has_place t r f) (λ no. let e = off no in (let x : ⊥ = cc in absurd x))
 can_say t r f content (file.Bad p) off is =
     let bad = is.2 in (
       on_true (has_place t r f) (λ no. let e = off no in (let x : ⊥ = cc in absurd x)),
       record { from = omega (arith, bad.place_is); to = omega (arith, bad.place_is, bad.inside); held = bad.held },
     )
+can_say t r f content v off is = on_true (has_place t r f) (λ no. let e = off no in (let x : ⊥ = cc in absurd x))
 
 can_say_v1 : (t : Description) (v : Version1) (r : Places) (contents : Contents) (w : V1Verdict) → IsPartV1 t v r contents w
     → CanSayV1 r (place_count t - 1) w
-can_say_v1 t v r contents version1.Good is = tt
-can_say_v1 t v r contents version1.NotChecked is = tt
 can_say_v1 t v r contents (version1.Bad q) is = (is.0, is.1)
+can_say_v1 t v r contents w is = tt
 
 -- true verdicts can be reported
 pub can_report : (t : Description) (contents : Contents) (r : Places) (files : List FileVerdict) (v1 : Option V1Verdict)
@@ -69,15 +70,37 @@ can_report t contents r files v1 are off = record {
   checked = are.checked;
 }
 
+-- verdicts without runs
+abbrev pub bare : List FileVerdict → List (FileVerdict × List Run)
+bare files = map (λ v. (v, [])) files
+
+bare_verdicts : (files : List FileVerdict) → verdicts_of (bare files) ≡ files
+bare_verdicts [] = refl
+bare_verdicts (v ∷ files) = ap (λ vs. v ∷ vs) (bare_verdicts files)
+
+bare_at : (files : List FileVerdict) (n : ℕ) (x : FileVerdict × List Run) → slice_get (bare files) n ≡ Some x → x.1 ≡ []
+bare_at [] n x at = absurd (none-some x at)
+bare_at (v ∷ files) zero x at =
+    let none : List Run = [] in
+    let runs_of : FileVerdict × List Run → List Run = λ y. y.1 in
+    let one : FileVerdict × List Run = (v, none) in
+    ap runs_of (sym (same_Some one x at))
+bare_at (v ∷ files) (suc n) x at = bare_at files n x at
+
 pub true_parts_report : TruePartsReport
-true_parts_report t contents part count files v1 there small are off = record {
-  there = there;
-  small = small;
-  files = files;
-  v1 = v1;
-  can = can_report t contents (share t part count) files v1 are off;
-  is = refl;
-}
+true_parts_report t contents part count files v1 there small are off =
+    let same = sym (bare_verdicts files) in
+    record {
+      there = there;
+      small = small;
+      said = record { places = share t part count; marked = bare files; v1 = v1 };
+      places = refl;
+      can = record {
+        says = subst (λ vs. CanReport t (share t part count) vs v1) same (can_report t contents (share t part count) files v1 are off);
+        marks = λ n f x there at. bare_at files n x at;
+      };
+      is = ap (λ vs. part_text t part count vs v1) same;
+    }
 
 -- ---- what is read of a true report is true
 
@@ -89,26 +112,22 @@ true_head t contents text r =
       there = r.there;
       small = r.small;
       more = more;
-      is = r.is ∙ ap (λ line. line ++ more) (plain_head t r.part r.count);
+      is = r.is ∙ plain_is t r.part r.count r.files r.v1 ∙ ap (λ line. line ++ more) (plain_head t r.part r.count);
     }
 
 -- true verdicts have small numbers
 small_verdict : (t : Description) (r : Places) (n : ℕ) (f : FileEntry) (content : Option (List ℕ)) (v : FileVerdict) → IsSound t
     → slice_get t.files n ≡ Some f → IsPartVerdict t r f content v → IsSmall v
-small_verdict t r n f content file.Good sound there is = tt
-small_verdict t r n f content file.Missing sound there is = tt
-small_verdict t r n f content file.Unreadable sound there is = tt
-small_verdict t r n f content file.WrongLength sound there is = tt
 small_verdict t r n f content (file.Bad p) sound there is =
     let pieces : FileEntry → ℕ = λ g. piece_count t g in
     let end = sum_next pieces t n f there in
     let bad = is.2 in
     omega (arith, bad.place_is, bad.inside, end.1, sound.laid_out.first_pieces n f there, sound.laid_out.pieces)
+small_verdict t r n f content v sound there is = tt
 
 small_v1 : (t : Description) (r : Places) (v : V1Verdict) → IsSound t → CanSayV1 r (place_count t - 1) v → IsSmallV1 v
-small_v1 t r version1.Good sound can = tt
-small_v1 t r version1.NotChecked sound can = tt
 small_v1 t r (version1.Bad q) sound can = omega (arith, can.1, sound.laid_out.pieces)
+small_v1 t r v sound can = tt
 
 -- verdicts that are told from a true report, and can be reported, are true
 told_true : (t : Description) (r : Places) (contents : Contents) (files told : List FileVerdict) (v1 told_v1 : Option V1Verdict) → IsSound t
@@ -136,10 +155,8 @@ told_true t r contents files told v1 told_v1 sound can are is =
     off_good : (n : ℕ) (f : FileEntry) (v : FileVerdict) → has_place t r f ≡ false → CanSay t r f v → IsPartVerdict t r f (contents n) v
     off_good n f file.Good off can = λ touched.
         let on = place_test t r f true (λ _. touched, λ _. refl) in (let x : ⊥ = cc in absurd x)
-    off_good n f file.Missing off can = (let x : ⊥ = cc in absurd x)
-    off_good n f file.Unreadable off can = (let x : ⊥ = cc in absurd x)
-    off_good n f file.WrongLength off can = (let x : ⊥ = cc in absurd x)
     off_good n f (file.Bad p) off can = (let on = can.0 in (let x : ⊥ = cc in absurd x))
+    off_good n f v off can = (let x : ⊥ = cc in absurd x)
 
     by_place : (n : ℕ) (f : FileEntry) (v w : FileVerdict) (held : Bool) → has_place t r f ≡ held → CanSay t r f v
         → IsPartVerdict t r f (contents n) w → (has_place t r f ≡ true → v ≡ w) → IsPartVerdict t r f (contents n) v
@@ -158,12 +175,13 @@ read_true t contents texts part count p sound are there small read =
       there = there;
       small = small;
       more = more;
-      is = ap (λ line. line ++ more) (plain_head t part count);
+      is = plain_is t part count p.files p.v1 ∙ ap (λ line. line ++ more) (plain_head t part count);
     } in
     let one = one_head kind.Plain said r.part r.count part count own own (true_head t contents said r) head in
     let as_read : said ≡ part_text t part count r.files r.v1 =
     r.is ∙ ap (λ k. part_text t k r.count r.files r.v1) one.0 ∙ ap (λ k. part_text t part k r.files r.v1) one.1 in
-    let lines = same_rest (report_head_text t part count) _ _ as_read in
+    let lines = same_rest (report_head_text t part count) _ _
+    (sym (plain_is t part count p.files p.v1) ∙ as_read ∙ plain_is t part count r.files r.v1) in
     let places : share t r.part r.count ≡ share t part count = ap (λ k. share t k r.count) one.0 ∙ ap (share t part) one.1 in
     let is_true = subst (λ x. IsTruePart t contents (record { places = x; files = r.files; v1 = r.v1 })) places r.are_true in
     let told = told_true t (share t part count) contents r.files p.files r.v1 p.v1 sound

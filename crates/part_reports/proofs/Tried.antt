@@ -6,11 +6,11 @@ use Rattle.std.proofs.lemmas.Option.{none-some, same_Some}
 use Rattle.lines.specs.Reading.{BeginsWith}
 use Rattle.opening.specs.Description.{FileEntry}
 use Rattle.printing.specs.Text.{path_text}
-use Rattle.folders.specs.Printed.{file_verdict_text, stream_words}
 use Rattle.folders.specs.declared.report.FileVerdict.{FileVerdict}
 use Rattle.folders.specs.declared.report.FileVerdict.TheVariants as file
 use Rattle.folders.specs.declared.report.V1Verdict.{V1Verdict}
 use Rattle.folders.specs.declared.report.V1Verdict.TheVariants as version1
+use Rattle.part_reports.specs.ReadLines.{file_verdict_text, stream_words}
 use Rattle.part_reports.specs.Lines.{IsSmall, IsSmallV1}
 use Rattle.part_reports.specs.Scan.{IsFirstNumber}
 use Rattle.part_reports.proofs.SameLines.{bad_line, bad_stream, same_stream}

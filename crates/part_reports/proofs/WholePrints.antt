@@ -1,30 +1,35 @@
 -- A report with its bad pieces, printed file by file.
-use Rattle.std.proofs.Common.{◌≡◌, inl, inr, ℕ, List, [], ◌∷◌, ◌++◌, length, slice_get, Some, Result, Ok, Err}
+use Rattle.std.proofs.Common.{◌≡◌, inl, inr, List, [], ◌∷◌, ◌++◌, length, slice_get, Some, Result, Ok, Err}
 use Rattle.std.proofs.Common.{sym, ap, ◌∙◌, subst, append_assoc, append-nil}
+use Rattle.std.proofs.lemmas.Grind.{flat_map-append}
 use Rattle.std.proofs.lemmas.List.{length-map}
 use Rattle.std.proofs.lemmas.Option.{none-some, same_Some}
 use Rattle.chains.proofs.Cases.{pushed_at}
 use Rattle.benc.specs.Device.{SinkSeen, WroteAndFlushed}
+use Rattle.lines.specs.Rows.{Row, Spelling, spell}
 use Rattle.opening.specs.Description.{Description, FileEntry}
 use Rattle.folders.specs.declared.report.FileVerdict.{FileVerdict}
 use Rattle.parts.specs.Runs.{Run}
 use Rattle.parts.specs.Telling.{has_runs}
-use Rattle.parts.specs.Words.{Words}
-use Rattle.part_reports.specs.WholeLines.{AreShown, SaysMarkedReport, ShowsAll, ShowsFirst, file_as, whole_as, whole_lines_as}
+use Rattle.part_reports.specs.WholeLines.{AreShown, SaysMarkedReport, ShowsAll, ShowsFirst, file_and_runs, whole_lines_rows, whole_rows}
 use Rattle.part_reports.specs.declared.marked_report.MarkedReport.{MarkedReport}
 use Rattle.part_reports.proofs.Listed.{same_items}
 use Rattle.part_reports.proofs.MarkedFiles.{said_at}
 
-pub lines_push : (words : Words) (t : Description) (xs : List (FileVerdict × List Run)) (fs : List FileEntry) (v : FileVerdict) (runs : List Run)
-    (f : FileEntry)
-    → slice_get fs (length xs) ≡ Some f → whole_lines_as words t (xs ++ (v, runs) ∷ []) fs ≡ whole_lines_as words t xs fs ++ file_as words t f v runs
-lines_push words t [] [] v runs f at = absurd (none-some f at)
-lines_push words t [] (g ∷ fs) v runs f at =
-    append-nil (file_as words t g v runs) ∙ ap (λ (h : FileEntry). file_as words t h v runs) (same_Some g f at)
-lines_push words t (x ∷ xs) [] v runs f at = absurd (none-some f at)
-lines_push words t (x ∷ xs) (g ∷ fs) v runs f at =
-    let one : List ℕ = file_as words t g x.0 x.1 in
-    ap (λ l. one ++ l) (lines_push words t xs fs v runs f at) ∙ sym (append_assoc one (whole_lines_as words t xs fs) (file_as words t f v runs))
+rows_push : (t : Description) (xs : List (FileVerdict × List Run)) (fs : List FileEntry) (v : FileVerdict) (runs : List Run) (f : FileEntry)
+    → slice_get fs (length xs) ≡ Some f → whole_lines_rows t (xs ++ (v, runs) ∷ []) fs ≡ whole_lines_rows t xs fs ++ file_and_runs t f v runs
+rows_push t [] [] v runs f at = absurd (none-some f at)
+rows_push t [] (g ∷ fs) v runs f at = append-nil (file_and_runs t g v runs) ∙ ap (λ (h : FileEntry). file_and_runs t h v runs) (same_Some g f at)
+rows_push t (x ∷ xs) [] v runs f at = absurd (none-some f at)
+rows_push t (x ∷ xs) (g ∷ fs) v runs f at =
+    let one : List Row = file_and_runs t g x.0 x.1 in
+    ap (λ l. one ++ l) (rows_push t xs fs v runs f at) ∙ sym (append_assoc one (whole_lines_rows t xs fs) (file_and_runs t f v runs))
+
+pub lines_push : (spelled : Spelling) (t : Description) (xs : List (FileVerdict × List Run)) (fs : List FileEntry) (v : FileVerdict) (runs : List Run)
+    (f : FileEntry) → slice_get fs (length xs) ≡ Some f
+    → spell spelled (whole_lines_rows t (xs ++ (v, runs) ∷ []) fs) ≡ spell spelled (whole_lines_rows t xs fs) ++ spell spelled (file_and_runs t f v runs)
+lines_push spelled t xs fs v runs f at =
+    ap (spell spelled) (rows_push t xs fs v runs f at) ∙ flat_map-append spelled (whole_lines_rows t xs fs) (file_and_runs t f v runs)
 
 pub none_first : (t : Description) (joined : MarkedReport) → ShowsFirst t joined []
 none_first t joined = record {
@@ -59,8 +64,8 @@ all_first t joined marked count first = record {
   runs = first.runs;
 }
 
-pub printed_whole : {E : Type 0} (words : Words) (t : Description) (joined : MarkedReport) (marked : List (FileVerdict × List Run)) (old new : SinkSeen)
-    (r : Result (Unit {0}) E) → ShowsAll t joined marked → WroteAndFlushed old new r (whole_as words t marked joined)
-    → SaysMarkedReport words t joined old new r
-printed_whole words t joined marked old new (Ok u) shows wrote = (marked, shows, wrote)
-printed_whole words t joined marked old new (Err e) shows wrote = inr (marked, shows, wrote)
+pub printed_whole : {E : Type 0} (spelled : Spelling) (t : Description) (joined : MarkedReport) (marked : List (FileVerdict × List Run)) (old new : SinkSeen)
+    (r : Result (Unit {0}) E) → ShowsAll t joined marked → WroteAndFlushed old new r (spell spelled (whole_rows t marked joined))
+    → SaysMarkedReport spelled t joined old new r
+printed_whole spelled t joined marked old new (Ok u) shows wrote = (marked, shows, wrote)
+printed_whole spelled t joined marked old new (Err e) shows wrote = inr (marked, shows, wrote)

@@ -2,7 +2,7 @@
 use Rattle.std.proofs.Common.{◌≡◌, ℕ, ◌-◌, ◌<◌, ◌≤◌, max, Bool, true, false, ◌&&◌, nat_le, nat_lt, List, length}
 use Rattle.std.proofs.Common.{map, slice_get, get_or, option_map, Some}
 use Rattle.std.proofs.Common.{refl, sym, ap, ◌∙◌, subst, arith}
-use Rattle.std.specs.List.Sorted.{IsPartitionPoint}
+use Rattle.std.specs.List.Sorted.{IsNonDecreasingBy, IsPartitionPoint}
 use Rattle.std.proofs.lemmas.Bool.Decides.{nat_tests}
 use Rattle.std.proofs.lemmas.List.{length-map}
 use Rattle.std.proofs.lemmas.Option.{get_or_from_slice_get, slice_get-map, slice_get_within, same_Some}
@@ -11,11 +11,12 @@ use Rattle.opening.specs.Description.{Description, FileEntry}
 use Rattle.opening.specs.Seen.{file_entry}
 use Rattle.opening.specs.Sound.{IsSound}
 use Rattle.opening.specs.declared.torrent.File.{File}
-use Rattle.opening.proofs.Placing.{sum_grows}
+use Rattle.opening.specs.Places.{AreLaidOut}
+use Rattle.opening.proofs.Placing.{file_there, first_pieces_rise, sum_grows}
 use Rattle.parts.specs.PartLines.{has_place}
 use Rattle.parts.specs.Parts.{last_place}
 use Rattle.parts.specs.declared.places.Places.{Places}
-use Rattle.part_reports.proofs.SoFar.{AreOff}
+use Rattle.part_reports.specs.Lines.{AreOff}
 
 ends_before : (t : Description) (r : Places) (f : FileEntry) → last_place t f < r.from → has_place t r f ≡ false
 ends_before t r f lt =
@@ -45,6 +46,15 @@ in_memory t xs n x of at =
 
 pub seen_length : (t : Description) (xs : List File) → map file_entry xs ≡ t.files → length t.files ≡ length xs
 seen_length t xs of = ap length (sym of) ∙ length-map xs file_entry
+
+-- a file before some end, as it lies in memory
+pub file_in : (t : Description) (xs : List File) (i end : ℕ) (file : File) → map file_entry xs ≡ t.files → i < end → end ≤ length t.files
+    → file ≡ get_or xs i file → slice_get t.files i ≡ Some (file_entry file)
+file_in t xs i end file of lt le at = file_there t xs i file of (omega (arith, lt, le, seen_length t xs of)) at
+
+-- first pieces rise
+pub risen : (t : Description) (xs : List File) → IsSound t → map file_entry xs ≡ t.files → IsNonDecreasingBy (λ (f : File). f.first_piece) xs
+risen t xs sound of = first_pieces_rise t.piece_length xs (subst (AreLaidOut t.piece_length) (sym of) sound.laid_out)
 
 pub off_before : (t : Description) (r : Places) (xs : List File) (a : ℕ) → IsSound t → map file_entry xs ≡ t.files
     → IsPartitionPoint (λ (f : File). f.first_piece < r.from) (λ (f : File). r.from ≤ f.first_piece) xs a → a ≤ length xs → AreOff t r (λ n. n < a - 1)

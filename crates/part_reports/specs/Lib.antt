@@ -6,6 +6,7 @@ pub mod Lines
 pub mod MarkedJoins
 pub mod Marks
 pub mod Numbers
+pub mod ReadLines
 pub mod Reasons
 pub mod Reported
 pub mod RunLines

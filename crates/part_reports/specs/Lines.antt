@@ -1,19 +1,19 @@
 -- What is read of the lines of a report.
-use Rattle.std.specs.Prelude.{◌≡◌, ℕ, ◌-◌, ◌^◌, ◌<◌, List, ◌++◌, codes, length, slice_get, Option, Some, is_some, Bool, ◌&&◌, ⊤}
+use Rattle.std.specs.Prelude.{◌≡◌, ℕ, ◌-◌, ◌^◌, ◌<◌, List, ◌++◌, codes, length, slice_get, Option, Some, is_some, Bool, false, ◌&&◌, ⊤}
 use Rattle.opening.specs.Description.{Description, FileEntry}
-use Rattle.folders.specs.Printed.{stream_words}
 use Rattle.folders.specs.Verdicts.{is_checked, is_good, is_whole, stream_is_good}
 use Rattle.folders.specs.declared.report.FileVerdict.{FileVerdict}
 use Rattle.folders.specs.declared.report.FileVerdict.TheVariants as file
 use Rattle.folders.specs.declared.report.V1Verdict.{V1Verdict}
 use Rattle.folders.specs.declared.report.V1Verdict.TheVariants as version1
-use Rattle.parts.specs.MarkedLines.{marked_line, marked_lines_text, verdicts_of}
-use Rattle.parts.specs.PartLines.{answer_line, end_lines, held_line}
+use Rattle.parts.specs.MarkedLines.{verdicts_of}
+use Rattle.parts.specs.PartLines.{has_place}
 use Rattle.parts.specs.Parts.{PartReport, place_count}
-use Rattle.parts.specs.Runs.{Run, runs_text}
+use Rattle.parts.specs.Runs.{Run}
 use Rattle.parts.specs.Telling.{has_runs}
 use Rattle.parts.specs.Worse.{worse, worse_v1}
 use Rattle.parts.specs.declared.places.Places.{Places}
+use Rattle.part_reports.specs.ReadLines.{answer_line, end_lines, held_line, marked_line, marked_lines_text, runs_text, stream_words}
 use Rattle.part_reports.specs.Marks.{CanMark, CanMarkAll, CanTell, IsInRuns, IsTold, MarksMore}
 use Rattle.part_reports.specs.Reported.{CanReport, CanSay, CanSayV1}
 use Rattle.lines.specs.Reading.{BeginsWith}
@@ -23,17 +23,13 @@ use Rattle.part_reports.specs.declared.marked_report.MarkedReport.{MarkedReport}
 
 -- the number of a bad piece, if the verdict has one, is one of 64 bits
 abbrev pub IsSmall : FileVerdict → Type 0
-IsSmall file.Good = ⊤
-IsSmall file.Missing = ⊤
-IsSmall file.Unreadable = ⊤
-IsSmall file.WrongLength = ⊤
 IsSmall (file.Bad p) = p < 2 ^ 64
+IsSmall v = ⊤
 
 -- the same of a verdict on the version 1 pieces
 abbrev pub IsSmallV1 : V1Verdict → Type 0
-IsSmallV1 version1.Good = ⊤
-IsSmallV1 version1.NotChecked = ⊤
 IsSmallV1 (version1.Bad p) = p < 2 ^ 64
+IsSmallV1 v = ⊤
 
 -- this verdict on a file stands at the front of a text, in its line if the file has one, and this
 -- follows
@@ -159,6 +155,11 @@ pub record AreLinesOf (k : Kind) (t : Description) (lines : List ℕ) (m : Marke
 -- they say something that a part with these places can report
 abbrev pub HasLines : Kind → Description → Places → List ℕ → Type 0
 HasLines k t r lines = (m : MarkedPart) × (m.places ≡ r) × AreLinesOf k t lines m
+
+-- these files have no place in a part with these places
+abbrev pub AreOff : Description → Places → (ℕ → Type 0) → Type 0
+AreOff t r Are = (n : ℕ) (f : FileEntry) → Are n → slice_get t.files n ≡ Some f
+    → has_place t r f ≡ false
 
 -- what they say was joined to a report
 pub record JoinsLines (k : Kind) (t : Description) (r : Places) (lines : List ℕ)

@@ -22,12 +22,9 @@ AreRunsWithin from to (r ∷ rs) =
 
 -- if the verdict names a bad piece, the first run begins with it
 abbrev pub BeginsAtBad : FileEntry → FileVerdict → List Run → Type 0
-BeginsAtBad f file.Good runs = ⊤
-BeginsAtBad f file.Missing runs = ⊤
-BeginsAtBad f file.Unreadable runs = ⊤
-BeginsAtBad f file.WrongLength runs = ⊤
 BeginsAtBad f (file.Bad p) runs =
     (r : Run) × (slice_get runs 0 ≡ Some r) × (f.first_piece + r.first ≡ p)
+BeginsAtBad f v runs = ⊤
 
 -- such runs can be told of the pieces of a file among these places: none, if the bad pieces of a
 -- file with this verdict are not printed

@@ -1,42 +1,33 @@
 -- Why reports are not joined.
-use Rattle.std.specs.Prelude.{◌≡◌, ◌≢◌, ◌⊎◌, ℕ, ◌+◌, ◌<◌, ◌^◌, List, [], length, slice_get, Option, Some, ⊤}
+use Rattle.std.specs.Prelude.{◌≡◌, ◌≢◌, ◌⊎◌, ℕ, ◌+◌, ◌<◌, ◌^◌, List, [], length, slice_get, Some, ⊤}
 use Rattle.opening.specs.Description.{Description}
-use Rattle.folders.specs.declared.report.FileVerdict.{FileVerdict}
-use Rattle.folders.specs.declared.report.V1Verdict.{V1Verdict}
-use Rattle.parts.specs.MarkedLines.{marked_text}
-use Rattle.parts.specs.PartLines.{part_text}
 use Rattle.parts.specs.Shares.{share}
 use Rattle.part_reports.specs.Heads.{HasHead, HasNoHead, IsOfHash}
 use Rattle.part_reports.specs.Lines.{CanReportMarked, MarkedPart}
-use Rattle.part_reports.specs.Reported.{CanReport}
+use Rattle.part_reports.specs.MarkedJoins.{report_text_of}
 use Rattle.part_reports.specs.declared.join_fault.JoinFault.{JoinFault}
 use Rattle.part_reports.specs.declared.join_fault.JoinFault.TheVariants as fault
 use Rattle.part_reports.specs.declared.kind.Kind.{Kind}
 use Rattle.part_reports.specs.declared.kind.Kind.TheVariants as kind
 
--- the text is what this one of this many parts prints of verdicts that it can report
-pub record IsPlainReport (t : Description) (part count : ℕ) (text : List ℕ) : Type 0 where
-  pub there : part < count
-  pub small : count < 2 ^ 64
-  pub files : List FileVerdict
-  pub v1 : Option V1Verdict
-  pub can : CanReport t (share t part count) files v1
-  pub is : text ≡ part_text t part count files v1
+-- the text is what this one of this many parts prints, in a report of this kind, of verdicts and
+-- runs of bad pieces that it can report
+pub record IsReportOfKind (k : Kind) (t : Description) (part count : ℕ) (text : List ℕ) : Type 0
+  where
+    pub there : part < count
+    pub small : count < 2 ^ 64
+    pub said : MarkedPart
+    pub places : said.places ≡ share t part count
+    pub can : CanReportMarked k t said
+    pub is : text ≡ report_text_of k t part count said
 
--- the text is what this one of this many parts prints of verdicts and runs of bad pieces that it
--- can report
-pub record IsMarkedReport (t : Description) (part count : ℕ) (text : List ℕ) : Type 0 where
-  pub there : part < count
-  pub small : count < 2 ^ 64
-  pub said : MarkedPart
-  pub places : said.places ≡ share t part count
-  pub can : CanReportMarked kind.Marked t said
-  pub is : text ≡ marked_text t part count said.marked said.v1
+-- a report of verdicts alone: there are no runs
+abbrev pub IsPlainReport : Description → ℕ → ℕ → List ℕ → Type 0
+IsPlainReport t part count text = IsReportOfKind kind.Plain t part count text
 
--- the text is such a report of this kind
-abbrev pub IsReportOfKind : Kind → Description → ℕ → ℕ → List ℕ → Type 0
-IsReportOfKind kind.Plain t part count text = IsPlainReport t part count text
-IsReportOfKind kind.Marked t part count text = IsMarkedReport t part count text
+-- a report of verdicts and of runs of bad pieces
+abbrev pub IsMarkedReport : Description → ℕ → ℕ → List ℕ → Type 0
+IsMarkedReport t part count text = IsReportOfKind kind.Marked t part count text
 
 -- it is no report of this torrent, and does not begin with the first line of one of another torrent
 pub record IsNoReport (k : Kind) (t : Description) (text : List ℕ) : Type 0 where
@@ -150,10 +141,7 @@ HasJoinReason t texts e = HasReasonOf kind.Plain t texts e
 abbrev pub HasHeadReason : Kind → List ℕ → ℕ → List ℕ → JoinFault → Type 0
 HasHeadReason k own place text (fault.NoReport i) = (i ≡ place) × HasNoHead k text
 HasHeadReason k own place text (fault.OtherTorrent i) = (i ≡ place) × IsOfOther k own text
-HasHeadReason k own place text (fault.OtherCount i) = ⊥
-HasHeadReason k own place text (fault.Twice number) = ⊥
-HasHeadReason k own place text (fault.Missing number count) = ⊥
-HasHeadReason k own place text fault.NoMemory = ⊥
+HasHeadReason k own place text other = ⊥
 
 -- These are the reports of all parts of one check of this torrent, of this kind, each once, in any
 -- order: the text at each place is of one part, and the report of each part has a place.

@@ -3,7 +3,8 @@ use Rattle.std.specs.Prelude.{◌≡◌, ℕ, ◌+◌, ◌<◌, ◌≤◌, List,
 use Rattle.opening.specs.Description.{Description, FileEntry}
 use Rattle.folders.specs.declared.report.FileVerdict.{FileVerdict}
 use Rattle.folders.specs.declared.report.FileVerdict.TheVariants as file
-use Rattle.parts.specs.Runs.{Run, run_text, runs_text}
+use Rattle.parts.specs.Runs.{Run}
+use Rattle.part_reports.specs.ReadLines.{run_text, runs_text}
 use Rattle.part_reports.specs.Lines.{HasNoRun}
 use Rattle.part_reports.specs.Marks.{AreRunsWithin, IsInRuns, MarksMore}
 use Rattle.lines.specs.Reading.{BeginsWith}
@@ -21,12 +22,9 @@ HasOneRun t f at to text = (r : Run) × IsRunWithin at to r × BeginsWith (run_t
 
 -- if the verdict names a bad piece, the line of such a run that begins with it stands at the front
 abbrev pub BeginsRightly : Description → FileEntry → ℕ → ℕ → FileVerdict → List ℕ → Type 0
-BeginsRightly t f from to file.Good text = ⊤
-BeginsRightly t f from to file.Missing text = ⊤
-BeginsRightly t f from to file.Unreadable text = ⊤
-BeginsRightly t f from to file.WrongLength text = ⊤
 BeginsRightly t f from to (file.Bad p) text = (r : Run) × IsRunWithin from to r
     × (f.first_piece + r.first ≡ p) × BeginsWith (run_text t f r) text
+BeginsRightly t f from to v text = ⊤
 
 -- such runs were read, and their pieces marked; and no others can be read there
 pub record ReadsAll (t : Description) (f : FileEntry) (from to : ℕ) (text more : List ℕ)

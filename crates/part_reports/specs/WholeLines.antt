@@ -1,36 +1,32 @@
 -- What is printed of a report with its bad pieces.
 use Rattle.std.specs.Prelude.{◌≡◌, ◌⊎◌, ℕ, ◌+◌, ◌≤◌, Bool, true, false, List, [], ◌∷◌, ◌++◌, length, slice_get, Some, Result, MatchResult}
 use Rattle.benc.specs.Device.{Broke, BrokeOrUnflushed, Sent, SentAndFlushed, SinkSeen}
+use Rattle.lines.specs.Rows.{Row, Spelling, spell}
+use Rattle.lines.specs.Texts.{text_of}
 use Rattle.opening.specs.Description.{Description, FileEntry}
-use Rattle.folders.specs.Printed.{end_as}
+use Rattle.folders.specs.Printed.{end_rows, verdict_row}
 use Rattle.folders.specs.declared.report_lines.Lines.TheVariants as lines
 use Rattle.folders.specs.declared.report.FileVerdict.{FileVerdict}
 use Rattle.parts.specs.MarkedLines.{verdicts_of}
 use Rattle.parts.specs.Parts.{piece_count}
-use Rattle.parts.specs.Runs.{AreBadRuns, Run, runs_as}
+use Rattle.parts.specs.Runs.{AreBadRuns, Run, runs_rows}
 use Rattle.parts.specs.Telling.{has_runs}
-use Rattle.parts.specs.Words.{Words, words_in_text}
 use Rattle.part_reports.specs.Marks.{IsPieceMarked}
 use Rattle.part_reports.specs.declared.marked_report.BadPieces.{BadPieces}
 use Rattle.part_reports.specs.declared.marked_report.MarkedReport.{MarkedReport}
 
--- ---- the text
+-- ---- the lines
 
--- the line of a file, worded so, with those of its runs of bad pieces behind it
-abbrev pub file_as : Words → Description → FileEntry → FileVerdict → List Run → List ℕ
-file_as words t f v runs = words.report.file v f ++ runs_as words.run t f runs
+-- the line of a file, with those of its runs of bad pieces behind it
+abbrev pub file_and_runs : Description → FileEntry → FileVerdict → List Run → List Row
+file_and_runs t f v runs = verdict_row v f ∷ runs_rows t f runs
 
 -- those of the first files
-abbrev pub whole_lines_as : Words → Description → List (FileVerdict × List Run) → List FileEntry
-    → List ℕ
-whole_lines_as words t [] fs = []
-whole_lines_as words t (x ∷ xs) [] = []
-whole_lines_as words t (x ∷ xs) (f ∷ fs) =
-    file_as words t f x.0 x.1 ++ whole_lines_as words t xs fs
-
--- those of the first files as they are printed
-abbrev pub whole_lines : Description → List (FileVerdict × List Run) → List FileEntry → List ℕ
-whole_lines t xs fs = whole_lines_as words_in_text t xs fs
+abbrev pub whole_lines_rows : Description → List (FileVerdict × List Run) → List FileEntry
+    → List Row
+whole_lines_rows t [] fs = []
+whole_lines_rows t (x ∷ xs) [] = []
+whole_lines_rows t (x ∷ xs) (f ∷ fs) = file_and_runs t f x.0 x.1 ++ whole_lines_rows t xs fs
 
 -- ---- the runs
 
@@ -71,25 +67,25 @@ pub record ShowsAll (t : Description) (joined : MarkedReport)
       → slice_get marked n ≡ Some x → AreShown t joined.bad f (has_runs x.0) x.1
 
 -- the lines of the runs of a file went out, or those of the first ones broke off
-abbrev pub SaysRuns : {E : Type 0} → Words → Description → BadPieces → FileEntry → SinkSeen
+abbrev pub SaysRuns : {E : Type 0} → Spelling → Description → BadPieces → FileEntry → SinkSeen
     → SinkSeen → Result (Unit {0}) E → Type 0
-SaysRuns words t bad f old new r = MatchResult r
+SaysRuns spelled t bad f old new r = MatchResult r
     (λ _. (runs : List Run) × AreRunsOfMarks t bad f (piece_count t f) runs
-    × Sent old new (runs_as words.run t f runs))
+    × Sent old new (spell spelled (runs_rows t f runs)))
     (λ _. (runs : List Run) × AreFirstShown t bad f true runs
-    × Broke old new (runs_as words.run t f runs))
+    × Broke old new (spell spelled (runs_rows t f runs)))
 
 -- the lines of a file with this verdict went out, or broke off
-abbrev pub SaysFile : {E : Type 0} → Words → Description → BadPieces → FileEntry → FileVerdict
+abbrev pub SaysFile : {E : Type 0} → Spelling → Description → BadPieces → FileEntry → FileVerdict
     → SinkSeen → SinkSeen → Result (Unit {0}) E → Type 0
-SaysFile words t bad f v old new r = MatchResult r
+SaysFile spelled t bad f v old new r = MatchResult r
     (λ _. (runs : List Run) × AreShown t bad f (has_runs v) runs
-    × Sent old new (file_as words t f v runs))
+    × Sent old new (spell spelled (file_and_runs t f v runs)))
     (λ _. (runs : List Run) × AreFirstShown t bad f (has_runs v) runs
-    × Broke old new (file_as words t f v runs))
+    × Broke old new (spell spelled (file_and_runs t f v runs)))
 
 -- after all lines of the first files those of the next one broke off
-pub record StopsAtFile (words : Words) (t : Description) (joined : MarkedReport)
+pub record StopsAtFile (spelled : Spelling) (t : Description) (joined : MarkedReport)
     (old new : SinkSeen) : Type 0 where
   pub before : List (FileVerdict × List Run)
   pub shows : ShowsFirst t joined before
@@ -100,49 +96,42 @@ pub record StopsAtFile (words : Words) (t : Description) (joined : MarkedReport)
   pub runs : List Run
   pub first : AreFirstShown t joined.bad file (has_runs verdict) runs
   pub broke : Broke old new
-      (whole_lines_as words t before t.files ++ file_as words t file verdict runs)
+      (spell spelled (whole_lines_rows t before t.files ++ file_and_runs t file verdict runs))
 
 -- the lines of all files went out, or broke off
-abbrev pub SaysFiles : {E : Type 0} → Words → Description → MarkedReport → SinkSeen → SinkSeen
+abbrev pub SaysFiles : {E : Type 0} → Spelling → Description → MarkedReport → SinkSeen → SinkSeen
     → Result (Unit {0}) E → Type 0
-SaysFiles words t joined old new r = MatchResult r
+SaysFiles spelled t joined old new r = MatchResult r
     (λ _. (marked : List (FileVerdict × List Run)) × ShowsAll t joined marked
-    × Sent old new (whole_lines_as words t marked t.files))
-    (λ _. StopsAtFile words t joined old new)
+    × Sent old new (spell spelled (whole_lines_rows t marked t.files)))
+    (λ _. StopsAtFile spelled t joined old new)
 
 -- all lines
-abbrev pub whole_as : Words → Description → List (FileVerdict × List Run) → MarkedReport → List ℕ
-whole_as words t marked joined = whole_lines_as words t marked t.files
-    ++ end_as words.report lines.All joined.report.files.items joined.report.v1
+abbrev pub whole_rows : Description → List (FileVerdict × List Run) → MarkedReport → List Row
+whole_rows t marked joined = whole_lines_rows t marked t.files
+    ++ end_rows lines.All joined.report.files.items joined.report.v1
 
 -- all lines as they are printed
 abbrev pub whole_text : Description → List (FileVerdict × List Run) → MarkedReport → List ℕ
-whole_text t marked joined = whole_as words_in_text t marked joined
+whole_text t marked joined = spell text_of (whole_rows t marked joined)
 
 -- all went out, and was flushed
-abbrev pub SaysWholeReport : Words → Description → MarkedReport → SinkSeen → SinkSeen → Type 0
-SaysWholeReport words t joined old new = (marked : List (FileVerdict × List Run))
-    × ShowsAll t joined marked × SentAndFlushed old new (whole_as words t marked joined)
+abbrev pub SaysWholeReport : Spelling → Description → MarkedReport → SinkSeen → SinkSeen → Type 0
+SaysWholeReport spelled t joined old new = (marked : List (FileVerdict × List Run))
+    × ShowsAll t joined marked × SentAndFlushed old new (spell spelled (whole_rows t marked joined))
 
 -- it broke off in the lines of a file, or behind them
-abbrev pub StopsSaying : Words → Description → MarkedReport → SinkSeen → SinkSeen → Type 0
-StopsSaying words t joined old new = StopsAtFile words t joined old new
+abbrev pub StopsSaying : Spelling → Description → MarkedReport → SinkSeen → SinkSeen → Type 0
+StopsSaying spelled t joined old new = StopsAtFile spelled t joined old new
     ⊎ ((marked : List (FileVerdict × List Run)) × ShowsAll t joined marked
-    × BrokeOrUnflushed old new (whole_as words t marked joined))
+    × BrokeOrUnflushed old new (spell spelled (whole_rows t marked joined)))
 
 -- What a call that says a report with its bad pieces did, by its answer: of each file its line, and
 -- behind that of one that is bad or has another length the lines of the maximal runs of its bad
 -- pieces; and then the end. Or this broke off.
-abbrev pub SaysMarkedReport : {E : Type 0} → Words → Description → MarkedReport → SinkSeen
+abbrev pub SaysMarkedReport : {E : Type 0} → Spelling → Description → MarkedReport → SinkSeen
     → SinkSeen
     → Result (Unit {0}) E → Type 0
-SaysMarkedReport words t joined old new r =
-    MatchResult r (λ _. SaysWholeReport words t joined old new)
-    (λ _. StopsSaying words t joined old new)
-
--- What a call that prints a report with its bad pieces did, by its answer: of each file its line as
--- it is printed, and behind that of one that is bad or has another length the lines of the maximal
--- runs of its bad pieces; and then the end. Or this broke off.
-abbrev pub PrintsMarkedReport : {E : Type 0} → Description → MarkedReport → SinkSeen → SinkSeen
-    → Result (Unit {0}) E → Type 0
-PrintsMarkedReport t joined old new r = SaysMarkedReport words_in_text t joined old new r
+SaysMarkedReport spelled t joined old new r =
+    MatchResult r (λ _. SaysWholeReport spelled t joined old new)
+    (λ _. StopsSaying spelled t joined old new)

@@ -107,12 +107,16 @@ fn join_parts(
             return Err(JoinFault::Missing(part + 1, numbers.count));
         };
         let end = division.start(torrent, part + 1, start);
-        let places = Places {
-            from: start.place,
-            to: end.place,
+        let awaited = Awaited {
+            kind,
+            part,
+            parts: numbers.count,
+            places: Places {
+                from: start.place,
+                to: end.place,
+            },
         };
-        let text = texts[place];
-        match join_text(torrent, kind, &division, part, places, text, &mut joined) {
+        match join_text(torrent, awaited, division.pieces, texts[place], &mut joined) {
             Some(()) => start = end,
             None => return Err(JoinFault::NoReport(place)),
         }
@@ -120,28 +124,40 @@ fn join_parts(
     Ok(joined)
 }
 
-// Joins to a report what a text says, as the report, of this kind, of this part with these places.
+// The report that a text is to be.
+#[derive(Clone, Copy)]
+struct Awaited {
+    // Its kind.
+    kind: Kind,
+    // The number of its part, from 0.
+    part: u64,
+    // How many parts there are.
+    parts: u64,
+    // The places of the part.
+    places: Places,
+}
+
+// Joins to a report what a text says, as the report that it is to be. The torrent has this many
+// pieces.
 fn join_text(
     torrent: &Torrent<'_>,
-    kind: Kind,
-    division: &Division,
-    part: u64,
-    places: Places,
+    awaited: Awaited,
+    pieces: u64,
     text: &[u8],
     joined: &mut MarkedReport,
 ) -> Option<()>
-    requires there { part < division.now.parts }
-    requires pieces { division.now.pieces + 1 ≡ place_count torrent.now }
-    requires places { places ≡ share torrent.now part division.now.parts }
+    requires there { awaited.part < awaited.parts }
+    requires pieces { pieces + 1 ≡ place_count torrent.now }
+    requires places { awaited.places ≡ share torrent.now awaited.part awaited.parts }
     requires files { length joined.old.report.files.items ≡ length torrent.now.files }
     requires hybrid { is_some joined.old.report.v1 ≡ is_some torrent.now.v1 }
-    requires room { HasMarkRoom kind division.now.pieces joined.old.bad }
-    ensures { MatchOption result
-        (IsReportOfKind kind torrent.now part division.now.parts text.now → ⊥)
-        (λ u. JoinsText kind torrent.now part division.now.parts text.now joined.old joined.new) }
+    requires room { HasMarkRoom awaited.kind pieces joined.old.bad }
+    ensures { let a = awaited in MatchOption result
+        (IsReportOfKind a.kind torrent.now a.part a.parts text.now → ⊥)
+        (λ u. JoinsText a.kind torrent.now a.part a.parts text.now joined.old joined.new) }
 {
-    let lines = behind_head(torrent, kind, part, division.parts, text)?;
-    join_lines(torrent, kind, places, division.pieces, lines, joined)
+    let lines = behind_head(torrent, awaited.kind, awaited.part, awaited.parts, text)?;
+    join_lines(torrent, awaited.kind, awaited.places, pieces, lines, joined)
 }
 
 // The report that says nothing: all is good, and no piece is marked. The torrent has this many

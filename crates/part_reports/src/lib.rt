@@ -18,4 +18,4 @@ pub use join_fault::JoinFault;
 pub use joining::{join_marked_reports, join_reports};
 pub use kind::{Kind, kind_of};
 pub use marked_report::{BadPieces, MarkedReport};
-pub use whole_lines::{print_marked_report, say_marked_report};
+pub use whole_lines::say_marked_report;

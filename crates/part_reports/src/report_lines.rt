@@ -1,14 +1,14 @@
 //! The lines of a report behind its first one, read again and joined to what other parts say.
 ghost use Rattle.std.specs.List.Sorted.{IsNonDecreasingBy, IsPartitionPoint};
 ghost use Rattle.std.specs.Prelude.{◌≡◌, ◌+◌, ◌<◌, ◌≤◌, length, is_some, MatchOption, Some, ◌↔◌, IsTrue, true, ℕ, List, ◌++◌, Option, ◌&&◌};
-ghost use Rattle.folders.specs.Printed.{stream_words};
 ghost use Rattle.folders.specs.Verdicts.{IsFileOf, is_good, is_whole, stream_is_good};
 ghost use Rattle.folders.specs.declared.report.V1Verdict.{V1Verdict as OfV1};
 ghost use Rattle.opening.specs.Seen.{file_entry};
-ghost use Rattle.part_reports.specs.Lines.{HasLines, JoinsLines, BeginsWithFile, HasLine, ReadsFileLine, ReadsLine, HasEnd, IsSmallV1, ReadsEnd, SaysEnd};
+ghost use Rattle.part_reports.specs.ReadLines.{answer_line, stream_words};
+ghost use Rattle.part_reports.specs.Lines.{AreOff, HasLines, JoinsLines, BeginsWithFile, HasLine, ReadsFileLine, ReadsLine, HasEnd, IsSmallV1, ReadsEnd, SaysEnd};
 ghost use Rattle.part_reports.specs.Marks.{HasMarkRoom};
 ghost use Rattle.part_reports.specs.Reported.{CanSay, IsPieceIn};
-ghost use Rattle.parts.specs.PartLines.{has_place, answer_line};
+ghost use Rattle.parts.specs.PartLines.{has_place};
 ghost use Rattle.parts.specs.Parts.{place_count, piece_count as pieces_in};
 ghost use Rattle.parts.specs.Worse.{worse_v1};
 
@@ -43,11 +43,10 @@ pub(crate) fn join_lines(
 {
     torrent.recall_sound();
     let files = torrent.files();
-    let begun = begun_before(files, places.from);
-    let end = begun_before(files, places.to);
+    let (first, end) = window(torrent, places);
     let mut worst = FileVerdict::Good;
     let mut rest = lines;
-    'files: for i in begun.saturating_sub(1)..end {
+    'files: for i in first..end {
         let file = &files[i];
         let bad = &mut joined.bad;
         let (verdict, behind) = read_file(torrent, kind, file, places, rest, bad)?;
@@ -71,6 +70,22 @@ fn join_v1(joined: &mut Option<V1Verdict>, part: Option<V1Verdict>)
     if let (Some(a), Some(b)) = (*joined, part) {
         *joined = Some(worse_v1(a, b));
     }
+}
+
+// Of the files that may have one of these places the first, and the one after the last: from the
+// last that begins before them to the first that begins behind them.
+fn window(torrent: &Torrent<'_>, places: Places) -> (usize, usize)
+    ensures first { result.0 ≤ length torrent.now.files }
+    ensures end { result.1 ≤ length torrent.now.files }
+    ensures before { AreOff torrent.now places (λ n. n < result.0) }
+    ensures behind { AreOff torrent.now places (λ n. result.1 ≤ n) }
+{
+    torrent.recall_sound();
+    let files = torrent.files();
+    let begun = begun_before(files, places.from);
+    let first = begun.saturating_sub(1);
+    let end = begun_before(files, places.to);
+    (first, end)
 }
 
 // How many files begin before this place, if first pieces ascend.

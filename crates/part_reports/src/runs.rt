@@ -3,8 +3,9 @@ ghost use Rattle.std.specs.Prelude.{◌≡◌, ◌↔◌, ℕ, ◌+◌, ◌-◌,
 ghost use Rattle.folders.specs.Verdicts.{IsFileOf};
 ghost use Rattle.opening.specs.Seen.{file_entry};
 ghost use Rattle.parts.specs.Parts.{piece_count as pieces_in};
-ghost use Rattle.parts.specs.Runs.{Run, run_text};
+ghost use Rattle.parts.specs.Runs.{Run};
 ghost use Rattle.parts.specs.Spans.{end_in, first_in};
+ghost use Rattle.part_reports.specs.ReadLines.{run_text};
 ghost use Rattle.part_reports.specs.Lines.{HasRuns, ReadsRuns};
 ghost use Rattle.part_reports.specs.RunLines.{BeginsRightly, HasOneRun, IsRunWithin, ReadsAll};
 

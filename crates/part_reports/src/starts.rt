@@ -96,14 +96,15 @@ impl Division {
         let files = torrent.files();
         let mut left = byte - before.bytes;
         'files: for i in before.file..files.len() {
-            if left < files[i].length {
+            let file = &files[i];
+            if left < file.length {
                 return Start {
-                    place: files[i].first_piece + left / piece_length,
+                    place: file.first_piece + left / piece_length,
                     file: i,
                     bytes: byte - left,
                 };
             }
-            left -= files[i].length;
+            left -= file.length;
         }
         Start {
             place: self.pieces + 1,

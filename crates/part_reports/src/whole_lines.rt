@@ -3,36 +3,21 @@ ghost use Rattle.std.specs.Prelude.{◌≡◌, ◌+◌, ◌≤◌, length, map, 
 ghost use Rattle.folders.specs.Verdicts.{IsFileOf};
 ghost use Rattle.opening.specs.Seen.{file_entry};
 ghost use Rattle.parts.specs.Parts.{piece_count as pieces_in, place_count};
-ghost use Rattle.parts.specs.Words.{words_as};
-ghost use Rattle.part_reports.specs.WholeLines.{PrintsMarkedReport, SaysFile, SaysFiles, SaysMarkedReport, SaysRuns};
+ghost use Rattle.part_reports.specs.WholeLines.{SaysFile, SaysFiles, SaysMarkedReport, SaysRuns};
 
 use crate::marked_report::{BadPieces, MarkedReport};
-use benc::{DeviceFault, Sink, WriteFault};
+use benc::{DeviceFault, WriteFault};
 use folders::{FileVerdict, Lines, say_end, say_verdict};
 use lines::{LineSink, finish_after};
 use opening::{File, Torrent};
 use parts::{has_runs, piece_count, say_run};
 
-/// Writes what `check_with_bad_pieces` writes of a torrent's folder, and flushes: a line for each
+/// Says what `say_check_with_bad_pieces` says of a torrent's folder, and flushes: a line for each
 /// file, and behind that of one that is bad or has another length the line `bad pieces FIRST LAST
 /// bytes FROM-TO` of each maximal run of its bad pieces, in ascending order; for a hybrid a line on
 /// its version 1 pieces; and `yes` or `no`. It takes no memory. After `WriteFault` a prefix of
 /// these lines went out. Conditions: the report has a verdict for each file of the torrent, and a
 /// mark for each piece.
-pub fn print_marked_report<W: Sink>(
-    joined: &MarkedReport,
-    torrent: &Torrent<'_>,
-    out: &mut W,
-) -> Result<(), WriteFault>
-    requires files { length joined.now.report.files.items ≡ length torrent.now.files }
-    requires room { place_count torrent.now ≤ length joined.now.bad.marks.items + 1 }
-    ensures { PrintsMarkedReport torrent.now joined.now (W.seen out.old) (W.seen out.new) result }
-{
-    say_marked_report(joined, torrent, out)
-}
-
-/// The same, but the lines go to anything that takes lines, spelled as it spells them: as texts, or
-/// as JSON objects. Conditions: as for `print_marked_report`.
 pub fn say_marked_report<L: LineSink>(
     joined: &MarkedReport,
     torrent: &Torrent<'_>,
@@ -40,7 +25,7 @@ pub fn say_marked_report<L: LineSink>(
 ) -> Result<(), WriteFault>
     requires files { length joined.now.report.files.items ≡ length torrent.now.files }
     requires room { place_count torrent.now ≤ length joined.now.bad.marks.items + 1 }
-    ensures { SaysMarkedReport (words_as L.spelled) torrent.now joined.now (L.seen out.old)
+    ensures { SaysMarkedReport L.spelled torrent.now joined.now (L.seen out.old)
         (L.seen out.new) result }
 {
     say_files(joined, torrent, out)?;
@@ -56,7 +41,7 @@ fn say_files<L: LineSink>(
 ) -> Result<(), DeviceFault>
     requires files { length joined.now.report.files.items ≡ length torrent.now.files }
     requires room { place_count torrent.now ≤ length joined.now.bad.marks.items + 1 }
-    ensures { SaysFiles (words_as L.spelled) torrent.now joined.now (L.seen out.old)
+    ensures { SaysFiles L.spelled torrent.now joined.now (L.seen out.old)
         (L.seen out.new) result }
 {
     torrent.recall_sound();
@@ -78,7 +63,7 @@ fn say_file<L: LineSink>(
     requires file { IsFileOf torrent.now (file_entry file.now) }
     requires room { let f = file_entry file.now in
         f.first_piece + pieces_in torrent.now f ≤ length bad.now.marks.items }
-    ensures { SaysFile (words_as L.spelled) torrent.now bad.now (file_entry file.now) verdict
+    ensures { SaysFile L.spelled torrent.now bad.now (file_entry file.now) verdict
         (L.seen out.old) (L.seen out.new) result }
 {
     say_verdict(verdict, file, out)?;
@@ -98,7 +83,7 @@ fn say_runs<L: LineSink>(
     requires file { IsFileOf torrent.now (file_entry file.now) }
     requires room { let f = file_entry file.now in
         f.first_piece + pieces_in torrent.now f ≤ length bad.now.marks.items }
-    ensures { SaysRuns (words_as L.spelled) torrent.now bad.now (file_entry file.now)
+    ensures { SaysRuns L.spelled torrent.now bad.now (file_entry file.now)
         (L.seen out.old) (L.seen out.new) result }
 {
     torrent.recall_sound();

@@ -2,11 +2,11 @@
 ghost use Rattle.std.specs.Char.{is_ascii_digit};
 ghost use Rattle.std.specs.List.{list_all, prefix_len};
 ghost use Rattle.std.specs.Prelude.{◌≡◌, ℕ, ◌<◌, ◌^◌, List, ◌∷◌, ◌++◌, decimal, slice_get, MatchOption, Some, false, true, ◌≤◌, length, option_map};
-ghost use Rattle.folders.specs.Printed.{file_verdict_text, stream_words};
 ghost use Rattle.folders.specs.declared.report.FileVerdict.{FileVerdict as OfFile};
 ghost use Rattle.folders.specs.declared.report.V1Verdict.{V1Verdict as OfV1};
 ghost use Rattle.lines.specs.Reading.{BeginsWith};
 ghost use Rattle.opening.specs.Seen.{file_entry};
+ghost use Rattle.part_reports.specs.ReadLines.{file_verdict_text, stream_words};
 ghost use Rattle.part_reports.specs.Lines.{IsSmall, IsSmallV1};
 ghost use Rattle.part_reports.specs.Scan.{IsFirstNumber, is_no_digit};
 

@@ -1,5 +1,5 @@
 -- The counts that a tree keeps beside its nodes.
-use Rattle.std.proofs.Common.{◌≡◌, ℕ, ◌+◌, ◌-◌, ◌^◌, ◌≤◌, Bool, true, false, cond, is_some, refl, sym, ap, ◌∙◌, subst, arith}
+use Rattle.std.proofs.Common.{◌≡◌, ℕ, suc, ◌+◌, ◌-◌, ◌^◌, ◌<◌, ◌≤◌, Bool, true, false, cond, is_some, refl, sym, ap, ◌∙◌, subst, arith}
 use Rattle.std.specs.FinMap as map
 use Rattle.std.specs.FinMap.{insert, empty, len-insert, len-empty, get-empty}
 use Rattle.std.specs.FinSet as set
@@ -35,6 +35,12 @@ counted_more known marked c old new is more same = record {
   known_is = ap (λ x. x + c) is.known_is ∙ sym more;
   marked_is = is.marked_is ∙ sym (ap set.len same.marked);
 }
+
+-- and it can be counted, where the tree has that many places
+pub known_fits : (known marked c : ℕ) (v : Nodes) → IsCounted known marked v → map.len v.known + c < 2 ^ suc (tree_height v.length) → known + c < 2 ^ 33
+known_fits known marked c v is fewer =
+    let wide : 2 ^ suc (tree_height v.length) ≤ 2 ^ 33 = pow_more (suc (tree_height v.length)) 33 (omega (arith, is.low)) in
+    omega (arith, fewer, wide, is.known_is)
 
 pub counted_same : (known marked : ℕ) (old new : Nodes) → IsCounted known marked old → new ≡ old → IsCounted known marked new
 counted_same known marked old new is same = subst (IsCounted known marked) (sym same) is

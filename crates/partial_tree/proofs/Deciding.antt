@@ -132,59 +132,43 @@ module _ (t : TreeRoot) (K : PartialTree) (ask : Ask) (hashes : List Hash) where
   abbrev pub Before : HashRefusal → Type 0
   Before r = (s : HashRefusal) → hash_refusal_number s < hash_refusal_number r → ¬ Fault t.length K ask hashes s
 
-  pub first_range : Before BadRange
-  first_range UnknownRoot low f = f
-  first_range NoMemory low f = f
-  first_range Unasked low f = f
-  first_range BadRange low f = omega arith
-  first_range BadCount low f = omega arith
-  first_range BadPad low f = omega arith
-  first_range Unanchored low f = omega arith
-  first_range Mismatch low f = omega arith
-
-  pub first_count : GoodRange (tree_height t.length) ask → Before BadCount
-  first_count range UnknownRoot low f = f
-  first_count range BadRange low f = f range
-  first_count range NoMemory low f = f
-  first_count range Unasked low f = f
-  first_count range BadCount low f = omega arith
-  first_count range BadPad low f = omega arith
-  first_count range Unanchored low f = omega arith
-  first_count range Mismatch low f = omega arith
-
-  pub first_pad : GoodRange (tree_height t.length) ask → GoodCount (tree_height t.length) ask hashes → Before BadPad
-  first_pad range count UnknownRoot low f = f
-  first_pad range count BadRange low f = f range
-  first_pad range count BadCount low f = f count
-  first_pad range count NoMemory low f = f
-  first_pad range count Unasked low f = f
-  first_pad range count BadPad low f = omega arith
-  first_pad range count Unanchored low f = omega arith
-  first_pad range count Mismatch low f = omega arith
-
   abbrev pub Pads : Type 0
   Pads = (l i : ℕ) (v : Hash) → given ask hashes l i ≡ Some v → block_count t.length ≤ i * 2 ^ l → v ≡ zero_hash l
 
-  pub first_anchor : GoodRange (tree_height t.length) ask → GoodCount (tree_height t.length) ask hashes → Pads → Before Unanchored
-  first_anchor range count pads UnknownRoot low f = f
-  first_anchor range count pads BadRange low f = f range
-  first_anchor range count pads BadCount low f = f count
-  first_anchor range count pads BadPad low f = f.differ (pads f.layer f.index f.value f.is_given f.past)
-  first_anchor range count pads NoMemory low f = f
-  first_anchor range count pads Unasked low f = f
-  first_anchor range count pads Unanchored low f = omega arith
-  first_anchor range count pads Mismatch low f = omega arith
+  -- no test before the n-th finds a fault, where what these tests ask for is so
+  no_fault : (n : ℕ) → n ≤ hash_refusal_number Mismatch → (hash_refusal_number BadRange < n → GoodRange (tree_height t.length) ask)
+      → (hash_refusal_number BadCount < n → GoodCount (tree_height t.length) ask hashes) → (hash_refusal_number BadPad < n → Pads)
+      → (hash_refusal_number Unanchored < n → IsKnown K (top_layer ask hashes) (top_index ask hashes))
+      → (s : HashRefusal) → hash_refusal_number s < n → ¬ Fault t.length K ask hashes s
+  no_fault n last range count pads top UnknownRoot low f = f
+  no_fault n last range count pads top BadRange low f = f (range low)
+  no_fault n last range count pads top BadCount low f = f (count low)
+  no_fault n last range count pads top BadPad low f = f.differ (pads low f.layer f.index f.value f.is_given f.past)
+  no_fault n last range count pads top Unanchored low f = let known = top low in none-some known.0 (sym f ∙ known.1)
+  no_fault n last range count pads top NoMemory low f = f
+  no_fault n last range count pads top Unasked low f = f
+  no_fault n last range count pads top Mismatch low f = omega (arith, low, last)
+
+  first_range : Before BadRange
+  first_range = no_fault (hash_refusal_number BadRange) (omega arith) (λ low. absurd (omega (arith, low))) (λ low. absurd (omega (arith, low)))
+      (λ low. absurd (omega (arith, low))) (λ low. absurd (omega (arith, low)))
+
+  first_count : GoodRange (tree_height t.length) ask → Before BadCount
+  first_count range = no_fault (hash_refusal_number BadCount) (omega arith) (λ _. range) (λ low. absurd (omega (arith, low)))
+      (λ low. absurd (omega (arith, low))) (λ low. absurd (omega (arith, low)))
+
+  first_pad : GoodRange (tree_height t.length) ask → GoodCount (tree_height t.length) ask hashes → Before BadPad
+  first_pad range count = no_fault (hash_refusal_number BadPad) (omega arith) (λ _. range) (λ _. count) (λ low. absurd (omega (arith, low)))
+      (λ low. absurd (omega (arith, low)))
+
+  first_anchor : GoodRange (tree_height t.length) ask → GoodCount (tree_height t.length) ask hashes → Pads → Before Unanchored
+  first_anchor range count pads = no_fault (hash_refusal_number Unanchored) (omega arith) (λ _. range) (λ _. count) (λ _. pads)
+      (λ low. absurd (omega (arith, low)))
 
   pub first_mismatch : GoodRange (tree_height t.length) ask → GoodCount (tree_height t.length) ask hashes → Pads
       → IsKnown K (top_layer ask hashes) (top_index ask hashes) → Before Mismatch
-  first_mismatch range count pads top UnknownRoot low f = f
-  first_mismatch range count pads top BadRange low f = f range
-  first_mismatch range count pads top BadCount low f = f count
-  first_mismatch range count pads top BadPad low f = f.differ (pads f.layer f.index f.value f.is_given f.past)
-  first_mismatch range count pads top Unanchored low f = none-some top.0 (sym f ∙ top.1)
-  first_mismatch range count pads top NoMemory low f = f
-  first_mismatch range count pads top Unasked low f = f
-  first_mismatch range count pads top Mismatch low f = omega arith
+  first_mismatch range count pads top =
+      no_fault (hash_refusal_number Mismatch) (omega arith) (λ _. range) (λ _. count) (λ _. pads) (λ _. top)
 
   -- a message for a tree whose known places are finite is accepted, or one refusal is the first
   pub accepted_or_refused : ((l i : ℕ) (v : Hash) → K l i ≡ Some v → IsTreePlace (tree_height t.length) l i) → IsAccepted t.length K ask hashes

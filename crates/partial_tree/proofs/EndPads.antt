@@ -1,15 +1,15 @@
 -- The pads beside a file's end: what each is, and that a closed tree in which the last leaf is known stays closed with them.
-use Rattle.std.proofs.Common.{◌≡◌, ◌⊎◌, ℕ, zero, suc, ◌+◌, ◌-◌, ◌*◌, ◌/◌, ◌^◌, ◌<◌, ◌≤◌, ◌&&◌, ◌%◌, min, true, false, leb, ltb, Some, None, inl, inr}
-use Rattle.std.proofs.Common.{refl, sym, ap, ap₂, ◌∙◌, subst}
-use Rattle.std.proofs.Common.{arith, div-one, shr-shr, pow_pos, eq-or-lt_of_le}
-use Rattle.std.proofs.lemmas.Bool.{and_parts, and_from, ltb-true, lt-ltb, leb-true, le-leb, cond-true, cond-false, cases_lt, cases_Bool}
+use Rattle.std.proofs.Common.{◌≡◌, ◌⊎◌, ℕ, zero, suc, ◌+◌, ◌-◌, ◌*◌, ◌/◌, ◌^◌, ◌<◌, ◌≤◌, ◌&&◌, ◌%◌, min, ltb, Some, None, inl, inr}
+use Rattle.std.proofs.Common.{sym, ap, ◌∙◌, subst}
+use Rattle.std.proofs.Common.{arith, div-one, shr-shr, pow_pos}
+use Rattle.std.proofs.lemmas.Bool.{and_parts, and_from, ltb-true, lt-ltb, cond-true, cases_lt}
 use Rattle.std.proofs.lemmas.Nat.{div_below, mul-le, one_shl}
 use Rattle.partial_tree.proofs.Ranges.{pow_more}
 use Rattle.std.proofs.Math.Nat.{lt-div-mul-add, div-mul-le_self}
 use Rattle.std.proofs.lemmas.Option.{same_Some, none-some}
 use Rattle.chains.proofs.Cases.{some_or_none}
 use Rattle.node_maps.specs.Digest.{Hash, IsHash, join}
-use Rattle.node_maps.specs.Places.{tree_height, PartialTree, IsKnown, IsTreePlace}
+use Rattle.node_maps.specs.Places.{tree_height, PartialTree, IsKnown}
 use Rattle.node_maps.proofs.Places.{twice_above}
 use Rattle.hashtree.specs.Tree.{block_count, zero_hash}
 use Rattle.hashtree.proofs.Heights.{height_enough, pow_split}
@@ -17,7 +17,7 @@ use Rattle.hashtree.proofs.Zeros.{zero_hash-suc}
 use Rattle.partial_tree.specs.TreeRoot.{TreeRoot}
 use Rattle.partial_tree.specs.Closed.{IsClosed, IsFamily}
 use Rattle.partial_tree.specs.Claims.{joined, IsAgreed}
-use Rattle.partial_tree.specs.EndPads.{last_node, pads_end, is_end_pad, end_pads, AreEndPadsKnown}
+use Rattle.partial_tree.specs.EndPads.{last_node, pads_end, is_end_pad, end_pads}
 use Rattle.partial_tree.proofs.ClaimValues.{guarded, either, first_of_two, second_of_two}
 use Rattle.partial_tree.proofs.Joining.{joined-keeps}
 use Rattle.partial_tree.proofs.WholeLayers.{zero_hash-is_hash}
@@ -196,23 +196,31 @@ module _ (t : TreeRoot) (K : PartialTree) (closed : IsClosed t K) where
 
 -- ---- as they are computed
 
-module _ (len l b h e : ℕ) (blocks : b ≡ block_count len) (tall : h ≡ tree_height len) (few : h ≤ 32) (low : l < h) (some : 0 < b)
-    (is : e ≡ min (1 * 2 ^ (h - l) % 2 ^ 64) (((b - 1) / 2 ^ l / 512 + 1) * 512)) where
+-- the number of blocks, the height, and where the pads of a layer below the root's end
+pub record IsPadRow (len l b h e : ℕ) : Type 0 where
+  pub blocks : b ≡ block_count len
+  pub tall : h ≡ tree_height len
+  pub few : h ≤ 32
+  pub low : l < h
+  pub some : 0 < b
+  pub is : e ≡ min (1 * 2 ^ (h - l) % 2 ^ 64) (((b - 1) / 2 ^ l / 512 + 1) * 512)
+
+module _ {len l b h e : ℕ} (x : IsPadRow len l b h e) where
   pub last-is : (b - 1) / 2 ^ l ≡ last_node len l
-  last-is = ap (λ n. (n - 1) / 2 ^ l) blocks
+  last-is = ap (λ n. (n - 1) / 2 ^ l) x.blocks
 
   pub end-is : e ≡ pads_end len l
   end-is =
-      let wide : 1 * 2 ^ (h - l) % 2 ^ 64 ≡ 2 ^ (h - l) = one_shl (h - l) 64 (omega (arith, few)) in
-      let layer : 2 ^ (h - l) ≡ 2 ^ (tree_height len - l) = ap (λ n. 2 ^ (n - l)) tall in
-      omega (arith, is, wide, layer, last-is)
+      let wide : 1 * 2 ^ (h - l) % 2 ^ 64 ≡ 2 ^ (h - l) = one_shl (h - l) 64 (omega (arith, x.few)) in
+      let layer : 2 ^ (h - l) ≡ 2 ^ (tree_height len - l) = ap (λ n. 2 ^ (n - l)) x.tall in
+      omega (arith, x.is, wide, layer, last-is)
 
   pub end-behind : (b - 1) / 2 ^ l + 1 ≤ e
   end-behind =
-      let behind : last_node len l + 1 ≤ pads_end len l = pads-behind len l (omega (arith, low, tall)) (omega (arith, some, blocks)) in
+      let behind : last_node len l + 1 ≤ pads_end len l = pads-behind len l (omega (arith, x.low, x.tall)) (omega (arith, x.some, x.blocks)) in
       omega (arith, behind, end-is, last-is)
 
   pub end-low : e ≤ 2 ^ 32
   end-low =
-      let layer : 2 ^ (tree_height len - l) ≤ 2 ^ 32 = pow_more (tree_height len - l) 32 (omega (arith, tall, few)) in
+      let layer : 2 ^ (tree_height len - l) ≤ 2 ^ 32 = pow_more (tree_height len - l) 32 (omega (arith, x.tall, x.few)) in
       omega (arith, end-is, layer)

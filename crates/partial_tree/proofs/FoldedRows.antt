@@ -1,7 +1,7 @@
 -- Rows under the node over a base range: each of their places is claimed, and what lies under a row
 -- lies under the rows below it.
-use Rattle.std.proofs.Common.{◌≡◌, ℕ, zero, suc, ◌+◌, ◌-◌, ◌*◌, ◌^◌, ◌<◌, ◌≤◌, List, [], Some, None, inl, inr}
-use Rattle.std.proofs.Common.{sym, ap, ap₂, ◌∙◌, subst, arith, slice_index_or}
+use Rattle.std.proofs.Common.{◌≡◌, ◌≢◌, ℕ, zero, suc, ◌+◌, ◌-◌, ◌*◌, ◌^◌, ◌<◌, ◌≤◌, List, [], Some, None, inl, inr}
+use Rattle.std.proofs.Common.{sym, ap, ap₂, ◌∙◌, subst, arith, mul-le-mul, slice_index_or}
 use Rattle.std.proofs.lemmas.Bool.{cases_lt}
 use Rattle.std.proofs.lemmas.Option.{none-some}
 use Rattle.hashtree.proofs.Pairs.{two-pow}
@@ -120,30 +120,28 @@ children-claimed e row is above few =
       few = omega (arith, few);
     }
 
-pub left-claimed_row : (e : Evidence) (row : Row) → IsClaimedRow e row → e.base < row.layer → 1 ≤ row.depth
-    → IsClaimedRow e (record { layer = row.layer - 1; depth = row.depth; node = 2 * row.node })
-left-claimed_row e row is above some =
+-- the row below a half of a row
+half-claimed_row : (e : Evidence) (row : Row) → IsClaimedRow e row → e.base < row.layer → 1 ≤ row.depth → (node : ℕ)
+    → IsClaimedPlace e (row.layer + row.depth - 1) node → IsClaimedRow e (record { layer = row.layer - 1; depth = row.depth; node = node })
+half-claimed_row e row is above some node at =
     let same : row.layer + row.depth - 1 ≡ row.layer - 1 + row.depth = omega (arith, above) in
     record {
-      at = subst (λ l. IsClaimedPlace e l (2 * row.node)) same (left_claimed e (row.layer + row.depth) row.node is.at (is.not_given (omega (arith, above))));
-      not_given = λ up. not_given e (row.layer - 1 + row.depth) (2 * row.node) (omega (arith, above, some)) (omega (arith, above, is.to_cover));
+      at = subst (λ l. IsClaimedPlace e l node) same at;
+      not_given = λ up. not_given e (row.layer - 1 + row.depth) node (omega (arith, above, some)) (omega (arith, above, is.to_cover));
       from_base = omega (arith, above);
       to_cover = omega (arith, above, is.to_cover);
       few = is.few;
     }
 
+pub left-claimed_row : (e : Evidence) (row : Row) → IsClaimedRow e row → e.base < row.layer → 1 ≤ row.depth
+    → IsClaimedRow e (record { layer = row.layer - 1; depth = row.depth; node = 2 * row.node })
+left-claimed_row e row is above some = half-claimed_row e row is above some (2 * row.node)
+    (left_claimed e (row.layer + row.depth) row.node is.at (is.not_given (omega (arith, above))))
+
 pub right-claimed_row : (e : Evidence) (row : Row) → IsClaimedRow e row → e.base < row.layer → 1 ≤ row.depth
     → IsClaimedRow e (record { layer = row.layer - 1; depth = row.depth; node = 2 * row.node + 1 })
-right-claimed_row e row is above some =
-    let same : row.layer + row.depth - 1 ≡ row.layer - 1 + row.depth = omega (arith, above) in
-    record {
-      at = subst (λ l. IsClaimedPlace e l (2 * row.node + 1)) same
-          (right_claimed e (row.layer + row.depth) row.node is.at (is.not_given (omega (arith, above))));
-      not_given = λ up. not_given e (row.layer - 1 + row.depth) (2 * row.node + 1) (omega (arith, above, some)) (omega (arith, above, is.to_cover));
-      from_base = omega (arith, above);
-      to_cover = omega (arith, above, is.to_cover);
-      few = is.few;
-    }
+right-claimed_row e row is above some = half-claimed_row e row is above some (2 * row.node + 1)
+    (right_claimed e (row.layer + row.depth) row.node is.at (is.not_given (omega (arith, above))))
 
 -- ---- the hashes of a row
 
@@ -206,3 +204,16 @@ joined-rows e row left right hashes is above three claimed_left claimed_right jo
 -- the number of the node over a row is small
 pub row-low : (e : Evidence) (row : Row) → IsClaimedRow e row → row.node < 2 ^ 32
 row-low e row is = place-low 32 (row.layer + row.depth) row.node (omega arith) is.at.place
+
+-- and so is that of its first place
+pub first-low : (e : Evidence) (row : Row) (n : ℕ) → IsClaimedRow e row → n ≤ 8 → row.node * n ≤ 2 ^ 32 * 8
+first-low e row n is few = mul-le-mul {n₂ = 2 ^ 32} (omega (arith, row-low e row is)) few
+
+-- a row that is not of the base range lies above it
+pub row-above : (e : Evidence) (row : Row) → IsClaimedRow e row → row.layer ≢ e.base → e.base < row.layer
+row-above e row is other = omega (arith, is.from_base, other)
+
+-- each place of a row is claimed, by its number as it is computed
+pub place-claimed : (e : Evidence) (row : Row) (hashes : List Hash) (n j : ℕ) → n ≡ 2 ^ row.depth → j < n → AreClaimedIn (claimed_by e) row hashes
+    → claimed_by e row.layer (row.node * n + j) ≡ Some (slice_index_or hashes j [])
+place-claimed e row hashes n j all low claimed = ap (λ k. claimed_by e row.layer (row.node * k + j)) all ∙ claimed j (omega (arith, low, all))

@@ -124,6 +124,12 @@ shifted k low =
     let same : 1 * 2 ^ k ≡ 2 ^ k = omega arith in
     mod-eq_of_lt (omega arith) ∙ same
 
+-- and that of the row over a layer
+pub layer-wide : (n h l : ℕ) → h ≡ tree_height n → h ≤ 32 → l < h → 1 * 2 ^ (h - l - 1) % 18446744073709551616 ≡ 2 ^ (tree_height n - suc l)
+layer-wide n h l tall bound low =
+    let exponent : h - l - 1 ≡ tree_height n - suc l = omega (arith, tall) in
+    shifted (h - l - 1) (omega (arith, bound)) ∙ ap (λ k. 2 ^ k) exponent
+
 -- pads stand only beside more leaves than one
 pub has_pads : (blocks h : ℕ) → 0 < blocks → ((k : ℕ) → blocks ≤ 2 ^ k → h ≤ k) → h ≤ 32
     → blocks < 1 * 2 ^ h % 18446744073709551616 → 1 < blocks

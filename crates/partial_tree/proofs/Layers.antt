@@ -66,6 +66,13 @@ module _ (t : TreeRoot) (K : PartialTree) (l : ℕ) (given_hashes : Bor (List Ha
   pub layer-leads : LeadsTo layer_evidence (tree_height t.length) 0
   layer-leads = elim (eq-or-lt_of_le layer_inside) [ inl root ↦ of-root root | inr below ↦ below-root below ]
 
+  -- with the height and the pad as they are computed
+  pub layer-leads_as : (h : ℕ) (pad : Hash) → h ≡ tree_height t.length → pad ≡ zero_hash l
+      → LeadsTo (record { base = l; index = 0; span = h - l; hashes = given_hashes; pad = pad }) h 0
+  layer-leads_as h pad tall is =
+      subst (λ p. LeadsTo (record { base = l; index = 0; span = h - l; hashes = given_hashes; pad = p }) h 0) (sym is)
+      (subst (λ k. LeadsTo (record { base = l; index = 0; span = k - l; hashes = given_hashes; pad = zero_hash l }) k 0) (sym tall) layer-leads)
+
 -- what is known after a whole layer is bounded by the tree
 pub filled-len : (t : TreeRoot) (before after : Known) (l : ℕ) (hashes : List Hash) (c : ℕ) → IsClosed t (look before) → All IsHash hashes
     → IsFillAccepted t.length (look before) l hashes

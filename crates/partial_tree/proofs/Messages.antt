@@ -174,25 +174,6 @@ module _ (ev : Evidence) (ask : Ask) (hashes : List Hash) (base : ev.base ≡ as
       subst (λ l. LeadsTo ev l (ask.index / 2 ^ (l - ask.base))) same_top
       (subst (λ i. LeadsTo ev (top_layer (range_of ev) (hashes_of ev)) i) (ap₂ (λ a b. a / 2 ^ (top_layer (range_of ev) (hashes_of ev) - b)) index base) at)
 
--- ---- what refuses a message, test by test
-
-module _ (t : TreeRoot) (K : PartialTree) (ask : Ask) (hashes : List Hash) where
-  pub accepts : GoodRange (tree_height t.length) ask → GoodCount (tree_height t.length) ask hashes → ArePadsRight t.length ask hashes
-      → IsKnown K (top_layer ask hashes) (top_index ask hashes) → IsAgreed K (claims ask hashes) → IsAccepted t.length K ask hashes
-  accepts range count pads top agreed = record { range = range; count = count; pads = pads; top_known = top; agrees = agreed }
-
-  pub refuses_store : GoodRange (tree_height t.length) ask → GoodCount (tree_height t.length) ask hashes → ArePadsRight t.length ask hashes
-      → IsKnown K (top_layer ask hashes) (top_index ask hashes)
-      → (r : HashRefusal) → StoreFault K (claims ask hashes) r → TreeRefuses t.length K ask hashes r
-  refuses_store range count pads top Mismatch f = record { fault = f; first = first_mismatch t K ask hashes range count pads top }
-  refuses_store range count pads top NoMemory f = (accepts range count pads top f.0, f.1)
-  refuses_store range count pads top UnknownRoot f = absurd f
-  refuses_store range count pads top BadRange f = absurd f
-  refuses_store range count pads top BadCount f = absurd f
-  refuses_store range count pads top BadPad f = absurd f
-  refuses_store range count pads top Unanchored f = absurd f
-  refuses_store range count pads top Unasked f = absurd f
-
 -- what is known after an accepted message is bounded by the tree
 pub joined-len : (t : TreeRoot) (before after : Known) (ask : Ask) (hashes : List Hash) (c : ℕ) → IsClosed t (look before) → All IsHash hashes
     → IsAccepted t.length (look before) ask hashes
@@ -201,22 +182,41 @@ joined-len t before after ask hashes c closed all ok joins =
     subst (λ n. n < 2 ^ suc (tree_height t.length)) joins.gained
     (len-known (tree_height t.length) after (λ l i v e. (joined-closed t (look before) ask hashes closed all ok).in_tree l i v (sym (joins.joined_is l i) ∙ e)))
 
--- what storing leaves, from the evidence to the message
-pub taken_by : (ev : Evidence) (t : TreeRoot) (before after : Known) (ask : Ask) (hashes : List Hash) (r : Result ℕ HashRefusal)
-    → claimed_by ev ≡ claims ask hashes
-    → GoodRange (tree_height t.length) ask → GoodCount (tree_height t.length) ask hashes → ArePadsRight t.length ask hashes
-    → IsKnown (look before) (top_layer ask hashes) (top_index ask hashes)
-    → IfOk r (λ c. Joins (claimed_by ev) before after c) → IfOk r (λ c. IsAccepted t.length (look before) ask hashes × Joins (claims ask hashes) before after c)
-taken_by ev t before after ask hashes (Ok c) same range count pads top joins =
-    let moved : Joins (claims ask hashes) before after c = subst (λ (C : PartialTree). Joins C before after c) same joins in
-    (accepts t (look before) ask hashes range count pads top moved.agreed, moved)
-taken_by ev t before after ask hashes (Err r) same range count pads top joins = tt
+-- ---- what storing leaves, from the evidence to the message
 
-pub refused_by : (ev : Evidence) (t : TreeRoot) (before : Known) (Stays : Type 0) (ask : Ask) (hashes : List Hash) (r : Result ℕ HashRefusal)
-    → claimed_by ev ≡ claims ask hashes
-    → GoodRange (tree_height t.length) ask → GoodCount (tree_height t.length) ask hashes → ArePadsRight t.length ask hashes
-    → IsKnown (look before) (top_layer ask hashes) (top_index ask hashes)
-    → IfErr r (λ x. StoreFault (look before) (claimed_by ev) x × Stays) → IfErr r (λ x. TreeRefuses t.length (look before) ask hashes x × Stays)
-refused_by ev t before Stays ask hashes (Ok c) same range count pads top fault = tt
-refused_by ev t before Stays ask hashes (Err r) same range count pads top fault =
-    (refuses_store t (look before) ask hashes range count pads top r (subst (λ (C : PartialTree). StoreFault (look before) C r) same fault.0), fault.1)
+-- the message passes each test before its hashes are compared, and the evidence claims what it does
+pub record PassesTests (ev : Evidence) (len : ℕ) (before : Known) (ask : Ask) (hashes : List Hash) : Type 0 where
+  pub claimed : claimed_by ev ≡ claims ask hashes
+  pub range : GoodRange (tree_height len) ask
+  pub count : GoodCount (tree_height len) ask hashes
+  pub pads : ArePadsRight len ask hashes
+  pub top : IsKnown (look before) (top_layer ask hashes) (top_index ask hashes)
+
+module _ {ev : Evidence} {len : ℕ} {before : Known} {ask : Ask} {hashes : List Hash} (x : PassesTests ev len before ask hashes) where
+  accepts : IsAgreed (look before) (claims ask hashes) → IsAccepted len (look before) ask hashes
+  accepts agreed = record { range = x.range; count = x.count; pads = x.pads; top_known = x.top; agrees = agreed }
+
+  refuses_store : (r : HashRefusal) → StoreFault (look before) (claims ask hashes) r → TreeRefuses len (look before) ask hashes r
+  refuses_store Mismatch f = record {
+    fault = f;
+    first = first_mismatch (record { root = []; length = len }) (look before) ask hashes x.range x.count x.pads x.top;
+  }
+  refuses_store NoMemory f = (accepts f.0, f.1)
+  refuses_store UnknownRoot f = absurd f
+  refuses_store BadRange f = absurd f
+  refuses_store BadCount f = absurd f
+  refuses_store BadPad f = absurd f
+  refuses_store Unanchored f = absurd f
+  refuses_store Unasked f = absurd f
+
+  pub taken_by : (after : Known) (r : Result ℕ HashRefusal) → IfOk r (λ c. Joins (claimed_by ev) before after c)
+      → IfOk r (λ c. IsAccepted len (look before) ask hashes × Joins (claims ask hashes) before after c)
+  taken_by after (Ok c) joins =
+      let moved : Joins (claims ask hashes) before after c = subst (λ (C : PartialTree). Joins C before after c) x.claimed joins in
+      (accepts moved.agreed, moved)
+  taken_by after (Err r) joins = tt
+
+  pub refused_by : (Stays : Type 0) (r : Result ℕ HashRefusal) → IfErr r (λ y. StoreFault (look before) (claimed_by ev) y × Stays)
+      → IfErr r (λ y. TreeRefuses len (look before) ask hashes y × Stays)
+  refused_by Stays (Ok c) fault = tt
+  refused_by Stays (Err r) fault = (refuses_store r (subst (λ (C : PartialTree). StoreFault (look before) C r) x.claimed fault.0), fault.1)

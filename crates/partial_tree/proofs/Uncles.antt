@@ -1,8 +1,7 @@
 -- The nodes over a base range, up to the place to which evidence leads, and the uncles beside them.
-use Rattle.std.proofs.Common.{◌≡◌, ◌⊎◌, ℕ, zero, suc, ◌+◌, ◌-◌, ◌*◌, ◌/◌, ◌%◌, ◌^◌, ◌<◌, ◌≤◌, Some, None, inl, inr, refl, sym, ap, ap₂, ◌∙◌}
-use Rattle.std.proofs.Common.{subst, arith, div-one, eq-or-lt_of_le, pow_mono, shr-shr}
+use Rattle.std.proofs.Common.{◌≡◌, ◌⊎◌, ℕ, zero, suc, ◌+◌, ◌-◌, ◌*◌, ◌/◌, ◌%◌, ◌^◌, ◌<◌, ◌≤◌, Some, None, inl, inr, sym, ap, ap₂, ◌∙◌}
+use Rattle.std.proofs.Common.{subst, arith, div-one, eq-or-lt_of_le, shr-shr}
 use Rattle.std.specs.Prelude.{⊤}
-use Rattle.std.proofs.lemmas.Option.{none-some}
 use Rattle.hashtree.proofs.Pairs.{two-pow}
 use Rattle.chains.proofs.Cases.{some_or_none}
 use Rattle.node_maps.specs.Digest.{Hash, join}
@@ -11,12 +10,11 @@ use Rattle.partial_tree.specs.declared.message.evidence.Evidence.{Evidence}
 use Rattle.partial_tree.specs.declared.message.found.Claim.{Claim}
 use Rattle.partial_tree.specs.declared.message.row.Row.{Row}
 use Rattle.partial_tree.specs.Claims.{base_hash, sibling, uncle_hash}
-use Rattle.partial_tree.specs.Evidence.{IsClaimedPlace, IsInside, IsPruned, LeadsTo, LeadsUp, claimed_by, given_by, hashes_of, node_over_base, range_of}
+use Rattle.partial_tree.specs.Evidence.{IsClaimedPlace, IsInside, LeadsTo, LeadsUp, claimed_by, given_by, hashes_of, node_over_base, range_of}
 use Rattle.partial_tree.specs.Evidence.{row_height}
 use Rattle.partial_tree.specs.FoldedRows.{IsClaimedRow, IsUnderUncle}
 use Rattle.partial_tree.specs.Visits.{IsOfPair, LiesUnderRow, VisitsAll, VisitsPair, VisitsRow, places_under}
 use Rattle.partial_tree.proofs.ClaimValues.{base-read, either, pair_of, sibling-apart, uncle-read}
-use Rattle.partial_tree.proofs.Given.{cover_is}
 use Rattle.partial_tree.proofs.Ranges.{pow_more}
 use Rattle.partial_tree.proofs.Rows.{claim-in_row, node-up}
 use Rattle.partial_tree.proofs.Tracing.{Opened, join_claimed, left_claimed, left_or_right, rests_on, right_claimed}
@@ -104,11 +102,11 @@ module _ (e : Evidence) (top : ℕ) (up : LeadsUp e top) where
       (record { inside = up.inside; place = up.place; pruned = up.leads.pruned; claimed = up.leads.at_top })
   claimed-over (suc d) l at from = (children-over e up.leads.is_over.aligned l from (claimed-over d (suc l) (omega (arith, at)) (omega (arith, from)))).0
 
-  pub cover-row : IsClaimedRow e (row_over e (e.base + e.span))
+  pub cover-row : IsClaimedRow e (record { layer = e.base + e.span; depth = 0; node = e.index / 2 ^ e.span })
   cover-row =
       let covers : e.base + e.span ≤ top = up.leads.is_over.covers in
       let same : e.base + e.span ≡ e.base + e.span + 0 = omega arith in
-      record {
+      subst (λ n. IsClaimedRow e (record { layer = e.base + e.span; depth = 0; node = n })) (over-cover e) (record {
         at = subst (λ l. IsClaimedPlace e l (node_over_base e (e.base + e.span))) same
             (claimed-over (top - (e.base + e.span)) (e.base + e.span) (omega (arith, covers)) (omega arith));
         not_given =
@@ -116,7 +114,7 @@ module _ (e : Evidence) (top : ℕ) (up : LeadsUp e top) where
         from_base = omega arith;
         to_cover = omega arith;
         few = omega arith;
-      }
+      })
 
   pub under-uncle : (l : ℕ) (h : Hash) → e.base + e.span ≤ l → l < top → claimed_by e l (node_over_base e l) ≡ Some h → IsUnderUncle e l h
   under-uncle l h from below value = record {
@@ -162,12 +160,12 @@ module _ (e : Evidence) (top : ℕ) (up : LeadsUp e top) where
             ]
 
     -- all claims lie under the top
-    pub all-visited : (v w : V) → VisitsRow Visit (claimed_by e) (row_over e top) v w → VisitsAll Visit (claimed_by e) v w
-    all-visited v w row =
+    pub all-visited : (l : ℕ) (v w : V) → l ≡ top → VisitsRow Visit (claimed_by e) (row_over e l) v w → VisitsAll Visit (claimed_by e) v w
+    all-visited l v w at row =
         let plain : top + 0 ≡ top = omega arith in
         let high : suc (top + 0) ≤ 40 = omega (arith, up.place.0) in
         let wide : 2 ^ suc (top + 0) ≤ 2 ^ 40 = pow_more (suc (top + 0)) 40 high in
-        visits-weaker Visit (claimed_by e) _ (λ l i. ⊤) _ (2 ^ 40) v w row
+        visits-weaker Visit (claimed_by e) _ (λ l i. ⊤) _ (2 ^ 40) v w (subst (λ k. VisitsRow Visit (claimed_by e) (row_over e k) v w) at row)
         (λ l i h is there.
         let under = up.leads.under_top l i h is in
         ((omega (arith, under.0), ap (λ k. i / 2 ^ (k - l)) plain ∙ under.1), under.0)) (omega (arith, wide))

@@ -15,7 +15,7 @@ use Rattle.parts.specs.Held.{IsFileJudged, Promises, VisitsFound}
 use Rattle.parts.specs.Windows.{KeepsFiles}
 use Rattle.parts.specs.declared.batch.HeldFiles.{HeldFiles}
 use Rattle.parts.specs.declared.batch.Kept.{Kept}
-use Rattle.parts.specs.declared.held.Held.{Held}
+use Rattle.parts.specs.declared.held.HeldVisit.{HeldVisit}
 use Rattle.parts.specs.declared.verdicts.Verdicts.{Verdicts}
 use Rattle.parts.specs.declared.windows.Windows.{Windows}
 
@@ -56,7 +56,7 @@ module _ {S F : Type 0} (shelf : Ghosts S F) (seen : F → SourceSeen) (t : Desc
   }
 
   -- one more file
-  pub holds_more : (s mid s' : S) (h h' : HeldFiles) (room room' : List ℕ) (used n : ℕ) (f : FileEntry) (a : Held)
+  pub holds_more : (s mid s' : S) (h h' : HeldFiles) (room room' : List ℕ) (used n : ℕ) (f : FileEntry) (a : HeldVisit)
       → HoldsFrom shelf seen t from s h room used mid
       → n ≡ from + h.count → slice_get t.files n ≡ Some f → Promises shelf seen t mid f (a, bytes_at room' used f.length) s' → take used room' ≡ take used room
       → h'.count ≡ h.count + 1 → ((k : ℕ) → k < h.count → slice_get h'.kept k ≡ slice_get h.kept k)
@@ -64,7 +64,7 @@ module _ {S F : Type 0} (shelf : Ghosts S F) (seen : F → SourceSeen) (t : Desc
       → KeepsFiles h.windows h'.windows
       → HoldsFrom shelf seen t from s h' room' (used + f.length) s'
   holds_more s mid s' h h' room room' used n f a held number there promised same count before last window =
-      let x : Held × List ℕ = (a, bytes_at room' used f.length) in
+      let x : HeldVisit × List ℕ = (a, bytes_at room' used f.length) in
       let at : slice_get t.files (from + h.count) ≡ Some f = ap (slice_get t.files) (sym number) ∙ there in
       let inside : from + h.count < length t.files = slice_get_within t.files (from + h.count) f at in
       record {
@@ -95,9 +95,9 @@ module _ {S F : Type 0} (shelf : Ghosts S F) (seen : F → SourceSeen) (t : Desc
       }
 
   -- what is held was judged
-  judged_all : (s : S) (fs : List FileEntry) (all : List (Held × List ℕ)) (vs : List Verdicts) (s' : S) → Chain (Promises shelf seen t) s fs all s'
+  judged_all : (s : S) (fs : List FileEntry) (all : List (HeldVisit × List ℕ)) (vs : List Verdicts) (s' : S) → Chain (Promises shelf seen t) s fs all s'
       → length vs ≡ length all
-      → ((k : ℕ) (f : FileEntry) (x : Held × List ℕ) (v : Verdicts) → slice_get fs k ≡ Some f → slice_get all k ≡ Some x → slice_get vs k ≡ Some v
+      → ((k : ℕ) (f : FileEntry) (x : HeldVisit × List ℕ) (v : Verdicts) → slice_get fs k ≡ Some f → slice_get all k ≡ Some x → slice_get vs k ≡ Some v
       → IsFileJudged t f x.0 x.1 v) → Chain (VisitsFound shelf seen t) s fs vs s'
   judged_all s [] [] [] s' run long judged = run
   judged_all s [] [] (v ∷ vs) s' run long judged = absurd (omega (arith, long))
@@ -120,11 +120,11 @@ module _ {S F : Type 0} (shelf : Ghosts S F) (seen : F → SourceSeen) (t : Desc
         let file = item_of_part from h.count t.files k f there in
         let e = item_at h.kept k (omega (arith, file.0, few)) in
         let is = held.each k f e.0 x file.1 e.1 at in
-        subst (λ (y : Held × List ℕ). IsFileJudged t f y.0 y.1 v) (sym (pair x (e.0.held) (bytes_at room e.0.start f.length) is.held_is is.bytes_are))
+        subst (λ (y : HeldVisit × List ℕ). IsFileJudged t f y.0 y.1 v) (sym (pair x (e.0.held) (bytes_at room e.0.start f.length) is.held_is is.bytes_are))
         (judged k f e.0 v file.0 file.1 e.1 said)));
   }
     where
-      pair : (x : Held × List ℕ) (a : Held) (b : List ℕ) → x.0 ≡ a → x.1 ≡ b → x ≡ (a, b)
+      pair : (x : HeldVisit × List ℕ) (a : HeldVisit) (b : List ℕ) → x.0 ≡ a → x.1 ≡ b → x ≡ (a, b)
       pair x a b one two = ap₂ (λ y z. (y, z)) one two
 
   -- what is held has its places

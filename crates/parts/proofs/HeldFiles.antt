@@ -20,8 +20,8 @@ use Rattle.folders.proofs.Visiting.{agrees_missing, agrees_opened}
 use Rattle.parts.specs.Finding.{FindsWhole, all_places}
 use Rattle.folders.specs.Rooms.{FitsIn, FillsRoom}
 use Rattle.parts.specs.Held.{IsHeldFor, Promises, VisitsFound}
-use Rattle.parts.specs.declared.held.Held.{Held}
-use Rattle.parts.specs.declared.held.Held.TheVariants as held
+use Rattle.parts.specs.declared.held.HeldVisit.{HeldVisit}
+use Rattle.parts.specs.declared.held.HeldVisit.TheVariants as held
 use Rattle.folders.specs.declared.room.RoomReader.{RoomReader}
 use Rattle.parts.specs.declared.verdicts.Verdicts.{Verdicts}
 use Rattle.parts.proofs.FoundFiles.{finds_missing, finds_other_length, finds_unreadable}
@@ -162,7 +162,7 @@ module _ {S F : Type 0} (shelf : Ghosts S F) (seen : F → SourceSeen) (t : Desc
       }))
 
   -- whatever was read
-  pub promises_read : (answer : Result ℕ DeviceFault) (h : Held) → IsHeldFor answer r.size h → ReadsFound shelf seen (FillsRoom r s) s0 f.path answer s1
+  pub promises_read : (answer : Result ℕ DeviceFault) (h : HeldVisit) → IsHeldFor answer r.size h → ReadsFound shelf seen (FillsRoom r s) s0 f.path answer s1
       → Promises shelf seen t s0 f (h, bytes_at s.room.items r.at f.length) s1
   promises_read (Ok count) held.Missing is visit = absurd is
   promises_read (Ok count) held.Unreadable is visit = absurd is

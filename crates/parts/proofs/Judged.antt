@@ -11,7 +11,7 @@ use Rattle.parts.specs.Finding.{FindsWhole}
 use Rattle.parts.specs.Held.{AreCutsGood, IsFileJudged, IsJudgedGood}
 use Rattle.parts.specs.Parts.{IsVersion1Good}
 use Rattle.parts.specs.Saying.{SaysWhole}
-use Rattle.parts.specs.declared.held.Held.TheVariants as held
+use Rattle.parts.specs.declared.held.HeldVisit.TheVariants as held
 use Rattle.parts.specs.declared.row.Found.{Found}
 use Rattle.parts.specs.declared.places.Span.{Span}
 use Rattle.parts.specs.declared.verdicts.Verdicts.{Verdicts}

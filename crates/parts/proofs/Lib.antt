@@ -1,4 +1,3 @@
-pub mod AsTexts
 pub mod Batched
 pub mod Files
 pub mod PartVisited

@@ -2,11 +2,13 @@
 use Rattle.std.proofs.Common.{◌≡◌, ◌∙◌, ℕ, zero, suc, ◌+◌, List, [], ◌∷◌, ◌++◌, arith}
 use Rattle.std.proofs.Common.{slice_get, Option, Some, Result, refl, ap, subst, sym}
 use Rattle.std.proofs.lemmas.Option.{none-some, same_Some}
+use Rattle.std.proofs.lemmas.Grind.{flat_map-append}
 use Rattle.benc.proofs.Known.{Appends_nothing}
 use Rattle.benc.proofs.Out.{Sent-append}
 use Rattle.benc.specs.Device.{Sent, SentAndFlushed, SinkSeen, SourceSeen}
 use Rattle.benc.specs.declared.device.DeviceFault.{DeviceFault}
 use Rattle.chains.specs.Chain.{Chain}
+use Rattle.lines.specs.Rows.{Row, Spelling, spell}
 use Rattle.opening.specs.Description.{Description, FileEntry}
 use Rattle.folders.specs.Folder.{Contents}
 use Rattle.folders.specs.declared.report.FileVerdict.{FileVerdict}
@@ -14,8 +16,8 @@ use Rattle.folders.specs.declared.report.V1Verdict.{V1Verdict}
 use Rattle.folders.specs.declared.shelf.Shelf.{Ghosts}
 use Rattle.parts.specs.Checking.{shelf_and_sink}
 use Rattle.parts.specs.MarkedChecks.{ChecksMarkedPart, SaysMarked}
-use Rattle.parts.specs.MarkedLines.{marked_as, marked_lines_as, verdicts_of}
-use Rattle.parts.specs.PartWords.{PartWords, last_as}
+use Rattle.parts.specs.MarkedLines.{marked_head_row, marked_place_rows, marked_rows, verdicts_of}
+use Rattle.parts.specs.PartLines.{part_end_rows}
 use Rattle.parts.specs.Runs.{Run}
 use Rattle.parts.specs.Shares.{share}
 use Rattle.parts.specs.Telling.{AreMarkedRuns, Tells}
@@ -25,7 +27,7 @@ use Rattle.parts.specs.declared.telling.Telling.TheVariants as telling
 use Rattle.parts.proofs.PartVisited.{true_of_contents}
 use Rattle.parts.proofs.Reported.{at_next, flushed_after}
 
-module _ {S F : Type 0} (words : PartWords) (shelf : Ghosts S F) (opens_at : S → List (List ℕ) → ℕ → Result (Option F) DeviceFault → S → Type 0)
+module _ {S F : Type 0} (spelled : Spelling) (shelf : Ghosts S F) (opens_at : S → List (List ℕ) → ℕ → Result (Option F) DeviceFault → S → Type 0)
     (seen : F → SourceSeen) (t : Description) (r : Places) where
   -- the runs of one file more
   runs_more : (contents : Contents) (f : FileEntry) (fs : List FileEntry) (y : FileVerdict × List Run) (ys : List (FileVerdict × List Run))
@@ -47,12 +49,12 @@ module _ {S F : Type 0} (words : PartWords) (shelf : Ghosts S F) (opens_at : S �
     same : verdicts_of marked ≡ verdicts_in told
     runs : (n : ℕ) (f : FileEntry) (x : FileVerdict × List Run) → slice_get fs n ≡ Some f → slice_get marked n ≡ Some x
         → AreMarkedRuns t r f (contents n) x.0 x.1
-    went : Sent old new (marked_lines_as words.check t r marked fs)
+    went : Sent old new (spell spelled (marked_place_rows t r marked fs))
 
   said_marks : (contents : Contents) (old : S × SinkSeen) (fs : List FileEntry) (told : List (FileVerdict × List ℕ)) (new : S × SinkSeen)
       → Chain (VisitsOne (part_visiting shelf opens_at seen r t)) old fs told new
       → ((n : ℕ) (f : FileEntry) (x : FileVerdict × List ℕ) → slice_get fs n ≡ Some f → slice_get told n ≡ Some x
-      → Tells words.check t (telling.RunsIn r) f (contents n) x.0 x.1)
+      → Tells spelled t (telling.RunsIn r) f (contents n) x.0 x.1)
       → SaidMarks contents fs told old.1 new.1
   said_marks contents old [] [] new e each = record {
     marked = [];
@@ -70,34 +72,37 @@ module _ {S F : Type 0} (words : PartWords) (shelf : Ghosts S F) (opens_at : S �
         marked = (x.0, here.0) ∷ later.marked;
         same = ap (λ vs. x.0 ∷ vs) later.same;
         runs = runs_more contents f fs (x.0, here.0) later.marked here.1 later.runs;
-        went = Sent-append old.1 mid.1 new.1 (marked_as words.check t r f x.0 here.0) (marked_lines_as words.check t r later.marked fs)
-            (subst (Sent old.1 mid.1) here.2 step.told) later.went;
+        went = subst (Sent old.1 new.1) (sym (flat_map-append spelled (marked_rows t r f x.0 here.0) (marked_place_rows t r later.marked fs)))
+            (Sent-append old.1 mid.1 new.1 (spell spelled (marked_rows t r f x.0 here.0)) (spell spelled (marked_place_rows t r later.marked fs))
+            (subst (Sent old.1 mid.1) here.2 step.told) later.went);
       }
 
 -- the whole report went out
-pub marked_prints : {S F : Type 0} (words : PartWords) (shelf : Ghosts S F) (opens_at : S → List (List ℕ) → ℕ → Result (Option F) DeviceFault → S → Type 0)
+pub marked_prints : {S F : Type 0} (spelled : Spelling) (shelf : Ghosts S F) (opens_at : S → List (List ℕ) → ℕ → Result (Option F) DeviceFault → S → Type 0)
     (seen : F → SourceSeen) (t : Description) (part parts : ℕ) (verdicts : List FileVerdict) (v1 : Option V1Verdict) (old new : S × SinkSeen)
-    → ChecksMarkedPart words shelf opens_at seen t part parts verdicts v1 old new
-    → SaysMarked words t part parts (shelf.contents old.0).under verdicts v1 old.1 new.1
-marked_prints words shelf opens_at seen t part parts verdicts v1 old new checks =
+    → ChecksMarkedPart spelled shelf opens_at seen t part parts verdicts v1 old new
+    → SaysMarked spelled t part parts (shelf.contents old.0).under verdicts v1 old.1 new.1
+marked_prints spelled shelf opens_at seen t part parts verdicts v1 old new checks =
     let all = checks.all in
     let r : Places = share t part parts in
     let begun = shelf_and_sink old.0 checks.begun in
     let done = shelf_and_sink new.0 checks.mid in
-    let said = said_marks words shelf opens_at seen t r all.contents begun t.files all.told done all.visited
+    let said = said_marks spelled shelf opens_at seen t r all.contents begun t.files all.told done all.visited
     (λ n f x there is. (all.each n f x there is).1) in
-    let lines : List ℕ = marked_lines_as words.check t r said.marked t.files in
+    let lines : List Row = marked_place_rows t r said.marked t.files in
+    let last : List Row = part_end_rows (verdicts_of said.marked) v1 in
     let same : verdicts_of said.marked ≡ verdicts = said.same ∙ all.verdicts_are in
-    let end = subst (λ vs. SentAndFlushed checks.mid new.1 (last_as words vs v1)) (sym same) checks.end in
+    let end = subst (λ vs. SentAndFlushed checks.mid new.1 (spell spelled (part_end_rows vs v1))) (sym same) checks.end in
     record {
       are_true = record {
         contents = all.contents;
         agree = all.agree;
-        are_true = true_of_contents shelf opens_at seen r t words.check (telling.RunsIn r) verdicts v1 begun done all;
+        are_true = true_of_contents shelf opens_at seen r t spelled (telling.RunsIn r) verdicts v1 begun done all;
       };
       marked = said.marked;
       verdicts_are = same;
       runs = said.runs;
-      went = flushed_after old.1 checks.begun new.1 (words.bad_head t part parts) (lines ++ last_as words (verdicts_of said.marked) v1) checks.head
-          (flushed_after checks.begun checks.mid new.1 lines (last_as words (verdicts_of said.marked) v1) said.went end);
+      went = flushed_after old.1 checks.begun new.1 (spelled (marked_head_row t part parts)) (spell spelled (lines ++ last)) checks.head
+          (subst (SentAndFlushed checks.begun new.1) (sym (flat_map-append spelled lines last))
+          (flushed_after checks.begun checks.mid new.1 (spell spelled lines) (spell spelled last) said.went end));
     }

@@ -1,14 +1,16 @@
 -- Whether a file has a place in a part, and the lines of those that have.
 use Rattle.std.proofs.Common.{◌≡◌, ℕ, ◌+◌, ◌<◌, ◌≤◌, ◌++◌, ◌∷◌, max, Bool, true, false, IsTrue, ◌&&◌, nat_le}
-use Rattle.std.proofs.Common.{nat_lt, List, length, drop, map, get_or, refl, ap, sym, ◌∙◌, arith}
+use Rattle.std.proofs.Common.{nat_lt, List, length, drop, map, get_or, refl, ap, ◌∙◌, arith}
+use Rattle.std.proofs.lemmas.Grind.{flat_map-append}
 use Rattle.std.proofs.lemmas.List.{drop_more}
+use Rattle.lines.specs.Rows.{Spelling, spell}
 use Rattle.opening.specs.Description.{Description, FileEntry}
 use Rattle.opening.specs.Seen.{file_entry}
 use Rattle.opening.specs.declared.torrent.File.{File}
 use Rattle.folders.specs.declared.report.FileVerdict.{FileVerdict}
 use Rattle.folders.specs.declared.report.FileVerdict.TheVariants.{Good}
 use Rattle.printing.proofs.Parts.{item_next}
-use Rattle.parts.specs.PartLines.{has_place, held_as, lines_as}
+use Rattle.parts.specs.PartLines.{has_place, held_rows, place_rows}
 use Rattle.parts.specs.Parts.{Touches, last_place}
 use Rattle.parts.specs.declared.places.Places.{Places}
 
@@ -58,13 +60,15 @@ place_test t r f b is =
     one_test b (has_place t r f) (λ on. touch_to_has t r f (is.0 on)) (λ on. is.1 (has_to_touch t r f on))
 
 -- the line at an index, and those behind it
-pub next_line : (line : FileVerdict → FileEntry → List ℕ) (t : Description) (r : Places) (verdicts : List FileVerdict) (files : List File) (i : ℕ)
-    (file : File) (b : Bool) → i < length verdicts
-    → i < length files → file ≡ get_or files i file → b ≡ has_place t r (file_entry file)
-    → lines_as line t r (drop i verdicts) (map file_entry (drop i files))
-    ≡ held_as line b (get_or verdicts i Good) (file_entry file) ++ lines_as line t r (drop (i + 1) verdicts) (map file_entry (drop (i + 1) files))
-next_line line t r verdicts files i file b lt within there is =
-    ap (λ vs. lines_as line t r vs (map file_entry (drop i files))) (drop_more verdicts i Good lt)
-    ∙ ap (λ fs. lines_as line t r (get_or verdicts i Good ∷ drop (i + 1) verdicts) (map file_entry fs)) (item_next files i file within there)
-    ∙ ap (λ h. held_as line h (get_or verdicts i Good) (file_entry file) ++ lines_as line t r (drop (i + 1) verdicts) (map file_entry (drop (i + 1) files)))
-    (sym is)
+pub next_line : (spelled : Spelling) (t : Description) (r : Places) (verdicts : List FileVerdict) (files : List File) (i : ℕ) (file : File)
+    → i < length verdicts → i < length files → file ≡ get_or files i file
+    → spell spelled (place_rows t r (drop i verdicts) (map file_entry (drop i files)))
+    ≡ spell spelled (held_rows (has_place t r (file_entry file)) (get_or verdicts i Good) (file_entry file))
+    ++ spell spelled (place_rows t r (drop (i + 1) verdicts) (map file_entry (drop (i + 1) files)))
+next_line spelled t r verdicts files i file lt within there =
+    let v = get_or verdicts i Good in
+    let vs = drop (i + 1) verdicts in
+    let fs = map file_entry (drop (i + 1) files) in
+    ap (λ all. spell spelled (place_rows t r all (map file_entry (drop i files)))) (drop_more verdicts i Good lt)
+    ∙ ap (λ all. spell spelled (place_rows t r (v ∷ vs) (map file_entry all))) (item_next files i file within there)
+    ∙ flat_map-append spelled (held_rows (has_place t r (file_entry file)) v (file_entry file)) (place_rows t r vs fs)

@@ -1,5 +1,5 @@
 -- What reading a row of pieces found.
-use Rattle.std.proofs.Common.{◌≡◌, ℕ, ◌+◌, ◌-◌, ◌*◌, ◌<◌, ◌≤◌, inl, inr, is_some, List, [], ◌∷◌, ◌++◌, length, refl, ap₂}
+use Rattle.std.proofs.Common.{◌≡◌, ℕ, ◌+◌, ◌-◌, ◌*◌, ◌^◌, ◌<◌, ◌≤◌, inl, inr, is_some, List, [], ◌∷◌, ◌++◌, length, refl, ap₂}
 use Rattle.std.proofs.Common.{slice_get, Option, Some, None, IfSome, IsTrue, false, true, replicate, ap, sym, subst, ◌∙◌, arith}
 use Rattle.std.specs.Option.{option_map}
 use Rattle.std.specs.Prelude.{◌↔◌}
@@ -30,19 +30,27 @@ use Rattle.parts.specs.RowChecks.{EndsInRow, IsRowCuts, IsRowHashes, IsRowLayer,
 use Rattle.parts.specs.declared.row.Found.{Found}
 use Rattle.parts.specs.declared.places.Span.{Span}
 use Rattle.parts.proofs.RowCuts.{AreCompared, part_fits, row_cuts, row_lengths}
-use Rattle.parts.proofs.RowPieces.{IsRow, last_begins, range_length, row_fits, row_listed, within_rows}
+use Rattle.parts.proofs.RowPieces.{IsRow, last_begins, range_length, row_fits, row_listed, row_places, within_rows}
 use Rattle.parts.proofs.CutRows.{row_bits_cut}
 use Rattle.parts.proofs.RowJudged.{other_within, row_bits, row_first}
 use Rattle.parts.proofs.RowTells.{is_only}
 
+-- these pieces of the file are there, and the tree over it
+pub record HasRow (t : Description) (f : FileEntry) (s : Span) (e : TreeEntry) : Type 0 where
+  pub number : ℕ
+  pub sound : IsSound t
+  pub there : slice_get t.files number ≡ Some f
+  pub is : tree_entry_of t f ≡ Some e
+  pub piece : s.from < s.to
+  pub inside : s.to ≤ piece_count t f
+
 -- the cuts have room for the row
-pub row_room : (t : Description) (n : ℕ) (f : FileEntry) (s : Span) (feed : Option V1Feed) → IsSound t → slice_get t.files n ≡ Some f → s.from < s.to
-    → s.to ≤ piece_count t f → is_some feed ≡ is_some t.v1 → CutsStandAt feed 0 → ((v : Version1) → t.v1 ≡ Some v → IsRowCuts t f s v feed)
-    → HasCutRoom feed (row_bytes t f s.from s.to)
-row_room t n f s None sound there piece inside begins stands part = tt
-row_room t n f s (Some g) sound there piece inside begins stands part =
+pub row_room : {t : Description} {f : FileEntry} {s : Span} {e : TreeEntry} → HasRow t f s e → (feed : Option V1Feed) → is_some feed ≡ is_some t.v1
+    → CutsStandAt feed 0 → ((v : Version1) → t.v1 ≡ Some v → IsRowCuts t f s v feed) → HasCutRoom feed (row_bytes t f s.from s.to)
+row_room row None begins stands part = tt
+row_room {t} {f} {s} row (Some g) begins stands part =
     let v = some_of t.v1 (sym begins) in
-    omega (arith, stands, (part v.0 v.1).ends, (part_fits t v.0 n f s.from s.to sound there v.1 piece inside).1)
+    omega (arith, stands, (part v.0 v.1).ends, (part_fits t v.0 row.number f s.from s.to row.sound row.there v.1 row.piece row.inside).1)
 
 -- what was found of the cuts, if the torrent is a hybrid
 pub cuts_compared : (t : Description) (f : FileEntry) (s : Span) (v : Version1) (feed : Option V1Feed) (own : List ℕ) (found : Option ℕ)
@@ -118,38 +126,38 @@ fresh_row feed shape layer hashes begun clear room = record {
 }
 
 -- there is a hash for each piece
-pub hashes_whole : (t : Description) (n : ℕ) (f : FileEntry) (e : TreeEntry) (from to layer shape : ℕ) (hashes : List (List ℕ)) → IsSound t
-    → slice_get t.files n ≡ Some f → tree_entry_of t f ≡ Some e → from < to → to ≤ piece_count t f → IsRowLayer t f layer
-    → IsRowHashes t f e from to hashes → shape ≡ row_bytes t f from to → length hashes ≡ first_pad (block_count shape) layer
-hashes_whole t n f e from to layer shape hashes sound there is piece inside at of size = elim (cases_lt t.piece_length f.length) [
+pub hashes_whole : {t : Description} {f : FileEntry} {s : Span} {e : TreeEntry} → HasRow t f s e → (layer shape : ℕ) (hashes : List (List ℕ))
+    → IsRowLayer t f layer → IsRowHashes t f e s.from s.to hashes → shape ≡ row_bytes t f s.from s.to → length hashes ≡ first_pad (block_count shape) layer
+hashes_whole {t} {f} {s} {e} row layer shape hashes at of size = elim (cases_lt t.piece_length f.length) [
   | inl long ↦
-      let fits = row_fits t f from to (pieces_are_positive t sound) piece inside in
-      let legal = sound.legal in
-      ap length (of.1 long) ∙ range_length e.layer from to (row_listed t n f e from to sound there is long piece inside)
-      ∙ whole_layer (row_bytes t f from to) t.piece_length legal.0 layer (to - from) legal.1 legal.3 (at.1 long) (sym fits.2)
+      let fits = row_fits t f s.from s.to (pieces_are_positive t row.sound) row.piece row.inside in
+      let legal = row.sound.legal in
+      let listed = row_listed t row.number f e s.from s.to row.sound row.there row.is long row.piece row.inside in
+      ap length (of.1 long) ∙ range_length e.layer s.from s.to listed
+      ∙ whole_layer (row_bytes t f s.from s.to) t.piece_length legal.0 layer (s.to - s.from) legal.1 legal.3 (at.1 long) (sym fits.2)
       ∙ ap (λ k. first_pad (block_count k) layer) (sym size)
   | inr short ↦
-      let own : List ℕ = replicate (row_bytes t f from to) 0 in
-      let row : IsRow t f from to own = record { piece = piece; inside = inside; count = length-replicate {A = ℕ} (row_bytes t f from to) 0 } in
-      let only = is_only t f from to own (pieces_are_positive t sound) short row in
-      let all : shape ≡ f.length = size ∙ sym row.count ∙ only.count in
+      let own : List ℕ = replicate (row_bytes t f s.from s.to) 0 in
+      let count = length-replicate {A = ℕ} (row_bytes t f s.from s.to) 0 in
+      let zeros : IsRow t f s.from s.to own = record { piece = row.piece; inside = row.inside; count = count } in
+      let only = is_only t f s.from s.to own (pieces_are_positive t row.sound) short zeros in
+      let all : shape ≡ f.length = size ∙ sym count ∙ only.count in
       let one : length (e.root ∷ []) ≡ 1 = refl in
       ap length (of.0 short) ∙ one ∙ sym (one_at_root f.length only.some) ∙ ap₂ (λ k l. first_pad (block_count k) l) (sym all) (sym (at.0 short))
 ]
 
-module _ (t : Description) (n : ℕ) (f : FileEntry) (s : Span) (e : TreeEntry) (sound : IsSound t) (there : slice_get t.files n ≡ Some f)
-    (is : tree_entry_of t f ≡ Some e) (piece : s.from < s.to) (inside : s.to ≤ piece_count t f) (feed : RowFeed) (begun : BeginsRowOf t f s e feed)
+module _ {t : Description} {f : FileEntry} {s : Span} {e : TreeEntry} (row : HasRow t f s e) (feed : RowFeed) (begun : BeginsRowOf t f s e feed)
     (old new : SourceSeen) (bits : List ℕ) where
   is_row : (own : List ℕ) → length own ≡ chosen_shape feed.check → IsRow t f s.from s.to own
-  is_row own count = record { piece = piece; inside = inside; count = count ∙ begun.shape }
+  is_row own count = record { piece = row.piece; inside = row.inside; count = count ∙ begun.shape }
 
   -- what was found is within the row
   pub found_within : (found : RowFound) → JudgesRow feed old new bits (Some found)
       → IfSome found.other (λ p. p < s.to - s.from) × IfSome found.bad_cut (λ p. p < s.to - s.from)
   found_within found (own, count, gave, root, judged, cuts) = (
-    other_within t n f e s.from s.to (chosen_layer feed.check) (given_hashes feed.check) own bits found.other sound there is (is_row own count) begun.row
-        judged,
-    cuts_within t n f s feed.cuts.feed own found.bad_cut sound there (is_row own count) begun.begins begun.part cuts,
+    other_within t row.number f e s.from s.to (chosen_layer feed.check) (given_hashes feed.check) own bits found.other row.sound row.there row.is
+        (is_row own count) begun.row judged,
+    cuts_within t row.number f s feed.cuts.feed own found.bad_cut row.sound row.there (is_row own count) begun.begins begun.part cuts,
   )
 
   -- the row was read whole
@@ -157,7 +165,7 @@ module _ (t : Description) (n : ℕ) (f : FileEntry) (s : Span) (e : TreeEntry) 
       → (IsTrue own_found.root_is ↔ (found.root ≡ e.root)) → own_found.bad ≡ option_map (λ j. s.from + j) found.other
       → own_found.bad_cut ≡ option_map (λ j. s.from + j) found.bad_cut → ReadsRow t f s.from s.to old new bits own_found
   reads_row found own_found (own, count, gave, root, judged, cuts) root_is bad bad_cut =
-      let row = is_row own count in
+      let own_row = is_row own count in
       let layer : ℕ = chosen_layer feed.check in
       let hashes : List (List ℕ) = given_hashes feed.check in
       record {
@@ -165,11 +173,12 @@ module _ (t : Description) (n : ℕ) (f : FileEntry) (s : Span) (e : TreeEntry) 
         gave = gave;
         judged = subst (λ o. AreJudgedFrom t f s.from s.to own o own_found.bad_cut) (sym bad)
             (subst (AreJudgedFrom t f s.from s.to own (option_map (λ j. s.from + j) found.other)) (sym bad_cut)
-            (row_judged t n f s e layer hashes feed.cuts.feed own bits found.other found.bad_cut sound there is row begun.row judged begun.begins begun.part
-            cuts));
-        bits_of = λ bytes rest at. row_bits t n f e s.from s.to layer hashes bytes own rest bits found.other sound there is row begun.row judged at;
+            (row_judged t row.number f s e layer hashes feed.cuts.feed own bits found.other found.bad_cut row.sound row.there row.is own_row begun.row judged
+            begun.begins begun.part cuts));
+        bits_of = λ bytes rest at. row_bits t row.number f e s.from s.to layer hashes bytes own rest bits found.other row.sound row.there row.is own_row
+            begun.row judged at;
         root = λ some d at.
-            let same : e ≡ d = same_Some e d (sym is ∙ at) in
+            let same : e ≡ d = same_Some e d (sym row.is ∙ at) in
             subst (λ (x : TreeEntry). IsTrue own_found.root_is ↔ (root_of own ≡ x.root)) same (
               λ on. sym root ∙ root_is.0 on,
               λ at_root. root_is.1 (root ∙ at_root),
@@ -183,7 +192,8 @@ module _ (t : Description) (n : ℕ) (f : FileEntry) (s : Span) (e : TreeEntry) 
     short = omega (arith, short, begun.shape);
     gave = gave;
     ended = ended;
-    bits_of = λ bytes at. row_bits_cut t n f e s.from s.to (chosen_layer feed.check) (given_hashes feed.check) bytes own bits sound there is inside begun.row
+    bits_of = λ bytes at. row_bits_cut t row.number f e s.from s.to (chosen_layer feed.check) (given_hashes feed.check) bytes own bits row.sound row.there
+        row.is row.inside begun.row
         (omega (arith, short, begun.shape)) at marked;
   }
 
@@ -192,6 +202,13 @@ module _ (t : Description) (n : ℕ) (f : FileEntry) (s : Span) (e : TreeEntry) 
 pub if_below : (o : Option ℕ) (m x most : ℕ) → x + m ≤ most → IfSome o (λ p. p < m) → IfSome o (λ p. x + p < most)
 if_below None m x most fits within = tt
 if_below (Some p) m x most fits within = omega (arith, fits, within)
+
+-- the number of a piece of the row, from its place, has 64 bits
+pub numbers_fit : {t : Description} {f : FileEntry} {s : Span} {e : TreeEntry} → HasRow t f s e → (o : Option ℕ) → IfSome o (λ p. p < s.to - s.from)
+    → IfSome o (λ p. s.from + p < 2 ^ 64)
+numbers_fit {t} {f} {s} row o within =
+    let low = (row_places t row.number f s.from s.to row.sound row.there row.piece row.inside).0 in
+    if_below o (s.to - s.from) s.from _ (omega (arith, low, row.piece)) within
 
 pub below_end : (o : Option ℕ) (from to : ℕ) → IfSome o (λ p. p < to - from) → IsBelow to (option_map (λ j. from + j) o)
 below_end None from to within = tt

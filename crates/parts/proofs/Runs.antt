@@ -1,18 +1,21 @@
 -- The runs of pieces that are not good, as far as they were found.
 use Rattle.std.proofs.Common.{◌≡◌, ◌⊎◌, inl, inr, ℕ, ◌+◌, ◌-◌, ◌<◌, ◌≤◌, List, [], ◌∷◌, ◌++◌, length}
-use Rattle.std.proofs.Common.{slice_get, Some, refl, ap, sym, ◌∙◌, subst, append-nil, append_assoc, arith}
+use Rattle.std.proofs.Common.{slice_get, Some, refl, ap, ◌∙◌, subst, arith}
 use Rattle.std.specs.Prelude.{◌↔◌}
 use Rattle.std.proofs.lemmas.Bool.{cases_lt}
+use Rattle.std.proofs.lemmas.List.{map-append}
 use Rattle.std.proofs.lemmas.Option.{none-some, slice_get_within}
 use Rattle.chains.proofs.Cases.{item_stays, pushed_at, pushed_last}
+use Rattle.lines.specs.Rows.{Spelling, spell}
 use Rattle.opening.specs.Description.{Description, FileEntry}
-use Rattle.parts.specs.Runs.{AreBadRuns, IsBadRun, Run, RunLine, runs_as}
+use Rattle.folders.proofs.SentLines.{spelled_push}
+use Rattle.parts.specs.Runs.{AreBadRuns, IsBadRun, Run, run_row, runs_rows}
 
--- the text of runs with one more
-pub text_push : (line : RunLine) (t : Description) (f : FileEntry) (rs : List Run) (r : Run)
-    → runs_as line t f (rs ++ r ∷ []) ≡ runs_as line t f rs ++ line t f r
-text_push line t f [] r = append-nil (line t f r)
-text_push line t f (x ∷ rs) r = ap (λ y. line t f x ++ y) (text_push line t f rs r) ∙ sym (append_assoc (line t f x) (runs_as line t f rs) (line t f r))
+-- the lines of runs with one more
+pub text_push : (spelled : Spelling) (t : Description) (f : FileEntry) (rs : List Run) (r : Run)
+    → spell spelled (runs_rows t f (rs ++ r ∷ [])) ≡ spell spelled (runs_rows t f rs) ++ spelled (run_row t f r)
+text_push spelled t f rs r =
+    ap (spell spelled) (map-append (run_row t f) rs (r ∷ [])) ∙ spelled_push spelled (runs_rows t f rs) (run_row t f r)
 
 -- ---- runs so far
 

@@ -1,27 +1,30 @@
 -- What was told of a file.
-use Rattle.std.proofs.Common.{◌≡◌, ℕ, ◌*◌, ◌≤◌, Bool, true, false, List, [], ◌++◌}
+use Rattle.std.proofs.Common.{◌≡◌, ℕ, ◌*◌, ◌≤◌, Bool, true, false, List, [], ◌∷◌, ◌++◌}
 use Rattle.std.proofs.Common.{length, Option, Result, Ok, Err, refl, ap, sym, ◌∙◌, subst, append-nil, arith}
+use Rattle.std.proofs.lemmas.Grind.{flat_map-append}
 use Rattle.std.proofs.lemmas.Option.{none-some}
 use Rattle.benc.proofs.Known.{Appends_nothing}
 use Rattle.benc.proofs.Out.{Broke-append, Sent-append}
 use Rattle.benc.specs.Device.{Broke, Sent, SinkSeen, Wrote}
 use Rattle.benc.specs.declared.device.DeviceFault.{DeviceFault}
+use Rattle.lines.specs.Rows.{Row, Spelling, spell}
 use Rattle.opening.specs.Description.{Description, FileEntry}
-use Rattle.folders.specs.Printed.{wanted_as}
+use Rattle.folders.specs.Printed.{verdict_row, wanted_rows}
+use Rattle.folders.proofs.SentLines.{wrote_one}
 use Rattle.folders.specs.declared.report_lines.Lines.{Lines}
 use Rattle.folders.specs.declared.report.FileVerdict.{FileVerdict}
-use Rattle.parts.specs.PartLines.{has_place, held_as}
+use Rattle.parts.specs.PartLines.{has_place, held_rows}
 use Rattle.parts.specs.Parts.{Touches, piece_count}
 use Rattle.parts.specs.RowBits.{HasGoodPiece}
-use Rattle.parts.specs.Runs.{AreBadRuns, AreClearRuns, AreRunsIn, IsGoodIfIn, Run, RunLine, WentFirst, runs_as}
+use Rattle.parts.specs.Runs.{AreBadRuns, AreClearRuns, AreRunsIn, IsGoodIfIn, Run, WentFirst, runs_rows}
 use Rattle.parts.specs.Spans.{IsSpanOf, first_in}
 use Rattle.parts.specs.Telling.{AreMarkedRuns, AreToldRuns, MarksIn, MarksRow, NeedsBits, TellsFile, has_runs}
-use Rattle.parts.specs.Words.{Words}
 use Rattle.parts.specs.declared.places.Places.{Places}
 use Rattle.parts.specs.declared.places.Span.{Span}
 use Rattle.parts.specs.declared.telling.Telling.{Telling}
 use Rattle.parts.specs.declared.telling.Telling.TheVariants as telling
 use Rattle.parts.proofs.HeldPieces.{between_held, held_between, piece_touches, span_shape}
+use Rattle.parts.proofs.PlaceTests.{place_test}
 use Rattle.parts.proofs.RowRuns.{AsksOfRow, IsRow, row_runs}
 
 -- the bits are needed for runs
@@ -32,30 +35,30 @@ pub needs_bits_in : (s : Telling) (r : Places) → s ≡ telling.RunsIn r → Ne
 needs_bits_in s r is = subst NeedsBits (sym is) tt
 
 -- nothing
-pub told_nothing : (words : Words) (t : Description) (f : FileEntry) (v : FileVerdict) (bits : List ℕ) (out : SinkSeen)
-    → TellsFile words t telling.Nothing f v bits out out (Ok tt)
-told_nothing words t f v bits out = record {
+pub told_nothing : (spelled : Spelling) (t : Description) (f : FileEntry) (v : FileVerdict) (bits : List ℕ) (out : SinkSeen)
+    → TellsFile spelled t telling.Nothing f v bits out out (Ok tt)
+told_nothing spelled t f v bits out = record {
   text = [];
   went = record { bytes = Appends_nothing out.written; faults = refl; flushes = refl };
   is = λ content marks. refl;
 }
 
 -- a line
-pub told_line : (words : Words) (t : Description) (lines : Lines) (f : FileEntry) (v : FileVerdict) (bits : List ℕ) (old new : SinkSeen)
+pub told_line : (spelled : Spelling) (t : Description) (lines : Lines) (f : FileEntry) (v : FileVerdict) (bits : List ℕ) (old new : SinkSeen)
     (r : Result (Unit {0}) DeviceFault)
-    → Wrote old new r (wanted_as words.report lines v f) → TellsFile words t (telling.Line lines) f v bits old new r
-told_line words t lines f v bits old new (Ok u) wrote = record { text = wanted_as words.report lines v f; went = wrote; is = λ content marks. refl }
-told_line words t lines f v bits old new (Err e) wrote = record { text = wanted_as words.report lines v f; went = wrote; is = λ content marks. refl }
+    → Wrote old new r (spell spelled (wanted_rows lines v f)) → TellsFile spelled t (telling.Line lines) f v bits old new r
+told_line spelled t lines f v bits old new (Ok u) wrote = record { text = spell spelled (wanted_rows lines v f); went = wrote; is = λ content marks. refl }
+told_line spelled t lines f v bits old new (Err e) wrote = record { text = spell spelled (wanted_rows lines v f); went = wrote; is = λ content marks. refl }
 
 -- ---- a line and runs
 
 -- what went out: what stands in front of the runs, and runs that these are of each content that has the bits
-pub record SaysRuns (line : RunLine) (t : Description) (f : FileEntry) (v : FileVerdict) (bits : List ℕ) (from to : ℕ) (front : List ℕ)
+pub record SaysRuns (spelled : Spelling) (t : Description) (f : FileEntry) (v : FileVerdict) (bits : List ℕ) (from to : ℕ) (front : List Row)
     (AreRuns : List ℕ → List Run → Type 0) (Went : List ℕ → Type 0) : Type 0 where
   pub text : List ℕ
   pub went : Went text
   pub is : (content : Option (List ℕ)) → MarksRow t f from to content v bits
-      → (runs : List Run) × AreToldRuns AreRuns (has_runs v) content runs × (text ≡ front ++ runs_as line t f runs)
+      → (runs : List Run) × AreToldRuns AreRuns (has_runs v) content runs × (text ≡ spell spelled (front ++ runs_rows t f runs))
 
 abbrev pub AreAll : Description → FileEntry → (List ℕ → ℕ → Type 0) → List ℕ → List Run → Type 0
 AreAll t f IsGood bytes runs = AreBadRuns (piece_count t f) (piece_count t f) (IsGood bytes) runs
@@ -63,7 +66,7 @@ AreAll t f IsGood bytes runs = AreBadRuns (piece_count t f) (piece_count t f) (I
 abbrev pub AreFirst : Description → FileEntry → (List ℕ → ℕ → Type 0) → List ℕ → List Run → Type 0
 AreFirst t f IsGood bytes runs = (end : ℕ) × (end ≤ piece_count t f) × AreBadRuns (piece_count t f) end (IsGood bytes) runs
 
-module _ (line : RunLine) (t : Description) (f : FileEntry) (v : FileVerdict) (bits : List ℕ) (from to : ℕ) (front : List ℕ)
+module _ (spelled : Spelling) (t : Description) (f : FileEntry) (v : FileVerdict) (bits : List ℕ) (from to : ℕ) (front : List Row)
     (IsGood : List ℕ → ℕ → Type 0) where
   told_runs : (content : Option (List ℕ)) (runs : List Run) → IsRow t f from to bits → AsksOfRow t f from to IsGood → has_runs v ≡ true
       → MarksRow t f from to content v bits → AreClearRuns t f from to bits (piece_count t f) runs
@@ -92,38 +95,42 @@ module _ (line : RunLine) (t : Description) (f : FileEntry) (v : FileVerdict) (b
   first_none content row asks marks false off = subst (λ b. AreToldRuns (AreFirst t f IsGood) b content []) (sym off) refl
 
   -- what stands in front broke off
-  pub front_broke : (old new : SinkSeen) → IsRow t f from to bits → AsksOfRow t f from to IsGood → Broke old new front
-      → SaysRuns line t f v bits from to front (AreFirst t f IsGood) (Broke old new)
+  pub front_broke : (old new : SinkSeen) → IsRow t f from to bits → AsksOfRow t f from to IsGood → Broke old new (spell spelled front)
+      → SaysRuns spelled t f v bits from to front (AreFirst t f IsGood) (Broke old new)
   front_broke old new row asks broke = record {
-    text = front;
+    text = spell spelled front;
     went = broke;
-    is = λ content marks. ([], first_none content row asks marks (has_runs v) refl, sym (append-nil front));
+    is = λ content marks. ([], first_none content row asks marks (has_runs v) refl, ap (spell spelled) (sym (append-nil front)));
   }
 
   -- it stands alone
-  pub front_alone : (old new : SinkSeen) → has_runs v ≡ false → Sent old new front → SaysRuns line t f v bits from to front (AreAll t f IsGood) (Sent old new)
+  pub front_alone : (old new : SinkSeen) → has_runs v ≡ false → Sent old new (spell spelled front)
+      → SaysRuns spelled t f v bits from to front (AreAll t f IsGood) (Sent old new)
   front_alone old new off sent = record {
-    text = front;
+    text = spell spelled front;
     went = sent;
-    is = λ content marks. ([], subst (λ b. AreToldRuns (AreAll t f IsGood) b content []) (sym off) refl, sym (append-nil front));
+    is = λ content marks. ([], subst (λ b. AreToldRuns (AreAll t f IsGood) b content []) (sym off) refl, ap (spell spelled) (sym (append-nil front)));
   }
 
   -- all runs follow
   pub front_and_runs : (old mid new : SinkSeen) (runs : List Run) → IsRow t f from to bits → AsksOfRow t f from to IsGood → has_runs v ≡ true
-      → Sent old mid front → AreClearRuns t f from to bits (piece_count t f) runs → Sent mid new (runs_as line t f runs)
-      → SaysRuns line t f v bits from to front (AreAll t f IsGood) (Sent old new)
+      → Sent old mid (spell spelled front) → AreClearRuns t f from to bits (piece_count t f) runs → Sent mid new (spell spelled (runs_rows t f runs))
+      → SaysRuns spelled t f v bits from to front (AreAll t f IsGood) (Sent old new)
   front_and_runs old mid new runs row asks on first are sent = record {
-    text = front ++ runs_as line t f runs;
-    went = Sent-append old mid new front (runs_as line t f runs) first sent;
+    text = spell spelled (front ++ runs_rows t f runs);
+    went = subst (Sent old new) (sym (flat_map-append spelled front (runs_rows t f runs)))
+        (Sent-append old mid new (spell spelled front) (spell spelled (runs_rows t f runs)) first sent);
     is = λ content marks. (runs, told_runs content runs row asks on marks are, refl);
   }
 
   -- some do, before one broke off
   pub runs_broke : (old mid new : SinkSeen) → IsRow t f from to bits → AsksOfRow t f from to IsGood → has_runs v ≡ true
-      → Sent old mid front → WentFirst line t f from to bits (Broke mid new) → SaysRuns line t f v bits from to front (AreFirst t f IsGood) (Broke old new)
+      → Sent old mid (spell spelled front) → WentFirst spelled t f from to bits (Broke mid new)
+      → SaysRuns spelled t f v bits from to front (AreFirst t f IsGood) (Broke old new)
   runs_broke old mid new row asks on first (runs, end, le, are, broke) = record {
-    text = front ++ runs_as line t f runs;
-    went = Broke-append old mid new front (runs_as line t f runs) first broke;
+    text = spell spelled (front ++ runs_rows t f runs);
+    went = subst (Broke old new) (sym (flat_map-append spelled front (runs_rows t f runs)))
+        (Broke-append old mid new (spell spelled front) (spell spelled (runs_rows t f runs)) first broke);
     is = λ content marks. (runs, told_first content runs end row asks on le marks are, refl);
   }
 
@@ -136,25 +143,26 @@ pub whole_asks : (t : Description) (f : FileEntry) → AsksOfRow t f 0 (piece_co
 whole_asks t f bytes k lt = (λ good. good (omega arith) lt, λ good low high. good)
 
 -- and what is told is the line, if it is wanted, and runs
-pub whole_told : (words : Words) (t : Description) (lines : Lines) (f : FileEntry) (v : FileVerdict) (bits : List ℕ) (old new : SinkSeen)
-    → SaysRuns words.run t f v bits 0 (piece_count t f) (wanted_as words.report lines v f) (AreAll t f (HasGoodPiece t f)) (Sent old new)
-    → TellsFile words t (telling.LineAndRuns lines) f v bits old new (Ok tt)
-whole_told words t lines f v bits old new says = record { text = says.text; went = says.went; is = says.is }
+pub whole_told : (spelled : Spelling) (t : Description) (lines : Lines) (f : FileEntry) (v : FileVerdict) (bits : List ℕ) (old new : SinkSeen)
+    → SaysRuns spelled t f v bits 0 (piece_count t f) (wanted_rows lines v f) (AreAll t f (HasGoodPiece t f)) (Sent old new)
+    → TellsFile spelled t (telling.LineAndRuns lines) f v bits old new (Ok tt)
+whole_told spelled t lines f v bits old new says = record { text = says.text; went = says.went; is = says.is }
 
-pub whole_first : (words : Words) (t : Description) (lines : Lines) (f : FileEntry) (v : FileVerdict) (bits : List ℕ) (old new : SinkSeen) (e : DeviceFault)
-    → SaysRuns words.run t f v bits 0 (piece_count t f) (wanted_as words.report lines v f) (AreFirst t f (HasGoodPiece t f)) (Broke old new)
-    → TellsFile words t (telling.LineAndRuns lines) f v bits old new (Err e)
-whole_first words t lines f v bits old new e says = record { text = says.text; went = says.went; is = says.is }
+pub whole_first : (spelled : Spelling) (t : Description) (lines : Lines) (f : FileEntry) (v : FileVerdict) (bits : List ℕ) (old new : SinkSeen)
+    (e : DeviceFault)
+    → SaysRuns spelled t f v bits 0 (piece_count t f) (wanted_rows lines v f) (AreFirst t f (HasGoodPiece t f)) (Broke old new)
+    → TellsFile spelled t (telling.LineAndRuns lines) f v bits old new (Err e)
+whole_first spelled t lines f v bits old new e says = record { text = says.text; went = says.went; is = says.is }
 
 -- ---- of the pieces among places
 
-pub span_row : (t : Description) (r : Places) (f : FileEntry) (s : Span) (bits : List ℕ) → IsSpanOf t r f s → piece_count t f ≤ 8 * length bits
+span_row : (t : Description) (r : Places) (f : FileEntry) (s : Span) (bits : List ℕ) → IsSpanOf t r f s → piece_count t f ≤ 8 * length bits
     → IsRow t f s.from s.to bits
 span_row t r f s bits is room =
     let shape = span_shape t r f s is in
     record { order = shape.order; inside = shape.inside; room = omega (arith, room, shape.inside) }
 
-pub span_asks : (t : Description) (r : Places) (f : FileEntry) (s : Span) → IsSpanOf t r f s → AsksOfRow t f s.from s.to (IsGoodIfIn t r f)
+span_asks : (t : Description) (r : Places) (f : FileEntry) (s : Span) → IsSpanOf t r f s → AsksOfRow t f s.from s.to (IsGoodIfIn t r f)
 span_asks t r f s is bytes k lt = (
   λ good held. (let b = held_between t r f s k is lt held in good b.0 b.1),
   λ good low high. good (between_held t r f s k is low high).1,
@@ -167,41 +175,79 @@ span_marks t r f s content v bits is marks =
     (subst (λ to. MarksRow t f (first_in r f) to content v bits) (sym is.to_is) marks)
 
 -- what is told is the line, and runs
-pub span_told : (words : Words) (t : Description) (r : Places) (f : FileEntry) (s : Span) (v : FileVerdict) (bits : List ℕ) (old new : SinkSeen)
+span_told : (spelled : Spelling) (t : Description) (r : Places) (f : FileEntry) (s : Span) (v : FileVerdict) (bits : List ℕ) (old new : SinkSeen)
     → IsSpanOf t r f s
-    → has_place t r f ≡ true → SaysRuns words.run t f v bits s.from s.to (words.report.file v f) (AreAll t f (IsGoodIfIn t r f)) (Sent old new)
-    → TellsFile words t (telling.RunsIn r) f v bits old new (Ok tt)
-span_told words t r f s v bits old new is on says = record {
+    → has_place t r f ≡ true → SaysRuns spelled t f v bits s.from s.to (verdict_row v f ∷ []) (AreAll t f (IsGoodIfIn t r f)) (Sent old new)
+    → TellsFile spelled t (telling.RunsIn r) f v bits old new (Ok tt)
+span_told spelled t r f s v bits old new is on says = record {
   text = says.text;
   went = says.went;
   is = λ content marks.
       let told = says.is content (span_marks t r f s content v bits is marks) in
-      (told.0, told.1, told.2 ∙ sym (ap (λ b. held_as words.report.file b v f ++ runs_as words.run t f told.0) on));
+      (told.0, told.1, told.2 ∙ sym (ap (λ b. spell spelled (held_rows b v f ++ runs_rows t f told.0)) on));
 }
 
-pub span_first : (words : Words) (t : Description) (r : Places) (f : FileEntry) (s : Span) (v : FileVerdict) (bits : List ℕ) (old new : SinkSeen)
+span_first : (spelled : Spelling) (t : Description) (r : Places) (f : FileEntry) (s : Span) (v : FileVerdict) (bits : List ℕ) (old new : SinkSeen)
     (e : DeviceFault)
     → IsSpanOf t r f s → has_place t r f ≡ true
-    → SaysRuns words.run t f v bits s.from s.to (words.report.file v f) (AreFirst t f (IsGoodIfIn t r f)) (Broke old new)
-    → TellsFile words t (telling.RunsIn r) f v bits old new (Err e)
-span_first words t r f s v bits old new e is on says = record {
+    → SaysRuns spelled t f v bits s.from s.to (verdict_row v f ∷ []) (AreFirst t f (IsGoodIfIn t r f)) (Broke old new)
+    → TellsFile spelled t (telling.RunsIn r) f v bits old new (Err e)
+span_first spelled t r f s v bits old new e is on says = record {
   text = says.text;
   went = says.went;
   is = λ content marks.
       let told = says.is content (span_marks t r f s content v bits is marks) in
-      (told.0, told.1, told.2 ∙ sym (ap (λ b. held_as words.report.file b v f ++ runs_as words.run t f told.0) on));
+      (told.0, told.1, told.2 ∙ sym (ap (λ b. spell spelled (held_rows b v f ++ runs_rows t f told.0)) on));
 }
 
+module _ (spelled : Spelling) (t : Description) (r : Places) (f : FileEntry) (s : Span) (v : FileVerdict) (bits : List ℕ) (is : IsSpanOf t r f s)
+    (room : piece_count t f ≤ 8 * length bits) where
+  has_one : has_place t r f ≡ true
+  has_one = sym (place_test t r f true (λ _. is.touches, λ _. refl))
+
+  -- the line broke off
+  pub span_line_broke : (old new : SinkSeen) (e : DeviceFault) → Broke old new (spelled (verdict_row v f))
+      → TellsFile spelled t (telling.RunsIn r) f v bits old new (Err e)
+  span_line_broke old new e broke =
+      span_first spelled t r f s v bits old new e is has_one
+      (front_broke spelled t f v bits s.from s.to (verdict_row v f ∷ []) (IsGoodIfIn t r f) old new (span_row t r f s bits is room)
+      (span_asks t r f s is) (wrote_one spelled (verdict_row v f) old new (Err e) broke))
+
+  -- it stands alone
+  pub span_line_alone : (old new : SinkSeen) → has_runs v ≡ false → Sent old new (spelled (verdict_row v f))
+      → TellsFile spelled t (telling.RunsIn r) f v bits old new (Ok tt)
+  span_line_alone old new off sent =
+      span_told spelled t r f s v bits old new is has_one
+      (front_alone spelled t f v bits s.from s.to (verdict_row v f ∷ []) (IsGoodIfIn t r f) old new off
+      (wrote_one spelled (verdict_row v f) old new (Ok tt) sent))
+
+  -- the line of a run behind it broke off
+  pub span_run_broke : (old mid new : SinkSeen) (e : DeviceFault) → has_runs v ≡ true → Sent old mid (spelled (verdict_row v f))
+      → WentFirst spelled t f s.from s.to bits (Broke mid new) → TellsFile spelled t (telling.RunsIn r) f v bits old new (Err e)
+  span_run_broke old mid new e on sent went =
+      span_first spelled t r f s v bits old new e is has_one
+      (runs_broke spelled t f v bits s.from s.to (verdict_row v f ∷ []) (IsGoodIfIn t r f) old mid new (span_row t r f s bits is room)
+      (span_asks t r f s is) on (wrote_one spelled (verdict_row v f) old mid (Ok tt) sent) went)
+
+  -- all runs stand behind it
+  pub span_runs_sent : (old mid new : SinkSeen) (runs : List Run) → has_runs v ≡ true → Sent old mid (spelled (verdict_row v f))
+      → AreClearRuns t f s.from s.to bits (piece_count t f) runs → Sent mid new (spell spelled (runs_rows t f runs))
+      → TellsFile spelled t (telling.RunsIn r) f v bits old new (Ok tt)
+  span_runs_sent old mid new runs on sent are went =
+      span_told spelled t r f s v bits old new is has_one
+      (front_and_runs spelled t f v bits s.from s.to (verdict_row v f ∷ []) (IsGoodIfIn t r f) old mid new runs (span_row t r f s bits is room)
+      (span_asks t r f s is) on (wrote_one spelled (verdict_row v f) old mid (Ok tt) sent) are went)
+
 -- a file that has no place has no runs
-pub none_in : (words : Words) (t : Description) (r : Places) (f : FileEntry) (v : FileVerdict) (bits : List ℕ) (out : SinkSeen) → (Touches t r f → ⊥)
-    → has_place t r f ≡ false → TellsFile words t (telling.RunsIn r) f v bits out out (Ok tt)
-none_in words t r f v bits out other off = record {
+pub none_in : (spelled : Spelling) (t : Description) (r : Places) (f : FileEntry) (v : FileVerdict) (bits : List ℕ) (out : SinkSeen) → (Touches t r f → ⊥)
+    → has_place t r f ≡ false → TellsFile spelled t (telling.RunsIn r) f v bits out out (Ok tt)
+none_in spelled t r f v bits out other off = record {
   text = [];
   went = record { bytes = Appends_nothing out.written; faults = refl; flushes = refl };
   is = λ content marks. (
     [],
     none content marks (has_runs v) refl,
-    sym (ap (λ b. held_as words.report.file b v f ++ []) off),
+    sym (ap (λ b. spell spelled (held_rows b v f ++ [])) off),
   );
 }
   where

@@ -23,7 +23,7 @@ use Rattle.folders.proofs.Counts.{more_none, unreadable_push}
 use Rattle.parts.specs.Checking.{shelf_and_sink}
 use Rattle.parts.specs.Telling.{NeedsBits, TellsNothing, Tells, TellsFirst, Told}
 use Rattle.parts.specs.Visiting.{Finds, SaysAndTells, StopsAtFile, TellsOwn, Visiting, VisitsAll, VisitsFile, VisitsOne, verdicts_in}
-use Rattle.parts.specs.Words.{Words}
+use Rattle.lines.specs.Rows.{Spelling}
 use Rattle.parts.specs.Worse.{worse_v1}
 use Rattle.parts.specs.declared.telling.Telling.{Telling}
 use Rattle.parts.specs.declared.telling.Telling.TheVariants as telling
@@ -81,8 +81,8 @@ module _ {S : Type 0} (V : Visiting S) where
   visits_of = Chain-each (VisitsOne V) (λ old fs told new. Chain V.visits old.0 fs (verdicts_in told) new.0) (λ old. refl)
       (λ old f x mid fs xs new step rest later. (mid.0, step.visits, later))
 
-  module _ (words : Words) (t : Description) (telling : Telling) (files : List FileVerdict) (v1 : Option V1Verdict) (old new : S × SinkSeen)
-      (all : VisitsAll V words t telling files v1 old new) where
+  module _ (spelled : Spelling) (t : Description) (telling : Telling) (files : List FileVerdict) (v1 : Option V1Verdict) (old new : S × SinkSeen)
+      (all : VisitsAll V spelled t telling files v1 old new) where
     -- each file was visited
     pub visits_once : Chain V.visits old.0 t.files files new.0
     visits_once = subst (λ vs. Chain V.visits old.0 t.files vs new.0) all.verdicts_are (visits_of old t.files all.told new all.visited)
@@ -94,7 +94,7 @@ module _ {S : Type 0} (V : Visiting S) where
         let x = verdict_at all.told m v (subst (λ vs. slice_get vs m ≡ Some v) (sym all.verdicts_are) said) in
         subst (V.says f (all.contents m)) x.2 (all.each m f x.0 there x.1).0
 
-module _ {S : Type 0} (V : Visiting S) (words : Words) (t : Description) (telling : Telling) where
+module _ {S : Type 0} (V : Visiting S) (spelled : Spelling) (t : Description) (telling : Telling) where
   -- the first n files were visited and told of
   pub record IsToldFirst (old : S × SinkSeen) (n : ℕ) (files : List FileVerdict) (v1 : V1Verdict) (new : S × SinkSeen) : Type 0 where
     pub told : List (FileVerdict × List ℕ)
@@ -104,7 +104,7 @@ module _ {S : Type 0} (V : Visiting S) (words : Words) (t : Description) (tellin
     pub visited : Chain (VisitsOne V) old (take n t.files) told new
     pub stays : V.contents new.0 ≡ V.contents old.0
     pub checked : is_checked v1 ≡ list_all is_whole files
-    pub found : HasFoundFirst t V.places (SaysAndTells V words t telling) (V.contents old.0).under n told v1
+    pub found : HasFoundFirst t V.places (SaysAndTells V spelled t telling) (V.contents old.0).under n told v1
 
   -- there are as many verdicts
   pub told_count : (old new : S × SinkSeen) (n : ℕ) (files : List FileVerdict) (v1 : V1Verdict) → IsToldFirst old n files v1 new → length files ≡ n
@@ -120,7 +120,7 @@ module _ {S : Type 0} (V : Visiting S) (words : Words) (t : Description) (tellin
     visited = refl;
     stays = refl;
     checked = refl;
-    found = found_none t V.places (SaysAndTells V words t telling) (V.contents old.0).under;
+    found = found_none t V.places (SaysAndTells V spelled t telling) (V.contents old.0).under;
   }
 
   -- what was found after the first n files, of the shelf that stood there at the start
@@ -137,11 +137,11 @@ module _ {S : Type 0} (V : Visiting S) (words : Words) (t : Description) (tellin
   -- and told of
   pub told_one : (old mid : S × SinkSeen) (n : ℕ) (files : List FileVerdict) (a : V1Verdict) (f : FileEntry) (v : Verdicts) (bits : List ℕ) (visited : S)
       (out : SinkSeen) → TellsOwn V t telling → slice_get t.files n ≡ Some f → VisitsFile V t mid.0 f bits v visited
-      → Told (λ content. Tells words t telling f content v.file) t telling f v.file bits (Sent mid.1 out)
+      → Told (λ content. Tells spelled t telling f content v.file) t telling f v.file bits (Sent mid.1 out)
       → IsToldFirst old n files a mid → IsToldFirst old (n + 1) (files ++ v.file ∷ []) (worse_v1 a v.v1) (shelf_and_sink visited out)
   told_one old mid n files a f v bits visited out own there next tells so_far =
       let finds = finds_there old mid n files a f v bits visited so_far next in
-      let one : FindsOne t V.places (SaysAndTells V words t telling) f ((V.contents old.0).under f.path) (v.file, tells.text) v.v1 = record {
+      let one : FindsOne t V.places (SaysAndTells V spelled t telling) f ((V.contents old.0).under f.path) (v.file, tells.text) v.v1 = record {
         content = finds.content;
         agrees = finds.agrees;
         says = (finds.verdict, tells.is finds.content (own n f finds.content v.file bits there finds.marks));
@@ -156,7 +156,7 @@ module _ {S : Type 0} (V : Visiting S) (words : Words) (t : Description) (tellin
         visited = Chain-item (VisitsOne V) old mid (shelf_and_sink visited out) t.files n so_far.told f (v.file, tells.text) there so_far.visited step;
         stays = next.stays ∙ so_far.stays;
         checked = checked_next files a f _ v bits so_far.checked finds;
-        found = found_one t V.places (SaysAndTells V words t telling) (V.contents old.0).under n so_far.told a v.v1 f (v.file, tells.text) there
+        found = found_one t V.places (SaysAndTells V spelled t telling) (V.contents old.0).under n so_far.told a v.v1 f (v.file, tells.text) there
             so_far.count one so_far.found;
       }
 
@@ -164,8 +164,8 @@ module _ {S : Type 0} (V : Visiting S) (words : Words) (t : Description) (tellin
   pub stops_at : (old mid : S × SinkSeen) (n : ℕ) (files : List FileVerdict) (a : V1Verdict) (f : FileEntry) (v : Verdicts) (bits : List ℕ) (visited : S)
       (out : SinkSeen) → length files < 2 ^ 64 - 1 → (TellsNothing telling → ⊥) → TellsOwn V t telling → slice_get t.files n ≡ Some f
       → VisitsFile V t mid.0 f bits v visited
-      → Told (λ content. TellsFirst words t telling f content v.file) t telling f v.file bits (Broke mid.1 out)
-      → IsToldFirst old n files a mid → StopsAtFile V words t telling old (shelf_and_sink visited out)
+      → Told (λ content. TellsFirst spelled t telling f content v.file) t telling f v.file bits (Broke mid.1 out)
+      → IsToldFirst old n files a mid → StopsAtFile V spelled t telling old (shelf_and_sink visited out)
   stops_at old mid n files a f v bits visited out few some own there next tells so_far =
       let finds = finds_there old mid n files a f v bits visited so_far next in
       let under = (V.contents old.0).under in
@@ -195,10 +195,10 @@ module _ {S : Type 0} (V : Visiting S) (words : Words) (t : Description) (tellin
             let inside : k < length seen_all = omega (arith, lt, so_far.count, length_push so_far.found.seen finds.content, so_far.found.count) in
             let c = item_at seen_all k inside in
             subst (Agrees (under g.path)) (sym (contents_extend seen_all k c.0 c.1))
-            (agree_more t V.places (SaysAndTells V words t telling) under n so_far.told a f finds.content there finds.agrees so_far.found k g c.0 at c.1);
+            (agree_more t V.places (SaysAndTells V spelled t telling) under n so_far.told a f finds.content there finds.agrees so_far.found k g c.0 at c.1);
         each = λ k g x at said. stated.each k g x at said;
         says = subst (λ c. V.says f c v.file) (sym last_is) finds.verdict;
-        last = subst (λ c. TellsFirst words t telling f c v.file tells.text) (sym last_is) last;
+        last = subst (λ c. TellsFirst spelled t telling f c v.file tells.text) (sym last_is) last;
         counts = counts_of (V.faults old.0) (V.faults visited) (verdicts_in so_far.told ++ v.file ∷ [])
             (omega (arith, few, ap length so_far.verdicts_are, length_push (verdicts_in so_far.told) v.file)) counted;
       }
@@ -206,7 +206,7 @@ module _ {S : Type 0} (V : Visiting S) (words : Words) (t : Description) (tellin
   -- all files were
   pub told_all : (old new : S × SinkSeen) (n : ℕ) (files : List FileVerdict) (a : V1Verdict) (v1 : Option V1Verdict) → IsSound t → n ≡ length t.files
       → length files < 2 ^ 64 → is_some v1 ≡ is_some t.v1 → ((v : V1Verdict) → v1 ≡ Some v → a ≡ v) → IsToldFirst old n files a new
-      → VisitsAll V words t telling files v1 old new
+      → VisitsAll V spelled t telling files v1 old new
   told_all old new n files a v1 sound all few hybrid is so_far =
       let under = (V.contents old.0).under in
       let contents : Contents = contents_of so_far.found.seen in
@@ -218,7 +218,7 @@ module _ {S : Type 0} (V : Visiting S) (words : Words) (t : Description) (tellin
           checked = λ v at. ap is_checked (sym (is v at)) ∙ so_far.checked;
         };
         contents = contents;
-        agree = all_agree t V.places (SaysAndTells V words t telling) under n so_far.told a all so_far.found;
+        agree = all_agree t V.places (SaysAndTells V spelled t telling) under n so_far.told a all so_far.found;
         told = so_far.told;
         verdicts_are = so_far.verdicts_are;
         each = stated.each;

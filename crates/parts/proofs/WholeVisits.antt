@@ -20,7 +20,7 @@ use Rattle.parts.specs.Finding.{all_places}
 use Rattle.parts.specs.Parts.{Holds, IsPartV1, piece_count, place_count}
 use Rattle.parts.specs.Telling.{TellsWhole}
 use Rattle.parts.specs.Visiting.{StopsAtFile, TellsOwn, VisitsAll, verdicts_in, whole_visiting}
-use Rattle.parts.specs.Words.{Words}
+use Rattle.lines.specs.Rows.{Spelling}
 use Rattle.parts.specs.declared.places.Span.{Span}
 use Rattle.parts.specs.declared.telling.Telling.{Telling}
 use Rattle.parts.specs.declared.telling.Telling.TheVariants as telling
@@ -41,10 +41,10 @@ module _ {S F : Type 0} (shelf : Ghosts S F) (seen : F → SourceSeen) (t : Desc
   whole_tells (telling.RunsIn r) sound whole = absurd whole
 
   -- where what is told of a file broke off, the verdicts are true of the first contents
-  pub stopped_true : (words : Words) (telling : Telling) (old new : S × SinkSeen)
-      → (stops : StopsAtFile (whole_visiting shelf seen t) words t telling old new)
+  pub stopped_true : (spelled : Spelling) (telling : Telling) (old new : S × SinkSeen)
+      → (stops : StopsAtFile (whole_visiting shelf seen t) spelled t telling old new)
       → AreTrueOfFirst t (shelf.contents old.0).under (verdicts_in stops.told ++ stops.verdict ∷ [])
-  stopped_true words telling old new stops =
+  stopped_true spelled telling old new stops =
       let n : ℕ = length stops.told in
       let long : length (verdicts_in stops.told) ≡ length stops.told = length-told stops.told in
       record {
@@ -64,11 +64,11 @@ module _ {S F : Type 0} (shelf : Ghosts S F) (seen : F → SourceSeen) (t : Desc
       }
 
   -- all files were checked
-  pub whole_all : (words : Words) (telling : Telling) (files : List FileVerdict) (v1 : Option V1Verdict) (old new : S × SinkSeen) → IsSound t
-      → VisitsAll (whole_visiting shelf seen t) words t telling files v1 old new → ChecksAll shelf seen words t telling files v1 old new
-  whole_all words telling files v1 old new sound visits =
+  pub whole_all : (spelled : Spelling) (telling : Telling) (files : List FileVerdict) (v1 : Option V1Verdict) (old new : S × SinkSeen) → IsSound t
+      → VisitsAll (whole_visiting shelf seen t) spelled t telling files v1 old new → ChecksAll shelf seen spelled t telling files v1 old new
+  whole_all spelled telling files v1 old new sound visits =
       let contents : Contents = visits.contents in
-      let each = verdicts_say (whole_visiting shelf seen t) words t telling files v1 old new visits in
+      let each = verdicts_say (whole_visiting shelf seen t) spelled t telling files v1 old new visits in
       let are_true : AreTrueVerdicts t contents files v1 = record {
         each = each;
         version1 = λ w v is_v1 at. v1_verdict contents v w is_v1 visits.has (visits.has.checked v at) each (visits.version1 w v is_v1 at);

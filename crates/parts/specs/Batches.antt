@@ -7,16 +7,16 @@ use Rattle.folders.specs.declared.shelf.Shelf.{Ghosts}
 use Rattle.opening.specs.Description.{Description, FileEntry}
 use Rattle.parts.specs.Held.{IsFileJudged, Promises, VisitsFound}
 use Rattle.parts.specs.Windows.{HasRoomForFile, StandsAt}
-use Rattle.parts.specs.declared.verdicts.Ahead.{Ahead}
+use Rattle.parts.specs.declared.verdicts.VerdictsAhead.{VerdictsAhead}
 use Rattle.parts.specs.declared.batch.HeldFiles.{HeldFiles}
 use Rattle.parts.specs.declared.batch.Kept.{Kept}
-use Rattle.parts.specs.declared.held.Held.{Held}
-use Rattle.parts.specs.declared.held.Held.TheVariants as held
+use Rattle.parts.specs.declared.held.HeldVisit.{HeldVisit}
+use Rattle.parts.specs.declared.held.HeldVisit.TheVariants as held
 use Rattle.parts.specs.declared.verdicts.Verdicts.{Verdicts}
 use Rattle.parts.specs.declared.windows.Windows.{Windows}
 
 -- the verdicts that are left
-abbrev pub left : Ahead → List Verdicts
+abbrev pub left : VerdictsAhead → List Verdicts
 left a = drop a.next (take a.count a.verdicts)
 
 -- there is room for one more file of this length, if this many bytes of a room are used
@@ -33,8 +33,8 @@ pub record HasKept (w : Windows) (used size : ℕ) (e : Kept) : Type 0 where
   pub stands : e.held ≡ held.Whole → StandsAt w e.firsts e.start size
 
 -- and this is held of it
-pub record IsKeptAs (w : Windows) (room : List ℕ) (used size : ℕ) (e : Kept) (h : Held × List ℕ)
-    : Type 0 where
+pub record IsKeptAs (w : Windows) (room : List ℕ) (used size : ℕ) (e : Kept)
+    (h : HeldVisit × List ℕ) : Type 0 where
   pub has : HasKept w used size e
   pub held_is : h.0 ≡ e.held
   pub bytes_are : h.1 ≡ bytes_at room e.start size
@@ -55,11 +55,11 @@ module _ {S F : Type 0} (shelf : Ghosts S F) (seen : F → SourceSeen) (t : Desc
   -- the files from this one on were visited, and this is held of them
   pub record HoldsFrom (from : ℕ) (s : S) (h : HeldFiles) (room : List ℕ) (used : ℕ) (s' : S)
       : Type 0 where
-    pub all : List (Held × List ℕ)
+    pub all : List (HeldVisit × List ℕ)
     pub count : length all ≡ h.count
     pub few : from + h.count ≤ length t.files
     pub run : Chain (Promises shelf seen t) s (take h.count (drop from t.files)) all s'
-    pub each : (k : ℕ) (f : FileEntry) (e : Kept) (x : Held × List ℕ)
+    pub each : (k : ℕ) (f : FileEntry) (e : Kept) (x : HeldVisit × List ℕ)
         → slice_get t.files (from + k) ≡ Some f → slice_get h.kept k ≡ Some e
         → slice_get all k ≡ Some x → IsKeptAs h.windows room used f.length e x
 

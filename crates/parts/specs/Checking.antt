@@ -4,7 +4,7 @@
 use Rattle.std.specs.Prelude.{◌≡◌, ◌⊎◌, ◌<◌, List, ◌∷◌, ◌++◌, length, slice_get, Option, Some, Result, Ok, Err}
 use Rattle.benc.specs.Device.{Broke, BrokeOrUnflushed, Sent, SentAndFlushed, SinkSeen, SourceSeen}
 use Rattle.benc.specs.declared.device.DeviceFault.{DeviceFault}
-use Rattle.folders.specs.Printed.{end_as, verdicts_as, wanted_as}
+use Rattle.folders.specs.Printed.{end_rows, verdicts_rows, wanted_rows}
 use Rattle.folders.specs.Stopping.{VisitsFirst}
 use Rattle.folders.specs.Verdicts.{IsTrueOfFolder}
 use Rattle.folders.specs.declared.report_lines.Lines.{Lines}
@@ -14,7 +14,7 @@ use Rattle.folders.specs.declared.report.V1Verdict.{V1Verdict}
 use Rattle.folders.specs.declared.shelf.Shelf.{Ghosts}
 use Rattle.opening.specs.Description.{Description, FileEntry}
 use Rattle.parts.specs.Visiting.{StopsAtFile, VisitsAll, whole_visiting}
-use Rattle.parts.specs.Words.{Words, words_in_text}
+use Rattle.lines.specs.Rows.{Spelling, spell}
 use Rattle.lines.specs.declared.out_fault.OutFault.{OutFault as CheckFault}
 use Rattle.lines.specs.declared.out_fault.OutFault.TheVariants as stopped
 use Rattle.parts.specs.declared.telling.Telling.{Telling}
@@ -27,10 +27,10 @@ shelf_and_sink s out = (s, out)
 module _ {S F : Type 0} (shelf : Ghosts S F) (seen : F → SourceSeen) where
   -- all files were checked and told of, in the torrent's order, for these verdicts, which are true
   -- of what stands at the files' paths; and what was told is true of the same
-  pub record ChecksAll (words : Words) (t : Description) (telling : Telling)
+  pub record ChecksAll (spelled : Spelling) (t : Description) (telling : Telling)
       (verdicts : List FileVerdict) (v1 : Option V1Verdict) (old new : S × SinkSeen) : Type 0
     where
-      pub visits : VisitsAll (whole_visiting shelf seen t) words t telling verdicts v1 old new
+      pub visits : VisitsAll (whole_visiting shelf seen t) spelled t telling verdicts v1 old new
       pub are_true : IsTrueOfFolder t (shelf.contents old.0).under verdicts v1
       pub same : are_true.contents ≡ visits.contents
 
@@ -38,82 +38,76 @@ module _ {S F : Type 0} (shelf : Ghosts S F) (seen : F → SourceSeen) where
   -- that are judged together were visited before the first of their lines went out: so at most 63
   -- behind that one were visited too. All were visited once and in order, for verdicts that are
   -- true of what stands at their paths; no later file was opened.
-  pub record StopsAhead (words : Words) (t : Description) (lines : Lines) (old new : S × SinkSeen)
-      : Type 0 where
+  pub record StopsAhead (spelled : Spelling) (t : Description) (lines : Lines)
+      (old new : S × SinkSeen) : Type 0 where
     pub told : List FileVerdict
     pub verdict : FileVerdict
     pub ahead : List FileVerdict
     pub few : length ahead < 64
     pub visits : VisitsFirst shelf seen t old.0 (told ++ verdict ∷ ahead) new.0
     pub mid : SinkSeen
-    pub sent : Sent old.1 mid (verdicts_as words.report lines told t.files)
+    pub sent : Sent old.1 mid (spell spelled (verdicts_rows lines told t.files))
     pub file : FileEntry
     pub file_is : slice_get t.files (length told) ≡ Some file
-    pub broke : Broke mid new.1 (wanted_as words.report lines verdict file)
+    pub broke : Broke mid new.1 (spell spelled (wanted_rows lines verdict file))
 
   -- so it stopped, if lines are all that is told
-  abbrev pub StopsInBatch : Words → Description → Telling → S × SinkSeen → S × SinkSeen → Type 0
-  StopsInBatch words t telling.Nothing old new = ⊥
-  StopsInBatch words t (telling.Line lines) old new = StopsAhead words t lines old new
-  StopsInBatch words t (telling.LineAndRuns lines) old new = ⊥
-  StopsInBatch words t (telling.RunsIn places) old new = ⊥
+  abbrev pub StopsInBatch : Spelling → Description → Telling → S × SinkSeen → S × SinkSeen → Type 0
+  StopsInBatch spelled t telling.Nothing old new = ⊥
+  StopsInBatch spelled t (telling.Line lines) old new = StopsAhead spelled t lines old new
+  StopsInBatch spelled t (telling.LineAndRuns lines) old new = ⊥
+  StopsInBatch spelled t (telling.RunsIn places) old new = ⊥
 
   -- what is told of the files broke off
-  abbrev pub StopsInFiles : Words → Description → Telling → S × SinkSeen → S × SinkSeen → Type 0
-  StopsInFiles words t telling old new =
-      StopsAtFile (whole_visiting shelf seen t) words t telling old new
-      ⊎ StopsInBatch words t telling old new
+  abbrev pub StopsInFiles : Spelling → Description → Telling → S × SinkSeen → S × SinkSeen → Type 0
+  StopsInFiles spelled t telling old new =
+      StopsAtFile (whole_visiting shelf seen t) spelled t telling old new
+      ⊎ StopsInBatch spelled t telling old new
 
   -- all files were visited and told of, or what is told of them broke off
-  abbrev pub EndsWhole : Words → Description → Telling → S × SinkSeen → S × SinkSeen
+  abbrev pub EndsWhole : Spelling → Description → Telling → S × SinkSeen → S × SinkSeen
       → Result Report DeviceFault → Type 0
-  EndsWhole words t telling old new (Ok report) =
-      VisitsAll (whole_visiting shelf seen t) words t telling report.files.items report.v1 old new
-  EndsWhole words t telling old new (Err fault) = StopsInFiles words t telling old new
+  EndsWhole spelled t telling old new (Ok report) =
+      VisitsAll (whole_visiting shelf seen t) spelled t telling report.files.items report.v1 old new
+  EndsWhole spelled t telling old new (Err fault) = StopsInFiles spelled t telling old new
 
   -- what was done for all files, by the answer
-  abbrev pub EndsFiles : Words → Description → Telling → S × SinkSeen → S × SinkSeen
+  abbrev pub EndsFiles : Spelling → Description → Telling → S × SinkSeen → S × SinkSeen
       → Result Report CheckFault → Type 0
-  EndsFiles words t telling old new (Ok report) =
-      ChecksAll words t telling report.files.items report.v1 old new
-  EndsFiles words t telling old new (Err stopped.Write) = StopsInFiles words t telling old new
-  EndsFiles words t telling old new (Err stopped.NoMemory) = (new.0 ≡ old.0) × (new.1 ≡ old.1)
+  EndsFiles spelled t telling old new (Ok report) =
+      ChecksAll spelled t telling report.files.items report.v1 old new
+  EndsFiles spelled t telling old new (Err stopped.Write) = StopsInFiles spelled t telling old new
+  EndsFiles spelled t telling old new (Err stopped.NoMemory) = (new.0 ≡ old.0) × (new.1 ≡ old.1)
 
   -- all files were checked and told of, and then the end of the report went out, with one flush
-  pub record ChecksWhole (words : Words) (t : Description) (telling : Telling) (lines : Lines)
+  pub record ChecksWhole (spelled : Spelling) (t : Description) (telling : Telling) (lines : Lines)
       (verdicts : List FileVerdict) (v1 : Option V1Verdict) (old new : S × SinkSeen) : Type 0
     where
       pub mid : SinkSeen
-      pub all : ChecksAll words t telling verdicts v1 old (shelf_and_sink new.0 mid)
-      pub end : SentAndFlushed mid new.1 (end_as words.report lines verdicts v1)
+      pub all : ChecksAll spelled t telling verdicts v1 old (shelf_and_sink new.0 mid)
+      pub end : SentAndFlushed mid new.1 (spell spelled (end_rows lines verdicts v1))
 
   -- all files were, and the end of the report broke off or was not flushed
-  pub record StopsAtEnd (words : Words) (t : Description) (telling : Telling) (lines : Lines)
+  pub record StopsAtEnd (spelled : Spelling) (t : Description) (telling : Telling) (lines : Lines)
       (old new : S × SinkSeen) : Type 0 where
     pub verdicts : List FileVerdict
     pub v1 : Option V1Verdict
     pub mid : SinkSeen
-    pub all : ChecksAll words t telling verdicts v1 old (shelf_and_sink new.0 mid)
-    pub broke : BrokeOrUnflushed mid new.1 (end_as words.report lines verdicts v1)
+    pub all : ChecksAll spelled t telling verdicts v1 old (shelf_and_sink new.0 mid)
+    pub broke : BrokeOrUnflushed mid new.1 (spell spelled (end_rows lines verdicts v1))
 
   -- the sink failed at a file, or behind the last one
-  abbrev pub StopsTelling : Words → Description → Telling → Lines → S × SinkSeen → S × SinkSeen
+  abbrev pub StopsTelling : Spelling → Description → Telling → Lines → S × SinkSeen → S × SinkSeen
       → Type 0
-  StopsTelling words t telling lines old new =
-      StopsInFiles words t telling old new ⊎ StopsAtEnd words t telling lines old new
+  StopsTelling spelled t telling lines old new =
+      StopsInFiles spelled t telling old new ⊎ StopsAtEnd spelled t telling lines old new
 
-  -- what a check did whose lines are worded so, by its answer
-  abbrev pub ChecksAndSays : Words → Description → Telling → Lines → S × SinkSeen → S × SinkSeen
+  -- what a check did whose lines are spelled so, by its answer
+  abbrev pub ChecksAndSays : Spelling → Description → Telling → Lines → S × SinkSeen → S × SinkSeen
       → Result Report CheckFault → Type 0
-  ChecksAndSays words t telling lines old new (Ok report) =
-      ChecksWhole words t telling lines report.files.items report.v1 old new
-  ChecksAndSays words t telling lines old new (Err stopped.Write) =
-      StopsTelling words t telling lines old new
-  ChecksAndSays words t telling lines old new (Err stopped.NoMemory) =
+  ChecksAndSays spelled t telling lines old new (Ok report) =
+      ChecksWhole spelled t telling lines report.files.items report.v1 old new
+  ChecksAndSays spelled t telling lines old new (Err stopped.Write) =
+      StopsTelling spelled t telling lines old new
+  ChecksAndSays spelled t telling lines old new (Err stopped.NoMemory) =
       (new.0 ≡ old.0) × (new.1 ≡ old.1)
-
-  -- what a check that prints did, by its answer
-  abbrev pub ChecksAndPrints : Description → Telling → Lines → S × SinkSeen → S × SinkSeen
-      → Result Report CheckFault → Type 0
-  ChecksAndPrints t telling lines old new r =
-      ChecksAndSays words_in_text t telling lines old new r

@@ -9,15 +9,15 @@ use Rattle.folders.specs.declared.shelf.Shelf.{Ghosts}
 use Rattle.opening.specs.Description.{Description, FileEntry, Version1}
 use Rattle.parts.specs.Finding.{FindsWhole}
 use Rattle.parts.specs.Parts.{IsVersion1Good, piece_count}
-use Rattle.parts.specs.declared.held.Held.{Held}
-use Rattle.parts.specs.declared.held.Held.TheVariants as held
+use Rattle.parts.specs.declared.held.HeldVisit.{HeldVisit}
+use Rattle.parts.specs.declared.held.HeldVisit.TheVariants as held
 use Rattle.parts.specs.declared.verdicts.Verdicts.{Verdicts}
 use Rattle.parts.specs.Visiting.{VisitsFile, whole_visiting}
 
 -- ---- reading
 
 -- what is held of a file of this stated size, by how many of its bytes were read
-abbrev pub IsHeldFor : Result ℕ DeviceFault → ℕ → Held → Type 0
+abbrev pub IsHeldFor : Result ℕ DeviceFault → ℕ → HeldVisit → Type 0
 IsHeldFor (Ok count) size held.Missing = ⊥
 IsHeldFor (Ok count) size held.Unreadable = ⊥
 IsHeldFor (Ok count) size held.Other = count ≢ size
@@ -27,7 +27,7 @@ IsHeldFor (Err fault) size h = h ≡ held.Unreadable
 -- ---- judging
 
 -- these verdicts follow from what is held of a file, and are true of its bytes if it is whole
-abbrev pub IsFileJudged : Description → FileEntry → Held → List ℕ → Verdicts → Type 0
+abbrev pub IsFileJudged : Description → FileEntry → HeldVisit → List ℕ → Verdicts → Type 0
 IsFileJudged t f held.Missing bytes v = (v.file ≡ file.Missing) × (v.v1 ≡ version1.NotChecked)
 IsFileJudged t f held.Unreadable bytes v = (v.file ≡ file.Unreadable) × (v.v1 ≡ version1.NotChecked)
 IsFileJudged t f held.Other bytes v = (v.file ≡ file.WrongLength) × (v.v1 ≡ version1.NotChecked)
@@ -56,5 +56,5 @@ module _ {S F : Type 0} (shelf : Ghosts S F) (seen : F → SourceSeen) (t : Desc
 
   -- a file was read, and this is held of it: whatever verdicts follow from that, it was visited for
   -- them
-  abbrev pub Promises : S → FileEntry → Held × List ℕ → S → Type 0
+  abbrev pub Promises : S → FileEntry → HeldVisit × List ℕ → S → Type 0
   Promises s f h s' = (v : Verdicts) → IsFileJudged t f h.0 h.1 v → VisitsFound s f v s'

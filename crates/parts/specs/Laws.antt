@@ -1,6 +1,5 @@
 -- The laws of a check in parts.
 use Rattle.std.specs.Prelude.{◌≡◌, ◌↔◌, IsTrue, true, ◌⊎◌, ℕ, ◌<◌, List, [], ◌∷◌, ◌++◌, length, Option, Some, slice_get}
-use Rattle.lines.specs.Texts.{text_of}
 use Rattle.opening.specs.Description.{Description, FileEntry}
 use Rattle.opening.specs.Sound.{IsSound}
 use Rattle.folders.specs.Folder.{Contents, GoodFolder}
@@ -13,7 +12,6 @@ use Rattle.folders.specs.declared.report.V1Verdict.TheVariants as version1
 use Rattle.parts.specs.Joins.{IsJoin, IsWorst, NoWorse, NoWorseV1, says_of, says_of_v1}
 use Rattle.parts.specs.Worse.{worse, worse_v1}
 use Rattle.parts.specs.PartLines.{has_place}
-use Rattle.parts.specs.PartWords.{part_in_text, part_words}
 use Rattle.parts.specs.Parts.{AreAllPlaces, PartReport, IsTruePart, Touches}
 use Rattle.parts.specs.Shares.{share}
 use Rattle.parts.specs.declared.places.Places.{Places}
@@ -71,11 +69,6 @@ abbrev pub SharesHaveAllPlaces : Type 0
 SharesHaveAllPlaces = (t : Description) (parts : List PartReport) → 0 < length parts
     → ((i : ℕ) (p : PartReport) → slice_get parts i ≡ Some p → p.places ≡ share t i (length parts))
     → AreAllPlaces t parts
-
--- the lines of a part's report as rows of the table of lines, each as it is printed, are those that
--- are printed
-abbrev pub PartWordsAreTexts : Type 0
-PartWordsAreTexts = part_words text_of ≡ part_in_text
 
 -- the test of whether a file has a place among some says whether there is one
 abbrev pub PlacesAreTested : Type 0

@@ -12,7 +12,6 @@ pub mod MarkedLines
 pub mod PartLines
 pub mod Parts
 pub mod PartVisits
-pub mod PartWords
 pub mod PieceReads
 pub mod Rooms
 pub mod RowBits
@@ -24,5 +23,4 @@ pub mod Spans
 pub mod Telling
 pub mod Visiting
 pub mod Windows
-pub mod Words
 pub mod Worse

@@ -1,8 +1,10 @@
--- The runs of bad pieces of a file, and what is printed of them.
-use Rattle.std.specs.Prelude.{◌≡◌, ℕ, ◌+◌, ◌-◌, ◌*◌, ◌<◌, ◌≤◌, min, List, [], ◌∷◌, ◌++◌, slice_get, codes, decimal}
+-- The runs of bad pieces of a file, and their lines.
+use Rattle.std.specs.Prelude.{◌≡◌, ℕ, ◌+◌, ◌-◌, ◌*◌, ◌<◌, ◌≤◌, min, List, map, slice_get}
 use Rattle.std.specs.Prelude.{Some, Result, MatchResult}
 use Rattle.benc.specs.Device.{Broke, Sent, SinkSeen}
 use Rattle.hashtree.specs.Bits.{bit_of}
+use Rattle.lines.specs.Rows.{Row, Spelling, spell}
+use Rattle.lines.specs.Table.{bad_pieces_row}
 use Rattle.opening.specs.Description.{Description, FileEntry}
 use Rattle.parts.specs.Parts.{Holds, piece_count}
 use Rattle.parts.specs.RowBits.{HasGoodPiece}
@@ -75,40 +77,30 @@ abbrev pub AreClearRuns : Description → FileEntry → ℕ → ℕ → List ℕ
 AreClearRuns t f from to bits end runs =
     AreBadRuns (piece_count t f) end (IsSetIfIn from to bits) runs
 
--- ---- what is printed
+-- ---- the lines
 
--- the line of a run: the torrent's numbers of its first and last piece, and the offsets in the file
--- of its first and last byte, both included
-abbrev pub run_text : Description → FileEntry → Run → List ℕ
-run_text t f r =
-    codes "bad pieces " ++ decimal (f.first_piece + r.first)
-    ++ codes " " ++ decimal (f.first_piece + r.last)
-    ++ codes " bytes " ++ decimal (t.piece_length * r.first)
-    ++ codes "-" ++ decimal (min (t.piece_length * (r.last + 1)) f.length - 1) ++ codes "\n"
-
--- how the line of a run is worded
-abbrev pub RunLine : Type 0
-RunLine = Description → FileEntry → Run → List ℕ
+-- the line of a run: the torrent's numbers of its first and last piece, the offsets in the file of
+-- its first and last byte, both included, and the file's path
+abbrev pub run_row : Description → FileEntry → Run → Row
+run_row t f r =
+    bad_pieces_row (f.first_piece + r.first) (f.first_piece + r.last) (t.piece_length * r.first)
+    (min (t.piece_length * (r.last + 1)) f.length - 1) f.path
 
 -- the lines of several
-abbrev pub runs_as : RunLine → Description → FileEntry → List Run → List ℕ
-runs_as line t f [] = []
-runs_as line t f (r ∷ rs) = line t f r ++ runs_as line t f rs
+abbrev pub runs_rows : Description → FileEntry → List Run → List Row
+runs_rows t f runs = map (run_row t f) runs
 
--- those lines as they are printed
-abbrev pub runs_text : Description → FileEntry → List Run → List ℕ
-runs_text t f runs = runs_as run_text t f runs
-
--- the lines of some of the first runs of bits that are not set went out so
-abbrev pub WentFirst : RunLine → Description → FileEntry → ℕ → ℕ → List ℕ → (List ℕ → Type 0)
+-- the lines of some of the first runs of bits that are not set went out so, spelled so
+abbrev pub WentFirst : Spelling → Description → FileEntry → ℕ → ℕ → List ℕ → (List ℕ → Type 0)
     → Type 0
-WentFirst line t f from to bits Went = (runs : List Run) × (end : ℕ) × (end ≤ piece_count t f)
-    × AreClearRuns t f from to bits end runs × Went (runs_as line t f runs)
+WentFirst spelled t f from to bits Went =
+    (runs : List Run) × (end : ℕ) × (end ≤ piece_count t f)
+    × AreClearRuns t f from to bits end runs × Went (spell spelled (runs_rows t f runs))
 
 -- the lines of all of them went out, or those of the first ones broke off
-abbrev pub WritesRuns : {E : Type 0} → RunLine → Description → FileEntry → ℕ → ℕ → List ℕ
+abbrev pub WritesRuns : {E : Type 0} → Spelling → Description → FileEntry → ℕ → ℕ → List ℕ
     → SinkSeen → SinkSeen → Result (Unit {0}) E → Type 0
-WritesRuns line t f from to bits out out' r = MatchResult r
+WritesRuns spelled t f from to bits out out' r = MatchResult r
     (λ _. (runs : List Run) × AreClearRuns t f from to bits (piece_count t f) runs
-    × Sent out out' (runs_as line t f runs))
-    (λ _. WentFirst line t f from to bits (Broke out out'))
+    × Sent out out' (spell spelled (runs_rows t f runs)))
+    (λ _. WentFirst spelled t f from to bits (Broke out out'))

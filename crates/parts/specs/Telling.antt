@@ -2,16 +2,17 @@
 use Rattle.std.specs.Prelude.{◌≡◌, ℕ, ◌*◌, ◌≤◌, Bool, true, false, List, [], ◌++◌, slice_get, Option, Some, Result, MatchResult, ⊤}
 use Rattle.benc.specs.Device.{Broke, Sent, SinkSeen}
 use Rattle.benc.specs.declared.device.DeviceFault.{DeviceFault}
-use Rattle.folders.specs.Printed.{wanted_as}
+use Rattle.folders.specs.Printed.{wanted_rows}
+use Rattle.folders.specs.declared.report_lines.Lines.{Lines}
 use Rattle.folders.specs.declared.report.FileVerdict.{FileVerdict}
 use Rattle.folders.specs.declared.report.FileVerdict.TheVariants as file
+use Rattle.lines.specs.Rows.{Row, Spelling, spell}
 use Rattle.opening.specs.Description.{Description, FileEntry}
-use Rattle.parts.specs.MarkedLines.{marked_as}
+use Rattle.parts.specs.MarkedLines.{marked_rows}
 use Rattle.parts.specs.Parts.{piece_count}
 use Rattle.parts.specs.RowBits.{AreBitsOf}
-use Rattle.parts.specs.Runs.{AreFirstRunsIn, AreFirstRunsOf, AreRunsIn, AreRunsOf, Run, runs_as}
+use Rattle.parts.specs.Runs.{AreFirstRunsIn, AreFirstRunsOf, AreRunsIn, AreRunsOf, Run, runs_rows}
 use Rattle.parts.specs.Spans.{end_in, first_in}
-use Rattle.parts.specs.Words.{Words}
 use Rattle.parts.specs.declared.places.Places.{Places}
 use Rattle.parts.specs.declared.telling.Telling.{Telling}
 use Rattle.parts.specs.declared.telling.Telling.TheVariants as telling
@@ -76,30 +77,37 @@ abbrev pub AreFirstMarkedRuns : Description → Places → FileEntry → Option 
 AreFirstMarkedRuns t r f content v runs =
     AreToldRuns (AreFirstRunsIn t r f) (has_runs v) content runs
 
--- what is told of a file that has this content, for its verdict: nothing; its line if that is
--- wanted; that line and those of its runs of bad pieces; or its line if it has one of these places,
--- and those of its runs of bad pieces among them
-abbrev pub Tells : Words → Description → Telling → FileEntry → Option (List ℕ) → FileVerdict
+-- the line of a file, if it is wanted, and those of its runs
+abbrev pub line_and_runs : Description → Lines → FileEntry → FileVerdict → List Run → List Row
+line_and_runs t lines f v runs = wanted_rows lines v f ++ runs_rows t f runs
+
+-- what is told of a file that has this content, for its verdict, in lines that are spelled so:
+-- nothing; its line if that is wanted; that line and those of its runs of bad pieces; or its line
+-- if it has one of these places, and those of its runs of bad pieces among them
+abbrev pub Tells : Spelling → Description → Telling → FileEntry → Option (List ℕ) → FileVerdict
     → List ℕ → Type 0
-Tells words t telling.Nothing f content v text = text ≡ []
-Tells words t (telling.Line lines) f content v text = text ≡ wanted_as words.report lines v f
-Tells words t (telling.LineAndRuns lines) f content v text =
+Tells spelled t telling.Nothing f content v text = text ≡ []
+Tells spelled t (telling.Line lines) f content v text =
+    text ≡ spell spelled (wanted_rows lines v f)
+Tells spelled t (telling.LineAndRuns lines) f content v text =
     (runs : List Run) × AreToldRuns (AreRunsOf t f) (has_runs v) content runs
-    × (text ≡ wanted_as words.report lines v f ++ runs_as words.run t f runs)
-Tells words t (telling.RunsIn r) f content v text =
-    (runs : List Run) × AreMarkedRuns t r f content v runs × (text ≡ marked_as words t r f v runs)
+    × (text ≡ spell spelled (line_and_runs t lines f v runs))
+Tells spelled t (telling.RunsIn r) f content v text =
+    (runs : List Run) × AreMarkedRuns t r f content v runs
+    × (text ≡ spell spelled (marked_rows t r f v runs))
 
 -- the same up to one of the runs
-abbrev pub TellsFirst : Words → Description → Telling → FileEntry → Option (List ℕ) → FileVerdict
-    → List ℕ → Type 0
-TellsFirst words t telling.Nothing f content v text = ⊥
-TellsFirst words t (telling.Line lines) f content v text = text ≡ wanted_as words.report lines v f
-TellsFirst words t (telling.LineAndRuns lines) f content v text =
+abbrev pub TellsFirst : Spelling → Description → Telling → FileEntry → Option (List ℕ)
+    → FileVerdict → List ℕ → Type 0
+TellsFirst spelled t telling.Nothing f content v text = ⊥
+TellsFirst spelled t (telling.Line lines) f content v text =
+    text ≡ spell spelled (wanted_rows lines v f)
+TellsFirst spelled t (telling.LineAndRuns lines) f content v text =
     (runs : List Run) × AreToldRuns (AreFirstRunsOf t f) (has_runs v) content runs
-    × (text ≡ wanted_as words.report lines v f ++ runs_as words.run t f runs)
-TellsFirst words t (telling.RunsIn r) f content v text =
+    × (text ≡ spell spelled (line_and_runs t lines f v runs))
+TellsFirst spelled t (telling.RunsIn r) f content v text =
     (runs : List Run) × AreFirstMarkedRuns t r f content v runs
-    × (text ≡ marked_as words t r f v runs)
+    × (text ≡ spell spelled (marked_rows t r f v runs))
 
 -- ---- what was written
 
@@ -135,8 +143,8 @@ pub record Told (Is : Option (List ℕ) → List ℕ → Type 0) (t : Descriptio
   pub is : (content : Option (List ℕ)) → MarksOf t told f content v bits → Is content text
 
 -- what is told of a file went out, or broke off
-abbrev pub TellsFile : Words → Description → Telling → FileEntry → FileVerdict → List ℕ → SinkSeen
-    → SinkSeen → Result (Unit {0}) DeviceFault → Type 0
-TellsFile words t told f v bits out out' r = MatchResult r
-    (λ _. Told (λ content. Tells words t told f content v) t told f v bits (Sent out out'))
-    (λ _. Told (λ content. TellsFirst words t told f content v) t told f v bits (Broke out out'))
+abbrev pub TellsFile : Spelling → Description → Telling → FileEntry → FileVerdict → List ℕ
+    → SinkSeen → SinkSeen → Result (Unit {0}) DeviceFault → Type 0
+TellsFile spelled t told f v bits out out' r = MatchResult r
+    (λ _. Told (λ content. Tells spelled t told f content v) t told f v bits (Sent out out'))
+    (λ _. Told (λ content. TellsFirst spelled t told f content v) t told f v bits (Broke out out'))

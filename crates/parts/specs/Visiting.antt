@@ -3,6 +3,7 @@ use Rattle.std.specs.Prelude.{◌≡◌, ℕ, ◌+◌, ◌<◌, List, [], ◌∷
 use Rattle.benc.specs.Device.{Broke, Sent, SinkSeen, SourceSeen}
 use Rattle.benc.specs.declared.device.DeviceFault.{DeviceFault}
 use Rattle.chains.specs.Chain.{Chain}
+use Rattle.lines.specs.Rows.{Spelling}
 use Rattle.folders.specs.Folder.{Contents}
 use Rattle.folders.specs.Shelf.{ShelfContents, more}
 use Rattle.folders.specs.Verdicts.{AgreeWith, Agrees, CountsUnreadable, HasVerdicts, IsVerdict, fault_count}
@@ -16,7 +17,6 @@ use Rattle.parts.specs.Finding.{FindsAs, all_places}
 use Rattle.parts.specs.Parts.{IsPartV1, IsPartVerdict}
 use Rattle.parts.specs.PartVisits.{VisitsPart}
 use Rattle.parts.specs.Telling.{MarksIn, MarksOf, Tells, TellsFirst, TellsNothing}
-use Rattle.parts.specs.Words.{Words}
 use Rattle.parts.specs.declared.places.Places.{Places}
 use Rattle.parts.specs.declared.telling.Telling.{Telling}
 use Rattle.parts.specs.declared.verdicts.Verdicts.{Verdicts}
@@ -58,11 +58,11 @@ abbrev pub verdicts_in : List (FileVerdict × List ℕ) → List FileVerdict
 verdicts_in told = map (λ x. x.0) told
 
 -- each of the first files is told of so, if these are the files' contents
-abbrev pub AreTold : Words → Description → Telling → Contents → List (FileVerdict × List ℕ)
+abbrev pub AreTold : Spelling → Description → Telling → Contents → List (FileVerdict × List ℕ)
     → Type 0
-AreTold words t telling contents told = (n : ℕ) (f : FileEntry) (x : FileVerdict × List ℕ)
+AreTold spelled t telling contents told = (n : ℕ) (f : FileEntry) (x : FileVerdict × List ℕ)
     → slice_get t.files n ≡ Some f → slice_get told n ≡ Some x
-    → Tells words t telling f (contents n) x.0 x.1
+    → Tells spelled t telling f (contents n) x.0 x.1
 
 module _ {S : Type 0} (V : Visiting S) where
   -- what a visit finds of a file under whose path a shelf holds this
@@ -85,10 +85,10 @@ module _ {S : Type 0} (V : Visiting S) where
       → MarksOf t told f content v bits
 
   -- this was said of a file with this content, and told of it
-  abbrev pub SaysAndTells : Words → Description → Telling → FileEntry → Option (List ℕ)
+  abbrev pub SaysAndTells : Spelling → Description → Telling → FileEntry → Option (List ℕ)
       → FileVerdict × List ℕ → Type 0
-  SaysAndTells words t told f content x =
-      V.says f content x.0 × Tells words t told f content x.0 x.1
+  SaysAndTells spelled t told f content x =
+      V.says f content x.0 × Tells spelled t told f content x.0 x.1
 
   -- a file was visited for this verdict; then this went out
   pub record VisitsOne (old : S × SinkSeen) (f : FileEntry) (x : FileVerdict × List ℕ)
@@ -98,7 +98,7 @@ module _ {S : Type 0} (V : Visiting S) where
 
   -- all files were visited and told of, in order, for these verdicts, which are true of
   -- contents that are the shelf's as far as those are known; and what was told is true of the same
-  pub record VisitsAll (words : Words) (t : Description) (telling : Telling)
+  pub record VisitsAll (spelled : Spelling) (t : Description) (telling : Telling)
       (verdicts : List FileVerdict) (v1 : Option V1Verdict) (old new : S × SinkSeen) : Type 0
     where
       pub has : HasVerdicts t verdicts v1
@@ -107,7 +107,7 @@ module _ {S : Type 0} (V : Visiting S) where
       pub told : List (FileVerdict × List ℕ)
       pub verdicts_are : verdicts_in told ≡ verdicts
       pub each : (n : ℕ) (f : FileEntry) (x : FileVerdict × List ℕ) → slice_get t.files n ≡ Some f
-          → slice_get told n ≡ Some x → SaysAndTells words t telling f (contents n) x
+          → slice_get told n ≡ Some x → SaysAndTells spelled t telling f (contents n) x
       pub version1 : (v : Version1) (a : V1Verdict) → t.v1 ≡ Some v → v1 ≡ Some a
           → IsPartV1 t v V.places contents a
       pub visited : Chain VisitsOne old t.files told new
@@ -115,7 +115,7 @@ module _ {S : Type 0} (V : Visiting S) where
 
   -- after all that is told of the files before it, a file was visited, and what is told of it broke
   -- off; no later file was visited
-  pub record StopsAtFile (words : Words) (t : Description) (telling : Telling)
+  pub record StopsAtFile (spelled : Spelling) (t : Description) (telling : Telling)
       (old new : S × SinkSeen) : Type 0
     where
       pub some : TellsNothing telling → ⊥
@@ -132,15 +132,15 @@ module _ {S : Type 0} (V : Visiting S) where
       pub agree : (n : ℕ) (f : FileEntry) → n < length told + 1 → slice_get t.files n ≡ Some f
           → Agrees ((V.contents old.0).under f.path) (contents n)
       pub each : (n : ℕ) (f : FileEntry) (x : FileVerdict × List ℕ) → slice_get t.files n ≡ Some f
-          → slice_get told n ≡ Some x → SaysAndTells words t telling f (contents n) x
+          → slice_get told n ≡ Some x → SaysAndTells spelled t telling f (contents n) x
       pub says : V.says file (contents (length told)) verdict
-      pub last : TellsFirst words t telling file (contents (length told)) verdict text
+      pub last : TellsFirst spelled t telling file (contents (length told)) verdict text
       pub counts : CountsUnreadable (V.faults old.0) (V.faults new.0)
           (verdicts_in told ++ verdict ∷ [])
 
   -- what was done for all files, by the answer
-  abbrev pub EndsVisits : Words → Description → Telling → S × SinkSeen → S × SinkSeen
+  abbrev pub EndsVisits : Spelling → Description → Telling → S × SinkSeen → S × SinkSeen
       → Result Report DeviceFault → Type 0
-  EndsVisits words t telling old new (Ok report) =
-      VisitsAll words t telling report.files.items report.v1 old new
-  EndsVisits words t telling old new (Err fault) = StopsAtFile words t telling old new
+  EndsVisits spelled t telling old new (Ok report) =
+      VisitsAll spelled t telling report.files.items report.v1 old new
+  EndsVisits spelled t telling old new (Err fault) = StopsAtFile spelled t telling old new

@@ -12,14 +12,13 @@ ghost use Rattle.parts.specs.Finding.{FindsWhole};
 ghost use Rattle.parts.specs.Parts.{piece_count as pieces_in};
 ghost use Rattle.parts.specs.Rooms.{IsRoomFor};
 ghost use Rattle.parts.specs.Telling.{TellsWhole, NeedsBits};
-ghost use Rattle.parts.specs.Words.{words_as};
 
 use crate::batch::look_ahead;
 use crate::places::{Span, piece_count};
 use crate::room::{Room, buffer_of, clear_bits};
 use crate::row::PieceReader;
 use crate::telling::Telling;
-use crate::verdicts::{Ahead, Verdicts, worse_v1};
+use crate::verdicts::{Verdicts, VerdictsAhead, worse_v1};
 use crate::visiting::{Visitor, visit_files};
 use benc::DeviceFault;
 use folders::{FileVerdict, Pace, Report, Shelf, V1Verdict, room_for_files, taken, visit};
@@ -40,7 +39,7 @@ pub(crate) fn visit_whole<S: Shelf, L: LineSink, P: Pace>(
     out: &mut L,
 ) -> Result<Report, CheckFault>
     requires whole { TellsWhole telling }
-    ensures checks { EndsFiles S.Shelf S.File.seen (words_as L.spelled) torrent.now telling
+    ensures checks { EndsFiles S.Shelf S.File.seen L.spelled torrent.now telling
         (shelf_and_sink shelf.old (L.seen out.old)) (shelf_and_sink shelf.new (L.seen out.new))
         result }
     ensures stays { S.contents shelf.new ≡ S.contents shelf.old }
@@ -63,7 +62,7 @@ fn visit_in<S: Shelf, L: LineSink, P: Pace>(
 ) -> Result<Report, DeviceFault>
     requires room { IsRoomFor torrent.now telling room }
     requires whole { TellsWhole telling }
-    ensures ends { EndsWhole S.Shelf S.File.seen (words_as L.spelled) torrent.now telling
+    ensures ends { EndsWhole S.Shelf S.File.seen L.spelled torrent.now telling
         (shelf_and_sink shelf.old (L.seen out.old)) (shelf_and_sink shelf.new (L.seen out.new))
         result }
     ensures stays { S.contents shelf.new ≡ S.contents shelf.old }
@@ -94,7 +93,7 @@ fn visit_ahead<S: Shelf, L: LineSink, P: Pace>(
 ) -> Result<Report, DeviceFault>
     requires room { IsRoomFor torrent.now telling room }
     requires lines { NeedsBits telling → ⊥ }
-    ensures ends { EndsWhole S.Shelf S.File.seen (words_as L.spelled) torrent.now telling
+    ensures ends { EndsWhole S.Shelf S.File.seen L.spelled torrent.now telling
         (shelf_and_sink shelf.old (L.seen out.old)) (shelf_and_sink shelf.new (L.seen out.new))
         result }
     ensures stays { S.contents shelf.new ≡ S.contents shelf.old }
@@ -108,7 +107,7 @@ fn visit_ahead<S: Shelf, L: LineSink, P: Pace>(
     let mut v1 = V1Verdict::Good;
     let mut buffer = buffer_of(*files.allocator(), torrent);
     let mut held = room_for_files(*files.allocator(), torrent.files().len());
-    let mut ahead = Ahead::none();
+    let mut ahead = VerdictsAhead::none();
     'files: for number in 0..entries.len() {
         let found = visit_next(
             shelf,
@@ -138,7 +137,7 @@ fn visit_next<S: Shelf, P: Pace>(
     torrent: &Torrent<'_>,
     number: usize,
     pace: &mut P,
-    ahead: &mut Ahead,
+    ahead: &mut VerdictsAhead,
     room: &mut Vec<u8>,
     bits: &mut Vec<u8>,
     buffer: &mut [u8],

@@ -4,11 +4,11 @@ ghost use Rattle.opening.specs.Description.{Description};
 ghost use Rattle.parts.specs.Batches.{AreFilesKept, AreJudged, CanKeep, HasKept, HoldsFrom, VisitsFrom, left};
 ghost use Rattle.parts.specs.Windows.{AreHashed, AreWithin, HasRoomForFile, KeepsFiles, StandsAt};
 ghost use Rattle.parts.specs.declared.batch.Kept.{Kept};
-ghost use Rattle.parts.specs.declared.held.Held.TheVariants as kept;
+ghost use Rattle.parts.specs.declared.held.HeldVisit.TheVariants as kept;
 
-use crate::held::{Held, hold_file};
+use crate::held::{HeldVisit, hold_file};
 use crate::judging::judge_held;
-use crate::verdicts::{Ahead, MOST};
+use crate::verdicts::{MOST, VerdictsAhead};
 use crate::windows::{Firsts, Windows};
 use folders::{Pace, Shelf};
 use opening::Torrent;
@@ -20,7 +20,7 @@ const SMALL: u64 = 131_072;
 /// the windows from `firsts` on.
 #[derive(Clone, Copy)]
 pub(crate) struct Kept {
-    held: Held,
+    held: HeldVisit,
     start: usize,
     firsts: Firsts,
 }
@@ -41,7 +41,7 @@ impl HeldFiles {
         ensures within { (bytes : ℕ) → AreWithin torrent.now result.windows bytes }
     {
         let kept = Kept {
-            held: Held::Missing,
+            held: HeldVisit::Missing,
             start: 0,
             firsts: Firsts::NONE,
         };
@@ -65,7 +65,7 @@ impl HeldFiles {
     }
 
     // Keeps what is held of a file of this size, whose bytes begin there.
-    fn keep(&mut self, held: Held, start: usize, size: usize)
+    fn keep(&mut self, held: HeldVisit, start: usize, size: usize)
         requires few { self.old.count < 64 }
         requires room { HasRoomForFile self.old.windows size }
         requires fits { start + size < 2 ^ 64 }
@@ -91,7 +91,7 @@ impl HeldFiles {
 }
 
 // Puts a file that is whole into the windows: where it begins there.
-fn firsts_of(windows: &mut Windows, held: Held, start: usize, size: usize) -> Firsts
+fn firsts_of(windows: &mut Windows, held: HeldVisit, start: usize, size: usize) -> Firsts
     requires room { HasRoomForFile windows.old size }
     requires fits { start + size < 2 ^ 64 }
     ensures whole { held ≡ kept.Whole → StandsAt windows.new result start size }
@@ -100,7 +100,7 @@ fn firsts_of(windows: &mut Windows, held: Held, start: usize, size: usize) -> Fi
         → start + size ≤ bytes → AreWithin t windows.new bytes }
 {
     match held {
-        Held::Whole => windows.push(start, size),
+        HeldVisit::Whole => windows.push(start, size),
         _ => Firsts::NONE,
     }
 }
@@ -116,7 +116,7 @@ pub(crate) fn look_ahead<S: Shelf, P: Pace>(
     room: &mut Vec<u8>,
     bits: &mut Vec<u8>,
     buffer: &mut [u8],
-) -> Ahead
+) -> VerdictsAhead
     requires some { 0 < length buffer.old }
     requires from { from ≤ length torrent.now.files }
     requires none { bits.old.items ≡ [] }
@@ -176,7 +176,7 @@ fn judge_files(
     room: &[u8],
     bits: &mut Vec<u8>,
     buffer: &mut [u8],
-) -> Ahead
+) -> VerdictsAhead
     requires some { 0 < length buffer.old }
     requires few { from + held.now.count ≤ length torrent.now.files }
     requires kept { length held.now.kept ≡ 64 }
@@ -189,7 +189,7 @@ fn judge_files(
     ensures none { bits.new.items ≡ [] }
 {
     let entries = torrent.files();
-    let mut ahead = Ahead::none();
+    let mut ahead = VerdictsAhead::none();
     'files: for k in 0..held.count {
         let file = &entries[from + k];
         let kept = held.kept[k];

@@ -11,7 +11,7 @@ use opening::{File, Torrent};
 
 /// What the visit of a file gave whose bytes are held.
 #[derive(Clone, Copy)]
-pub(crate) enum Held {
+pub(crate) enum HeldVisit {
     /// Nothing has its name.
     Missing,
     /// Its opening or a read failed.
@@ -30,7 +30,7 @@ pub(crate) fn hold_file<S: Shelf>(
     file: &File<'_>,
     room: &mut Vec<u8>,
     at: usize,
-) -> Held
+) -> HeldVisit
     requires file { IsFileOf torrent.now (file_entry file.now) }
     requires fits { at + file.now.length + 1 ≤ length room.old.items }
     ensures promises { Promises S.Shelf S.File.seen torrent.now shelf.old (file_entry file.now)
@@ -48,19 +48,19 @@ pub(crate) fn hold_file<S: Shelf>(
     *room = reader.room;
     match visited {
         Ok(Some(read)) => held_of(read, file.length as usize),
-        Ok(None) => Held::Missing,
-        Err(_) => Held::Unreadable,
+        Ok(None) => HeldVisit::Missing,
+        Err(_) => HeldVisit::Unreadable,
     }
 }
 
 // What is held of a file of this stated size, of which this many bytes were read.
-fn held_of(read: Result<usize, DeviceFault>, size: usize) -> Held
+fn held_of(read: Result<usize, DeviceFault>, size: usize) -> HeldVisit
     ensures { IsHeldFor read size result }
 {
     match read {
-        Ok(count) if count == size => Held::Whole,
-        Ok(_) => Held::Other,
-        Err(_) => Held::Unreadable,
+        Ok(count) if count == size => HeldVisit::Whole,
+        Ok(_) => HeldVisit::Other,
+        Err(_) => HeldVisit::Unreadable,
     }
 }
 

@@ -8,9 +8,9 @@ ghost use Rattle.opening.specs.Description.{Version1};
 ghost use Rattle.opening.specs.Seen.{file_entry};
 ghost use Rattle.parts.specs.Held.{IsFileJudged, IsJudgedGood, AreCutsGood, AreCutsWhole};
 ghost use Rattle.parts.specs.Windows.{AreHashed, StandsAt};
-ghost use Rattle.parts.specs.declared.held.Held.TheVariants as kept;
+ghost use Rattle.parts.specs.declared.held.HeldVisit.TheVariants as kept;
 
-use crate::held::{Held, HeldBytes};
+use crate::held::{HeldBytes, HeldVisit};
 use crate::places::{Span, piece_count};
 use crate::row::read_pieces;
 use crate::verdicts::Verdicts;
@@ -26,7 +26,7 @@ use pieces::V1;
 pub(crate) fn judge_held(
     torrent: &Torrent<'_>,
     file: &File<'_>,
-    held: Held,
+    held: HeldVisit,
     windows: &Windows,
     firsts: Firsts,
     room: &[u8],
@@ -45,10 +45,10 @@ pub(crate) fn judge_held(
     ensures none { bits.new.items ≡ [] }
 {
     match held {
-        Held::Missing => Verdicts::not_whole(FileVerdict::Missing),
-        Held::Unreadable => Verdicts::not_whole(FileVerdict::Unreadable),
-        Held::Other => Verdicts::not_whole(FileVerdict::WrongLength),
-        Held::Whole => {
+        HeldVisit::Missing => Verdicts::not_whole(FileVerdict::Missing),
+        HeldVisit::Unreadable => Verdicts::not_whole(FileVerdict::Unreadable),
+        HeldVisit::Other => Verdicts::not_whole(FileVerdict::WrongLength),
+        HeldVisit::Whole => {
             if file.length > 0 && is_good(torrent, file, windows, firsts, room, start) {
                 return Verdicts::of_other();
             }

@@ -1,5 +1,5 @@
 //! What the parts of a check make together. A function that calls one of these knows its law.
-ghost use Rattle.parts.specs.Laws.{PartWordsAreTexts, PartsMakeTheReport, PlacesAreTested, ReportIsOne, SharesHaveAllPlaces, WorseJoins, WorseJoinsV1, YesOfParts};
+ghost use Rattle.parts.specs.Laws.{PartsMakeTheReport, PlacesAreTested, ReportIsOne, SharesHaveAllPlaces, WorseJoins, WorseJoinsV1, YesOfParts};
 
 /// Parts that together have all places of a torrent, and are true of the same contents, make the
 /// report that a check gives of them, or a collision is named.
@@ -26,12 +26,6 @@ pub fn worse_joins()
 /// The shares of all parts have all places between them.
 pub fn shares_have_all_places()
     ensures { SharesHaveAllPlaces }
-{}
-
-/// The lines of a part's report, as rows of the table of lines that go out as text, are those that
-/// are printed.
-pub fn part_words_are_texts()
-    ensures { PartWordsAreTexts }
 {}
 
 /// A file has the line of a part's report exactly if it has a place in the part.

@@ -19,12 +19,9 @@ mod whole;
 mod windows;
 
 pub use lines::OutFault as CheckFault;
-pub use part::{check_part, check_part_with_bad_pieces, say_check_part_with_bad_pieces};
-pub use part_lines::{print_part, say_part, strip_answer};
+pub use part::{check_part, say_check_part_with_bad_pieces};
+pub use part_lines::{say_part, strip_answer};
 pub use places::{Places, piece_count, touches};
 pub use telling::{Telling, has_runs, say_run, strip_run};
 pub use verdicts::{join, worse, worse_v1};
-pub use whole::{
-    check, check_onto, check_with_bad_pieces, say_check, say_check_at_pace,
-    say_check_with_bad_pieces,
-};
+pub use whole::{check, say_check, say_check_with_bad_pieces};

@@ -6,11 +6,11 @@ ghost use Rattle.benc.specs.Device.{Wrote};
 ghost use Rattle.folders.specs.Verdicts.{IsFileOf};
 ghost use Rattle.lines.specs.Reading.{BeginsWith};
 ghost use Rattle.lines.specs.Table.{row_of};
+ghost use Rattle.lines.specs.Texts.{text_of};
 ghost use Rattle.opening.specs.Seen.{file_entry};
 ghost use Rattle.parts.specs.Parts.{piece_count as pieces_in};
-ghost use Rattle.parts.specs.Runs.{WritesRuns, run_text};
+ghost use Rattle.parts.specs.Runs.{WritesRuns, run_row};
 ghost use Rattle.parts.specs.Telling.{IsMostPieces, NeedsBits, TellsFile, TellsNothing, has_runs};
-ghost use Rattle.parts.specs.Words.{words_as, run_row};
 ghost use Rattle.parts.specs.declared.telling.Telling.TheVariants as telling;
 
 use crate::places::{Places, piece_count, span_of};
@@ -64,8 +64,8 @@ impl Telling {
         requires file { IsFileOf torrent.now (file_entry file.now) }
         requires room { NeedsBits self → pieces_in torrent.now (file_entry file.now)
             ≤ 8 * length bits.now }
-        ensures tells { TellsFile (words_as L.spelled) torrent.now self (file_entry file.now)
-            verdict bits.now (L.seen out.old) (L.seen out.new) result }
+        ensures tells { TellsFile L.spelled torrent.now self (file_entry file.now) verdict
+            bits.now (L.seen out.old) (L.seen out.new) result }
         ensures some { OnErr result (TellsNothing self → ⊥) }
     {
         match self {
@@ -96,7 +96,7 @@ fn say_marked<L: LineSink>(
 ) -> Result<(), DeviceFault>
     requires file { IsFileOf torrent.now (file_entry file.now) }
     requires room { pieces_in torrent.now (file_entry file.now) ≤ 8 * length bits.now }
-    ensures { TellsFile (words_as L.spelled) torrent.now (telling.RunsIn places)
+    ensures { TellsFile L.spelled torrent.now (telling.RunsIn places)
         (file_entry file.now) verdict bits.now (L.seen out.old) (L.seen out.new) result }
 {
     let Some(span) = span_of(torrent, file, places) else {
@@ -142,7 +142,7 @@ fn say_runs<L: LineSink>(
     requires file { IsFileOf torrent.now (file_entry file.now) }
     requires order { from ≤ to }
     requires inside { to ≤ pieces_in torrent.now (file_entry file.now) }
-    ensures { WritesRuns (words_as L.spelled).run torrent.now (file_entry file.now) from to bits.now
+    ensures { WritesRuns L.spelled torrent.now (file_entry file.now) from to bits.now
         (L.seen out.old) (L.seen out.new) result }
 {
     torrent.recall_sound();
@@ -197,8 +197,8 @@ pub fn strip_run<'a>(
     requires file { IsFileOf torrent.now (file_entry file.now) }
     requires some { from < to }
     requires inside { to ≤ pieces_in torrent.now (file_entry file.now) }
-    ensures { let line = run_text torrent.now (file_entry file.now)
-        (record { first = from; last = to - 1 }) in
+    ensures { let line = text_of (run_row torrent.now (file_entry file.now)
+        (record { first = from; last = to - 1 })) in
         MatchOption result (BeginsWith line text.now → ⊥) (λ rest. text.now ≡ line ++ rest.now) }
 {
     strip_line(&line_of(torrent, file, from, to, &file.path.parts()), text)

@@ -115,7 +115,7 @@ pub(crate) const MOST: usize = 64;
 
 /// Verdicts on the files that come next, which were visited and judged together.
 #[derive(Drop)]
-pub(crate) struct Ahead {
+pub(crate) struct VerdictsAhead {
     verdicts: [Verdicts; MOST],
     next: usize,
     count: usize,
@@ -123,15 +123,15 @@ pub(crate) struct Ahead {
     ghost few: { count ≤ 64 },
 }
 
-impl Ahead {
+impl VerdictsAhead {
     ghost use Rattle.parts.specs.Batches.{left};
 
     /// None.
-    pub(crate) fn none() -> Ahead
+    pub(crate) fn none() -> VerdictsAhead
         ensures none { left result ≡ [] }
         ensures count { result.count ≡ 0 }
     {
-        Ahead {
+        VerdictsAhead {
             verdicts: [Verdicts::not_whole(FileVerdict::Missing); MOST],
             next: 0,
             count: 0,

@@ -9,7 +9,6 @@ ghost use Rattle.parts.specs.Checking.{shelf_and_sink};
 ghost use Rattle.parts.specs.Parts.{piece_count};
 ghost use Rattle.parts.specs.Rooms.{IsRoomFor};
 ghost use Rattle.parts.specs.Visiting.{EndsVisits, TellsOwn};
-ghost use Rattle.parts.specs.Words.{words_as};
 
 use crate::room::{Room, buffer_of};
 use crate::telling::Telling;
@@ -70,7 +69,7 @@ pub(crate) fn visit_files<S, V: Visitor<S>, L: LineSink>(
 ) -> Result<Report, DeviceFault>
     requires room { IsRoomFor torrent.now telling room }
     requires own { TellsOwn (V.visiting visitor.now torrent.now) torrent.now telling }
-    ensures ends { EndsVisits (V.visiting visitor.now torrent.now) (words_as L.spelled)
+    ensures ends { EndsVisits (V.visiting visitor.now torrent.now) L.spelled
         torrent.now telling (shelf_and_sink shelf.old (L.seen out.old))
         (shelf_and_sink shelf.new (L.seen out.new)) result }
     ensures stays { (V.visiting visitor.now torrent.now).contents shelf.new

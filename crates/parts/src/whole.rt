@@ -3,20 +3,18 @@
 ghost use Rattle.std.specs.Prelude.{◌≡◌, IfOk, OnErr, IfErr};
 ghost use Rattle.benc.specs.Device.{SentAndFlushed};
 ghost use Rattle.chains.specs.Chain.{Chain};
-ghost use Rattle.folders.specs.Printed.{report_as, report_text};
-ghost use Rattle.folders.specs.Said.{worded};
+ghost use Rattle.folders.specs.Printed.{report_rows};
 ghost use Rattle.folders.specs.Shelf.{more};
-ghost use Rattle.folders.specs.Stopping.{BreaksOff, BreaksOffAs};
+ghost use Rattle.folders.specs.Stopping.{BreaksOffAs};
 ghost use Rattle.folders.specs.Verdicts.{HasVerdicts, IsTrueOfFolder, unreadable_count};
 ghost use Rattle.folders.specs.Visits.{Visits};
-ghost use Rattle.parts.specs.Checking.{ChecksAndPrints, ChecksAndSays, shelf_and_sink};
+ghost use Rattle.lines.specs.Rows.{spell};
+ghost use Rattle.parts.specs.Checking.{ChecksAndSays, shelf_and_sink};
 ghost use Rattle.parts.specs.Telling.{TellsWhole};
-ghost use Rattle.parts.specs.Words.{words_as};
 ghost use Rattle.parts.specs.declared.telling.Telling.TheVariants as telling;
 
 use crate::all_files::visit_whole;
 use crate::telling::Telling;
-use benc::Sink;
 use folders::{Lines, NoMemory, Pace, Report, Shelf, Unhurried, say_end};
 use lines::{LineSink, Nowhere, OutFault as CheckFault, finish_after};
 use opening::Torrent;
@@ -58,10 +56,12 @@ pub fn check<S: Shelf>(
     }
 }
 
-/// Checks that the shelf holds the torrent's files, as `check` does, and writes the lines that are
-/// wanted: each file's as soon as the file is done, or the small files that are read with it, and
-/// at last what `print_report` writes behind them. Then it flushes once. All lines together are
-/// those of `print_report`, less those that are not wanted.
+/// Checks that the shelf holds the torrent's files, as `check` does, and says the lines that are
+/// wanted, to anything that takes lines: each file's as soon as the file is done, or the small
+/// files that are read with it, and at last what `print_report` writes behind them. Then it flushes
+/// once. All lines together are those of `print_report`, less those that are not wanted. Small
+/// files are read together only as long as the pace lets their lines wait; what is said, and in
+/// which order, does not depend on the pace.
 ///
 /// # Errors
 ///
@@ -69,82 +69,7 @@ pub fn check<S: Shelf>(
 /// written. `Write`: the sink failed in a file's line, behind all those of the files before it, and
 /// at most 63 files behind it were visited, which are read with it; or it failed behind the last
 /// file's line or at the flush.
-pub fn check_onto<S: Shelf, W: Sink>(
-    alloc: Global,
-    torrent: &Torrent<'_>,
-    shelf: &mut S,
-    lines: Lines,
-    out: &mut W,
-) -> Result<Report, CheckFault>
-    ensures verdicts { IfOk result (λ r. HasVerdicts torrent.now r.files.items r.v1) }
-    ensures are_true { IfOk result (λ r.
-        IsTrueOfFolder torrent.now (S.contents shelf.old).under r.files.items r.v1) }
-    ensures once { IfOk result (λ r. Chain (Visits S.Shelf S.File.seen torrent.now) shelf.old
-        torrent.now.files r.files.items shelf.new) }
-    ensures unreadable { IfOk result (λ r.
-        S.faults shelf.new ≡ more (S.faults shelf.old) (unreadable_count r.files.items)) }
-    ensures readable { IfOk result (λ r.
-        S.faults shelf.new ≡ S.faults shelf.old → unreadable_count r.files.items ≡ 0) }
-    ensures report { IfOk result (λ r. SentAndFlushed (W.seen out.old) (W.seen out.new)
-        (report_text lines torrent.now.files r.files.items r.v1)) }
-    ensures cut { IfErr result (λ e. e ≡ CheckFault.Write → BreaksOff S.Shelf S.File.seen
-        torrent.now shelf.old lines (W.seen out.old) (W.seen out.new) shelf.new) }
-    ensures in_turn { ChecksAndPrints S.Shelf S.File.seen torrent.now (telling.Line lines) lines
-        (shelf_and_sink shelf.old (W.seen out.old)) (shelf_and_sink shelf.new (W.seen out.new))
-        result }
-    ensures no_memory { IfErr result (λ e. e ≡ CheckFault.NoMemory → shelf.new ≡ shelf.old) }
-    ensures silent { IfErr result (λ e. e ≡ CheckFault.NoMemory
-        → W.seen out.new ≡ W.seen out.old) }
-    ensures stays { S.contents shelf.new ≡ S.contents shelf.old }
-{
-    say_check(alloc, torrent, shelf, lines, out)
-}
-
-/// The same, but the lines go to anything that takes lines, spelled as it spells them: as texts, or
-/// as JSON objects.
-///
-/// # Errors
-///
-/// As for `check_onto`.
-pub fn say_check<S: Shelf, L: LineSink>(
-    alloc: Global,
-    torrent: &Torrent<'_>,
-    shelf: &mut S,
-    lines: Lines,
-    out: &mut L,
-) -> Result<Report, CheckFault>
-    ensures verdicts { IfOk result (λ r. HasVerdicts torrent.now r.files.items r.v1) }
-    ensures are_true { IfOk result (λ r.
-        IsTrueOfFolder torrent.now (S.contents shelf.old).under r.files.items r.v1) }
-    ensures once { IfOk result (λ r. Chain (Visits S.Shelf S.File.seen torrent.now) shelf.old
-        torrent.now.files r.files.items shelf.new) }
-    ensures unreadable { IfOk result (λ r.
-        S.faults shelf.new ≡ more (S.faults shelf.old) (unreadable_count r.files.items)) }
-    ensures readable { IfOk result (λ r.
-        S.faults shelf.new ≡ S.faults shelf.old → unreadable_count r.files.items ≡ 0) }
-    ensures report { IfOk result (λ r. SentAndFlushed (L.seen out.old) (L.seen out.new)
-        (report_as (worded L.spelled) lines torrent.now.files r.files.items r.v1)) }
-    ensures cut { IfErr result (λ e. e ≡ CheckFault.Write → BreaksOffAs S.Shelf S.File.seen
-        (worded L.spelled) torrent.now shelf.old lines (L.seen out.old) (L.seen out.new)
-        shelf.new) }
-    ensures in_turn { ChecksAndSays S.Shelf S.File.seen (words_as L.spelled) torrent.now
-        (telling.Line lines) lines (shelf_and_sink shelf.old (L.seen out.old))
-        (shelf_and_sink shelf.new (L.seen out.new)) result }
-    ensures no_memory { IfErr result (λ e. e ≡ CheckFault.NoMemory → shelf.new ≡ shelf.old) }
-    ensures silent { IfErr result (λ e. e ≡ CheckFault.NoMemory
-        → L.seen out.new ≡ L.seen out.old) }
-    ensures stays { S.contents shelf.new ≡ S.contents shelf.old }
-{
-    say_check_at_pace(alloc, torrent, shelf, lines, &mut Unhurried, out)
-}
-
-/// The same, but small files are read together only as long as the pace lets their lines wait. What
-/// is said, and in which order, does not depend on the pace.
-///
-/// # Errors
-///
-/// As for `check_onto`.
-pub fn say_check_at_pace<S: Shelf, L: LineSink, P: Pace>(
+pub fn say_check<S: Shelf, L: LineSink, P: Pace>(
     alloc: Global,
     torrent: &Torrent<'_>,
     shelf: &mut S,
@@ -162,11 +87,10 @@ pub fn say_check_at_pace<S: Shelf, L: LineSink, P: Pace>(
     ensures readable { IfOk result (λ r.
         S.faults shelf.new ≡ S.faults shelf.old → unreadable_count r.files.items ≡ 0) }
     ensures report { IfOk result (λ r. SentAndFlushed (L.seen out.old) (L.seen out.new)
-        (report_as (worded L.spelled) lines torrent.now.files r.files.items r.v1)) }
+        (spell L.spelled (report_rows lines torrent.now.files r.files.items r.v1))) }
     ensures cut { IfErr result (λ e. e ≡ CheckFault.Write → BreaksOffAs S.Shelf S.File.seen
-        (worded L.spelled) torrent.now shelf.old lines (L.seen out.old) (L.seen out.new)
-        shelf.new) }
-    ensures in_turn { ChecksAndSays S.Shelf S.File.seen (words_as L.spelled) torrent.now
+        L.spelled torrent.now shelf.old lines (L.seen out.old) (L.seen out.new) shelf.new) }
+    ensures in_turn { ChecksAndSays S.Shelf S.File.seen L.spelled torrent.now
         (telling.Line lines) lines (shelf_and_sink shelf.old (L.seen out.old))
         (shelf_and_sink shelf.new (L.seen out.new)) result }
     ensures no_memory { IfErr result (λ e. e ≡ CheckFault.NoMemory → shelf.new ≡ shelf.old) }
@@ -185,13 +109,14 @@ pub fn say_check_at_pace<S: Shelf, L: LineSink, P: Pace>(
     )
 }
 
-/// Checks that the shelf holds the torrent's files, as `check` does, and writes the lines that are
-/// wanted: each file's as soon as the file is done, and behind the line of one that is bad or has
-/// another length the line `bad pieces FIRST LAST bytes FROM-TO` of each maximal run of its pieces
-/// that are bad (BEP 52, "pieces root", "piece layers"), in ascending order. FIRST and LAST are the
-/// torrent's numbers of pieces, FROM and TO offsets in the file, both included. A piece that the
-/// content does not have whole is bad; what lies after the file's stated length is no piece. At
-/// last it writes what `print_report` writes behind the files' lines, and flushes once.
+/// Checks that the shelf holds the torrent's files, as `check` does, and says the lines that are
+/// wanted, to anything that takes lines: each file's as soon as the file is done, and behind the
+/// line of one that is bad or has another length the line `bad pieces FIRST LAST bytes FROM-TO` of
+/// each maximal run of its pieces that are bad (BEP 52, "pieces root", "piece layers"), in
+/// ascending order. FIRST and LAST are the torrent's numbers of pieces, FROM and TO offsets in the
+/// file, both included. A piece that the content does not have whole is bad; what lies after the
+/// file's stated length is no piece. At last it says what `print_report` writes behind the files'
+/// lines, and flushes once.
 ///
 /// Each file is opened and read once, as by `check`. What it cannot do without is taken before the
 /// first path is opened: memory for the report, and a bit for each piece of the file that has the
@@ -202,26 +127,6 @@ pub fn say_check_at_pace<S: Shelf, L: LineSink, P: Pace>(
 /// `NoMemory`: nothing was opened or written. `Write`: the sink failed. What the files before print
 /// went out, and a prefix of what this file prints; no later file was opened. Or it failed behind
 /// the last file.
-pub fn check_with_bad_pieces<S: Shelf, W: Sink>(
-    alloc: Global,
-    torrent: &Torrent<'_>,
-    shelf: &mut S,
-    lines: Lines,
-    out: &mut W,
-) -> Result<Report, CheckFault>
-    ensures checks { ChecksAndPrints S.Shelf S.File.seen torrent.now (telling.LineAndRuns lines)
-        lines (shelf_and_sink shelf.old (W.seen out.old))
-        (shelf_and_sink shelf.new (W.seen out.new)) result }
-    ensures stays { S.contents shelf.new ≡ S.contents shelf.old }
-{
-    say_check_with_bad_pieces(alloc, torrent, shelf, lines, out)
-}
-
-/// The same, but the lines go to anything that takes lines, spelled as it spells them.
-///
-/// # Errors
-///
-/// As for `check_with_bad_pieces`.
 pub fn say_check_with_bad_pieces<S: Shelf, L: LineSink>(
     alloc: Global,
     torrent: &Torrent<'_>,
@@ -229,7 +134,7 @@ pub fn say_check_with_bad_pieces<S: Shelf, L: LineSink>(
     lines: Lines,
     out: &mut L,
 ) -> Result<Report, CheckFault>
-    ensures checks { ChecksAndSays S.Shelf S.File.seen (words_as L.spelled) torrent.now
+    ensures checks { ChecksAndSays S.Shelf S.File.seen L.spelled torrent.now
         (telling.LineAndRuns lines) lines (shelf_and_sink shelf.old (L.seen out.old))
         (shelf_and_sink shelf.new (L.seen out.new)) result }
     ensures stays { S.contents shelf.new ≡ S.contents shelf.old }
@@ -258,7 +163,7 @@ fn say_files<S: Shelf, L: LineSink, P: Pace>(
     out: &mut L,
 ) -> Result<Report, CheckFault>
     requires whole { TellsWhole telling }
-    ensures checks { ChecksAndSays S.Shelf S.File.seen (words_as L.spelled) torrent.now telling
+    ensures checks { ChecksAndSays S.Shelf S.File.seen L.spelled torrent.now telling
         lines (shelf_and_sink shelf.old (L.seen out.old))
         (shelf_and_sink shelf.new (L.seen out.new)) result }
     ensures stays { S.contents shelf.new ≡ S.contents shelf.old }

@@ -21,6 +21,9 @@ use std::fs::File;
 // What was listed, in order, or the exit status of a refusal.
 type Listed = Result<Vec<Vec<String>>, u8>;
 
+// The text of a part's hashes, or the exit status of a refusal.
+type Hashed = Result<Vec<u8>, u8>;
+
 /// Hashes one part of the files of a folder or of a file, and writes what it found. What is no glob
 /// is refused before anything is read. Gives the exit status.
 pub(crate) fn perform_create_part<'a>(
@@ -52,7 +55,8 @@ fn part_of_all<'a, 's, W: Sink>(
         .choosing(choice_of(asked))
         .read_in_part();
     let paths = list(system, asked, &mut folder, out)?;
-    hash_listed(system, asked, part, paths, &mut folder, progress, out)
+    let hashed = hash_listed(system, asked, part, paths, &mut folder, out)?;
+    write_part(system, asked, hashed, progress)
 }
 
 // Without the files that the globs leave out.
@@ -71,7 +75,8 @@ fn part_without<'a, 's, W: Sink>(
         .read_in_part()
         .without(globs);
     let (paths, mut folder) = list_without(system, asked, folder, globs, out)?;
-    hash_listed(system, asked, part, paths, &mut folder, progress, out)
+    let hashed = hash_listed(system, asked, part, paths, &mut folder, out)?;
+    write_part(system, asked, hashed, progress)
 }
 
 // Lists a shelf without the files that the globs leave out, and gives the shelf back.
@@ -103,33 +108,28 @@ fn list<'a, S: Shelf, W: Sink>(
     creations::list_files(system.alloc(), &create, shelf, out)
 }
 
-// Hashes one part of what was listed, and writes what it found. Where all is left out there is
-// nothing to write.
+// Hashes one part of what was listed. Where all is left out there is nothing to hash.
 fn hash_listed<'a, W: Sink>(
     system: &System,
     asked: &NewTorrent<'a>,
     part: NumberedPart,
     paths: Listed,
     folder: &mut Folder<'_>,
-    progress: &Progress,
     out: &mut W,
-) -> Result<u8, Fault<'a>> {
+) -> Result<Hashed, Fault<'a>> {
     let paths = match paths {
         Ok(paths) => paths,
-        Err(status) => return Ok(status),
+        Err(status) => return Ok(Err(status)),
     };
     if paths.is_empty() && may_leave_out(asked) {
-        return outcomes::refuse(&Refusal::NoFiles, &[], out);
+        return Ok(Err(outcomes::refuse(&Refusal::NoFiles, &[], out)?));
     }
     if is_below(system, folder_of(asked.origin), paths.as_slice(), asked.out)? {
         system.note(Cause::IsInput);
         return Err(Fault::Write(asked.out));
     }
     let listing = listing_of(system, asked, paths)?;
-    match creations::hash_part(system.alloc(), &listing, folder, part, out)? {
-        Ok(text) => write_part(system, asked, text.as_slice(), progress),
-        Err(status) => Ok(status),
-    }
+    creations::hash_part(system.alloc(), &listing, folder, part, out)
 }
 
 // What is written of what was listed.
@@ -155,16 +155,21 @@ fn listing_of(
     })
 }
 
-// The part's file is opened once its files are hashed, and stays untouched if one is not read.
+// Writes the hashes of a part. Its file is opened once they are known, and stays untouched if one
+// of the files that they are of is not read.
 fn write_part<'a>(
     system: &System,
     asked: &NewTorrent<'a>,
-    text: &[u8],
+    hashed: Hashed,
     progress: &Progress,
 ) -> Result<u8, Fault<'a>> {
+    let text = match hashed {
+        Ok(text) => text,
+        Err(status) => return Ok(status),
+    };
     let file = open_part(system, asked)?;
     let mut written = Cleared::new(FromWrite::new(Noted::new(file, system)), progress);
-    creations::write_part(text, asked.out, &mut written)
+    creations::write_part(text.as_slice(), asked.out, &mut written)
 }
 
 // The part's file.

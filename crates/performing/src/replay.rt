@@ -1,6 +1,6 @@
 //! `replay`: which messages of a record are right.
 use crate::folder_hints::hint_at_folder;
-use crate::holding::hold_onto;
+use crate::holding::{OpenRecord, hold_onto};
 use crate::printed::{buffered_output, refuse, say_to};
 use crate::refused_counts::RefusedCounts;
 use crate::replay_summary::print_replayed;
@@ -9,6 +9,7 @@ use crate::torrent_file::{open_torrent, read_torrent};
 use crate::watched::Watched;
 use actions::Replay;
 use benc::{FromRead, FromWrite, Sink};
+use commands::answer_sink::AnswerSink;
 use commands::outcomes;
 use lines::LineSink;
 use opening::Torrent;
@@ -78,7 +79,12 @@ fn replay_file<'a, L: LineSink>(
     let answers = answers_file(system, torrent, asked, progress)?;
     let mut session = outcomes::new_session(system.alloc(), torrent, asked.info_only)?;
     seed(system, torrent, asked, progress, &mut session, out)?;
-    let status = judge(system, torrent, asked, &mut session, file, out, answers)?;
+    let record = OpenRecord {
+        file,
+        padded: asked.padded,
+        answers,
+    };
+    let status = judge(system, torrent, asked, &mut session, record, out)?;
     if asked.summary {
         progress.clear();
         print_replayed(system, &session, *out.watch())?;
@@ -92,15 +98,14 @@ fn judge<'a, L: LineSink>(
     torrent: &Torrent<'_>,
     asked: &Replay<'a>,
     session: &mut Session<'_, Paged>,
-    file: File,
+    record: OpenRecord<'a>,
     out: &mut L,
-    answers: Option<(&'a str, File)>,
 ) -> Result<u8, Fault<'a>> {
     if asked.pieces {
         let longest = torrent.piece_length() / BLOCK;
-        return hold_onto(system, session, longest, file, asked.padded, out, answers);
+        return hold_onto(system, session, longest, record, out);
     }
-    replay_onto(system, session, file, asked.padded, out, answers)
+    replay_onto(system, session, record, out)
 }
 
 // Fills the session from the folder, if there is one, and tells on standard error if another one
@@ -116,7 +121,8 @@ fn seed<'a, L: LineSink>(
     let Some(dir) = asked.seed else {
         return Ok(());
     };
-    seed_from(system, torrent, dir, asked.json, progress, session, out)?;
+    let mut folder = Folder::with_torrent(system, dir, torrent, progress);
+    seed_from(system, &mut folder, asked.json, progress, session, out)?;
     progress.clear();
     hint_at_folder(system, torrent, dir, &["try --seed"]);
     Ok(())
@@ -126,21 +132,19 @@ fn seed<'a, L: LineSink>(
 // record is read; on a terminal line by line, at its pace.
 fn seed_from<'a, L: LineSink>(
     system: &System,
-    torrent: &Torrent<'_>,
-    dir: &str,
+    folder: &mut Folder<'_>,
     json: bool,
     progress: &Progress,
     session: &mut Session<'_, Paged>,
     out: &mut L,
 ) -> Result<(), Fault<'a>> {
-    let mut folder = Folder::with_torrent(system, dir, torrent, progress);
     let mut pace = TerminalPace::new(system);
     let Some(buffered) = buffer_for_seeds(system) else {
-        return seed_onto(system, session, &mut folder, &mut pace, out);
+        return seed_onto(system, session, folder, &mut pace, out);
     };
     let cleared = Cleared::new(buffered, progress);
     say_to!(json, cleared, lines => {
-        seed_onto(system, session, &mut folder, &mut pace, &mut lines)
+        seed_onto(system, session, folder, &mut pace, &mut lines)
     })
 }
 
@@ -167,25 +171,17 @@ fn buffer_for_seeds<'s>(system: &'s System) -> Option<FromWrite<BufWriter<Output
 fn replay_onto<'a, L: LineSink>(
     system: &System,
     session: &mut Session<'_, Paged>,
-    record: File,
-    padded: bool,
+    record: OpenRecord<'a>,
     out: &mut L,
-    answers: Option<(&'a str, File)>,
 ) -> Result<u8, Fault<'a>> {
-    let mut source = FromRead::new(Noted::new(record, system));
-    match answers {
-        None => outcomes::replay(system.alloc(), session, &mut source, out, padded),
+    let (alloc, cuts) = (system.alloc(), record.padded);
+    let mut source = FromRead::new(Noted::new(record.file, system));
+    match record.answers {
+        None => outcomes::replay(alloc, session, &mut source, out, cuts),
         Some((path, file)) => {
-            let mut answers = FromWrite::new(Noted::new(file, system));
-            outcomes::replay_and_answer(
-                system.alloc(),
-                session,
-                &mut source,
-                out,
-                padded,
-                path,
-                &mut answers,
-            )
+            let sink = FromWrite::new(Noted::new(file, system));
+            let mut answers = AnswerSink { path, sink };
+            outcomes::replay_and_answer(alloc, session, &mut source, out, cuts, &mut answers)
         }
     }
 }

@@ -1,6 +1,6 @@
 //! The lengths of files that are of a wrong length.
 use crate::watched::Watch;
-use lines::Part;
+use lines::{Checked, Line};
 use opening::{File, Torrent};
 use real_files::{Progress, System, print_lengths};
 
@@ -47,12 +47,11 @@ impl<'a> ToldLengths<'a> {
 }
 
 impl Watch for ToldLengths<'_> {
-    fn see(&mut self, kind: &str, parts: &[Part<'_>]) {
-        if kind != "wrong length" || !self.system.shows_reasons() {
-            return;
-        }
-        if let Some(Part::Path(_, path)) = parts.last() {
-            self.tell(path);
+    fn see(&mut self, line: &Line<'_>) {
+        if let Line::Checked(Checked::WrongLength(path)) = *line {
+            if self.system.shows_reasons() {
+                self.tell(path);
+            }
         }
     }
 }

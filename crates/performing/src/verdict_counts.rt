@@ -1,6 +1,6 @@
 //! The verdicts of a check, counted.
 use crate::watched::Watch;
-use lines::Part;
+use lines::{Checked, Line};
 
 /// How many lines there were of each verdict on a file.
 #[derive(Clone, Copy, Drop)]
@@ -47,13 +47,16 @@ impl VerdictCounts {
 }
 
 impl Watch for VerdictCounts {
-    fn see(&mut self, kind: &str, _parts: &[Part<'_>]) {
-        let counted = match kind {
-            "good" => &mut self.good,
-            "missing" => &mut self.missing,
-            "unreadable" => &mut self.unreadable,
-            "wrong length" => &mut self.wrong_length,
-            "bad" => &mut self.bad,
+    fn see(&mut self, line: &Line<'_>) {
+        let Line::Checked(found) = line else {
+            return;
+        };
+        let counted = match found {
+            Checked::Good(_) => &mut self.good,
+            Checked::Missing(_) => &mut self.missing,
+            Checked::Unreadable(_) => &mut self.unreadable,
+            Checked::WrongLength(_) => &mut self.wrong_length,
+            Checked::Bad { .. } => &mut self.bad,
             _ => return,
         };
         *counted = counted.saturating_add(1);

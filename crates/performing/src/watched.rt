@@ -1,11 +1,11 @@
 //! Lines that are watched as they go by.
 use benc::DeviceFault;
-use lines::{LineSink, Part};
+use lines::{Line, LineSink};
 
 /// What sees lines go by.
 pub(crate) trait Watch {
-    /// Sees a line of this kind with these parts, before it is written.
-    fn see(&mut self, kind: &str, parts: &[Part<'_>]);
+    /// Sees a line before it is written.
+    fn see(&mut self, line: &Line<'_>);
 }
 
 /// What has the lines watched that are said to another one that takes lines.
@@ -32,9 +32,9 @@ impl<L: LineSink, V: Watch> LineSink for Watched<L, V> {
 
     ghost spelled = { L.spelled };
 
-    fn row(&mut self, kind: &'static str, parts: &[Part<'_>]) -> Result<(), DeviceFault> {
-        self.watch.see(kind, parts);
-        self.lines.row(kind, parts)
+    fn say(&mut self, line: &Line<'_>) -> Result<(), DeviceFault> {
+        self.watch.see(line);
+        self.lines.say(line)
     }
 
     fn finish(&mut self) -> Result<(), DeviceFault> {

@@ -12,21 +12,26 @@ use Rattle.pieces.proofs.Comparing.{first_bad_append, some_from}
 use Rattle.pieces.proofs.CutStreams.{HasTold, has_told}
 
 -- more bytes came, and the digest of one more cut was compared, or none
-pub fed_told : (f g : V1Feed) (pieces : List (List ℕ)) (n : ℕ) (content part : List ℕ) (digest : Option (List ℕ)) → IsFeedGiven f pieces n content
-    → f.bad ≡ None → TellsCut f.stream part digest g.stream → g.given ≡ f.given + length part → g.pieces ≡ f.pieces → g.cut ≡ f.cut + cuts_told digest
-    → (IsDigestOf digest n (content ++ part) f.cut → IsFirstBad n pieces (content ++ part) f.cut f.bad → IsFirstBad n pieces (content ++ part) g.cut g.bad)
-    → IsFeedGiven g pieces n (content ++ part)
-fed_told f g pieces n content part digest fed good tells more same_pieces next compared =
-    let now : HasTold g.stream n f.cut (content ++ part) digest =
-    has_told f.stream g.stream n f.cut content part digest tells fed.whole (fed.runs good) in
-    record {
-      given_is = omega (arith, fed.given_is, more, length-append content part);
-      pieces_are = ap (λ p. p.now) same_pieces ∙ fed.pieces_are;
-      piece_length_is = tells.piece_length ∙ fed.piece_length_is;
-      whole = subst (λ k. n * k ≤ length (content ++ part)) (sym next) now.whole;
-      bad_is = compared now.digest_is (first_bad_append n pieces content part f.cut f.bad fed.whole fed.bad_is);
-      runs = λ _. subst (λ k. Runs g.stream n (drop (n * k) (content ++ part))) (sym next) now.runs;
-    }
+pub feeds_told : (f g : V1Feed) (part : List ℕ) (digest : Option (List ℕ)) → f.bad ≡ None → TellsCut f.stream part digest g.stream
+    → g.total ≡ f.total → g.given ≡ f.given + length part → g.pieces ≡ f.pieces → g.cut ≡ f.cut + cuts_told digest
+    → ((pieces : List (List ℕ)) (n : ℕ) (content : List ℕ) → IsFeedGiven f pieces n content → IsDigestOf digest n (content ++ part) f.cut
+    → IsFirstBad n pieces (content ++ part) f.cut f.bad → IsFirstBad n pieces (content ++ part) g.cut g.bad)
+    → FeedsStream f part g
+feeds_told f g part digest good tells same_total more same_pieces next compared = record {
+  same_total = same_total;
+  given_is = more;
+  content = λ pieces n content fed.
+      let now : HasTold g.stream n f.cut (content ++ part) digest =
+      has_told f.stream g.stream n f.cut content part digest tells fed.whole (fed.runs good) in
+      record {
+        given_is = omega (arith, fed.given_is, more, length-append content part);
+        pieces_are = ap (λ p. p.now) same_pieces ∙ fed.pieces_are;
+        piece_length_is = tells.piece_length ∙ fed.piece_length_is;
+        whole = subst (λ k. n * k ≤ length (content ++ part)) (sym next) now.whole;
+        bad_is = compared pieces n content fed now.digest_is (first_bad_append n pieces content part f.cut f.bad fed.whole fed.bad_is);
+        runs = λ _. subst (λ k. Runs g.stream n (drop (n * k) (content ++ part))) (sym next) now.runs;
+      };
+}
 
 -- some bytes are counted, after a bad cut
 pub fed_skipped : (f g : V1Feed) (pieces : List (List ℕ)) (n : ℕ) (content more : List ℕ) → IsFeedGiven f pieces n content → is_some f.bad ≡ true

@@ -135,10 +135,10 @@ stands_next slots size piece stretch piece' stretch' content bound bound' next s
 
 -- ---- a step
 
-pub passing_step : (old new : Relay) (slots : ℕ → List ℕ) (size step whole : ℕ) (content : List ℕ)
+pub passing_step : (old new : Relay) (slots : ℕ → List ℕ) (size step : ℕ)
     → ((j : ℕ) → suc j < LANES → (m : List ℕ) → HasPassed old j m → HasPassed new (suc j) (m ++ slots (slot_of step j)))
-    → HasPassed new 0 [] → IsPassing old slots size step whole content → IsPassing new slots size (step + 1) whole content
-passing_step old new slots size step whole content passes begins passing = record {
+    → HasPassed new 0 [] → (whole : ℕ) (content : List ℕ) → IsPassing old slots size step whole content → IsPassing new slots size (step + 1) whole content
+passing_step old new slots size step passes begins whole content passing = record {
   within = passing.within;
   begins = begins;
   taken = taken_next;

@@ -12,7 +12,7 @@ use Rattle.wire.specs.declared.form.Form.{Form}
 use Rattle.wire.specs.Records.{Directed}
 use Rattle.holdings.specs.declared.run.Run.{Run}
 use Rattle.holdings.specs.Holdings.{HoldingsSeen}
-use Rattle.replays.specs.ByPieces.{TellsByPieces, by_pieces}
+use Rattle.replays.specs.ByPieces.{TellsByPieces, by_pieces_as}
 use Rattle.replays.specs.Replay.{Begins, Beside, Ends, Handles, HandlesButLast, IsCutReport, ReplaySeen, Replayed}
 use Rattle.replays.specs.ProvedLines.{AllProvedCame, CutLinesCame, FrameTold, HaveCome, IsToldOfFrame, ProvedFramesCame, ProvedLinesCame, frames_of, proved_of}
 use Rattle.replay_laws.proofs.Entries.{CameBefore}
@@ -24,14 +24,14 @@ use Rattle.replay_laws.proofs.Staying.{Stays, meets-stay, stays-same, stays-then
 abbrev pub Goes : Beside HoldingsSeen → Directed (List ℕ) → FrameTold → Beside HoldingsSeen → Type 0
 Goes x d h x' = (whole : Bool) × (stepped : SessionSeen) × Stays x.0 stepped × TellsByPieces whole h.frame h.report stepped x.1 h.told x'.0 x'.1
 
-handles-goes : (cuts wanted : Bool) (form : Form) (x : Beside HoldingsSeen) (d : Directed (List ℕ)) (h : FrameTold) (x' : Beside HoldingsSeen)
-    → Handles by_pieces cuts wanted form x d h x' → Goes x d h x'
-handles-goes cuts wanted form x d h x' (f, means, as', stepped, meets, tells) =
+handles-goes : (spelled : _) (cuts wanted : Bool) (form : Form) (x : Beside HoldingsSeen) (d : Directed (List ℕ)) (h : FrameTold)
+    (x' : Beside HoldingsSeen) → Handles (by_pieces_as spelled) cuts wanted form x d h x' → Goes x d h x'
+handles-goes spelled cuts wanted form x d h x' (f, means, as', stepped, meets, tells) =
     (true, stepped, meets-stay wanted form x.0 h.frame h.report h.answer stepped meets, tells)
 
-begins-goes : (cuts : Bool) (form : Form) (x : Beside HoldingsSeen) (d : Directed (List ℕ)) (h : FrameTold) (x' : Beside HoldingsSeen)
-    → Begins by_pieces cuts form x d h x' → Goes x d h x'
-begins-goes cuts form x d h x' (whole, f, means, as', stepped, meets, tells) =
+begins-goes : (spelled : _) (cuts : Bool) (form : Form) (x : Beside HoldingsSeen) (d : Directed (List ℕ)) (h : FrameTold) (x' : Beside HoldingsSeen)
+    → Begins (by_pieces_as spelled) cuts form x d h x' → Goes x d h x'
+begins-goes spelled cuts form x d h x' (whole, f, means, as', stepped, meets, tells) =
     (whole, stepped, meets-stay false form x.0 h.frame h.report [] stepped meets, tells)
 
 goes-stay : (x : Beside HoldingsSeen) (y : Directed (List ℕ)) (h : FrameTold) (x' : Beside HoldingsSeen) → Goes x y h x' → Stays x.0 x'.0
@@ -94,36 +94,37 @@ goes-came x ys hs x' run none closed i h is file r told = subst (λ n. HaveCome 
     zero_and : (j : ℕ) → j ≡ 0 + j
     zero_and j = omega arith
 
-module _ (old new : ReplaySeen HoldingsSeen) (none : old.state.1.pieces ≡ empty) (closed : HasClosedTrees new.state.0) where
+module _ (spelled : _) (old new : ReplaySeen HoldingsSeen) (none : old.state.1.pieces ≡ empty) (closed : HasClosedTrees new.state.0) where
   handled-goes : (form : Form) (frames : List (Directed (List ℕ))) (hs : List FrameTold) (x' : Beside HoldingsSeen)
-      → Chain (Handles by_pieces old.cuts (is_some old.answers) form) old.state frames hs x' → Chain Goes old.state frames hs x'
-  handled-goes form frames hs x' run = Chain-weaker (Handles by_pieces old.cuts (is_some old.answers) form) Goes
-      (handles-goes old.cuts (is_some old.answers) form) old.state frames hs x' run
+      → Chain (Handles (by_pieces_as spelled) old.cuts (is_some old.answers) form) old.state frames hs x' → Chain Goes old.state frames hs x'
+  handled-goes form frames hs x' run = Chain-weaker (Handles (by_pieces_as spelled) old.cuts (is_some old.answers) form) Goes
+      (handles-goes spelled old.cuts (is_some old.answers) form) old.state frames hs x' run
 
-  replayed-came : (hs : List FrameTold) (e : Option _) → Replayed by_pieces old new hs e → AllProvedCame hs new.state.0
+  replayed-came : (hs : List FrameTold) (e : Option _) → Replayed (by_pieces_as spelled) old new hs e → AllProvedCame hs new.state.0
   replayed-came hs e r = goes-came old.state r.frames hs new.state (handled-goes r.form r.frames hs new.state r.run) none closed
 
-  last-came : (before : List FrameTold) (last : FrameTold) → HandlesButLast by_pieces old new before last → AllProvedCame (before ++ last ∷ []) new.state.0
+  last-came : (before : List FrameTold) (last : FrameTold) → HandlesButLast (by_pieces_as spelled) old new before last
+      → AllProvedCame (before ++ last ∷ []) new.state.0
   last-came before last r = goes-came old.state (r.frames ++ r.directed ∷ []) (before ++ last ∷ []) new.state
       (Chain-more Goes old.state r.frames before r.state r.directed last new.state (handled-goes r.form r.frames before r.state r.run)
-      (begins-goes old.cuts r.form r.state r.directed last new.state r.step)) none closed
+      (begins-goes spelled old.cuts r.form r.state r.directed last new.state r.step)) none closed
 
-  ends-came : (hs : List FrameTold) (e : _) → Ends by_pieces old new hs e → AllProvedCame hs new.state.0
+  ends-came : (hs : List FrameTold) (e : _) → Ends (by_pieces_as spelled) old new hs e → AllProvedCame hs new.state.0
   ends-came hs e (inl r) = replayed-came hs (Some e) r
   ends-came hs e (inr u) = subst (λ fs. AllProvedCame fs new.state.0) (sym u.all) (last-came u.before u.last u.handles)
 
-  cut-came : (cut : IsCutReport by_pieces old new) → AllProvedCame (frames_of old new cut) new.state.0
+  cut-came : (cut : IsCutReport (by_pieces_as spelled) old new) → AllProvedCame (frames_of spelled old new cut) new.state.0
   cut-came (inl line) = last-came line.before line.last line.handles
   cut-came (inr (inl answer)) = replayed-came (answer.before ++ answer.last ∷ []) None answer.handles
   cut-came (inr (inr (inl ends))) = ends-came ends.handled ends.ending ends.ends
   cut-came (inr (inr (inr flush))) = ends-came flush.handled flush.ending flush.ends
 
 pub proved-frames_came : ProvedFramesCame
-proved-frames_came cuts wanted form old new frames handled run none closed = goes-came old frames handled new
-    (Chain-weaker (Handles by_pieces cuts wanted form) Goes (handles-goes cuts wanted form) old frames handled new run) none closed
+proved-frames_came spelled cuts wanted form old new frames handled run none closed = goes-came old frames handled new
+    (Chain-weaker (Handles (by_pieces_as spelled) cuts wanted form) Goes (handles-goes spelled cuts wanted form) old frames handled new run) none closed
 
 pub proved-lines_came : ProvedLinesCame
-proved-lines_came old new outcome report none closed = ends-came old new none closed report.handled report.ending report.ends
+proved-lines_came spelled old new outcome report none closed = ends-came spelled old new none closed report.handled report.ending report.ends
 
 pub cut-lines_came : CutLinesCame
-cut-lines_came old new cut none closed = cut-came old new none closed cut
+cut-lines_came spelled old new cut none closed = cut-came spelled old new none closed cut

@@ -4,7 +4,7 @@ use Rattle.std.proofs.Common.{sym, ap, ◌∙◌, subst, inl, inr}
 use Rattle.std.specs.Prelude.{is_some}
 use Rattle.std.specs.List.{list_any}
 use Rattle.std.proofs.lemmas.List.{append-nil}
-use Rattle.benc.specs.Device.{Sent}
+use Rattle.benc.specs.Device.{Sent, SinkSeen}
 use Rattle.benc.specs.declared.device.WriteFault.{WriteFault}
 use Rattle.benc.proofs.Known.{Appends_nothing}
 use Rattle.benc.proofs.Out.{Sent-append}
@@ -15,11 +15,11 @@ use Rattle.replays.specs.declared.report.Ending.TheVariants as ending
 use Rattle.replays.specs.declared.report.Outcome.{Outcome}
 use Rattle.replays.specs.Outcome.{is_fault}
 use Rattle.replays.specs.Telling.{Teller}
-use Rattle.replays.specs.TellingOf.{RespondsNext}
+use Rattle.replays.specs.TellingOf.{NextReply}
 use Rattle.replays.specs.declared.report.Reply.{Reply}
 use Rattle.lines.specs.declared.out_fault.OutFault.TheVariants as failed
 use Rattle.replays.specs.Answering.{Finishes, IfWanted, Replies}
-use Rattle.replays.specs.Replay.{Answered, Ends, EndsUnanswered, Handled, IsCutAtEnd}
+use Rattle.replays.specs.Replay.{Ends, EndsUnanswered, Handled, IsCutAtEnd}
 use Rattle.replays.specs.Replay.{IsCutInFlush, IsCutReport, IsReport, ReplaySeen, FindsEnding}
 use Rattle.replays.specs.Replay.{answers_of, last_lines_of, lines_from, told_of, unanswered}
 use Rattle.replays.proofs.Replies.{hashes_answer_requests, none_sent, same_wanted, sent_and_flushed, sent_unflushed}
@@ -27,19 +27,20 @@ use Rattle.replays.proofs.MoreFrames.{next_lines, any_more, outcome_same, sent_t
 use Rattle.replays.proofs.Sources.{replayed_nothing, replayed_ends}
 use Rattle.replays.proofs.Replays.{InReplay, but_last, begins_of, flat_one}
 
--- the report ends after these frames, all of whose lines and answers went out up to mid
-pub record InEnd {Kept Told : Type 0} (T : Teller Kept Told) (old mid new : ReplaySeen Kept) (e : Ending) (o : Outcome) : Type 0 where
+-- the report ends after these frames, all of whose lines and answers went out
+pub record InEnd {Kept Told : Type 0} (T : Teller Kept Told) (old : ReplaySeen Kept) (out : SinkSeen) (answers : Option SinkSeen) (new : ReplaySeen Kept)
+    (e : Ending) (o : Outcome) : Type 0 where
   pub handled : List (Handled Told)
   pub ends : Ends T old new handled e
-  pub sent : Sent old.report mid.report (lines_from T 1 handled)
-  pub answered : Answered old mid handled
+  pub sent : Sent old.report out (lines_from T 1 handled)
+  pub answered : IfWanted (λ a b. Sent a b (answers_of handled)) old.answers answers
   pub refused_is : o.refused ≡ list_any T.refuses (told_of handled)
   pub no_memory_is : o.no_memory ≡ list_any T.lacks_memory (told_of handled)
 
 -- no frame was read
 pub in_end_at_once : {Kept Told : Type 0} (T : Teller Kept Told) (old new : ReplaySeen Kept) (o : Outcome) → new.source ≡ old.source → new.state ≡ old.state
     → o.refused ≡ false → o.no_memory ≡ false
-    → InEnd T old old new (ending.Fault fault.NoMemory) o
+    → InEnd T old old.report old.answers new (ending.Fault fault.NoMemory) o
 in_end_at_once T old new o source session refused no_memory = record {
   handled = [];
   ends = inl (replayed_nothing T old new source session);
@@ -50,29 +51,26 @@ in_end_at_once T old new o source session refused no_memory = record {
 }
 
 -- the record has ended
-pub in_end_of_record : {Kept Told : Type 0} {T : Teller Kept Told} {old mid new : ReplaySeen Kept} {known : Option Form} {n : ℕ} {o : Outcome} {e : Ending}
-    → InReplay T old mid known n o
-    → FindsEnding known mid.source new.source e
-    → new.state ≡ mid.state → InEnd T old mid new e o
-in_end_of_record {Kept} {Told} {T} {old} {mid} {new} {known} {n} {o} {e} so_far next stays = record {
+pub in_end_of_record : {Kept Told : Type 0} {T : Teller Kept Told} {old mid new : ReplaySeen Kept} {out : SinkSeen} {known : Option Form} {n : ℕ}
+    {o o' : Outcome} {e : Ending} → InReplay T old mid known n o
+    → FindsEnding known mid.source new.source e × (new.state ≡ mid.state) × (out ≡ mid.report) × (o' ≡ o) → InEnd T old out mid.answers new e o'
+in_end_of_record {Kept} {Told} {T} {old} {mid} {new} {out} {known} {n} {o} {o'} {e} so_far (next, stays, silent, noted) = record {
   handled = so_far.handled;
   ends = inl (replayed_ends T known old mid new so_far.handled e so_far.so_far next stays);
-  sent = so_far.sent;
+  sent = subst (λ r. Sent old.report r (lines_from T 1 so_far.handled)) (sym silent) so_far.sent;
   answered = so_far.answered;
-  refused_is = so_far.refused_is;
-  no_memory_is = so_far.no_memory_is;
+  refused_is = ap (λ x. x.refused) noted ∙ so_far.refused_is;
+  no_memory_is = ap (λ x. x.no_memory) noted ∙ so_far.no_memory_is;
 }
 
 -- memory was refused for an answer, after its line
-pub in_end_unanswered : {Kept Told : Type 0} {T : Teller Kept Told} {old mid new : ReplaySeen Kept} {known : Option Form} {form : Form} {n : ℕ} {o : Outcome}
-    {told : Told} {r : Reply} (o' : Outcome)
-    (after : ReplaySeen Kept) → InReplay T old mid known n o
-    → RespondsNext T old.cuts known form mid.source new.source mid.state new.state told r → Sent mid.report after.report (T.lines (n + 1) told)
-    → Replies new.state.0 r mid.answers after.answers (Err failed.NoMemory)
-    → o'.refused ≡ (o.refused || T.refuses told) → o'.no_memory ≡ (o.no_memory || T.lacks_memory told)
-    → InEnd T old after new (ending.Fault fault.NoMemory) o'
+pub in_end_unanswered : {Kept Told : Type 0} {T : Teller Kept Told} {old mid new : ReplaySeen Kept} {out : SinkSeen} {answers : Option SinkSeen}
+    {known known' : Option Form} {n : ℕ} {o o' : Outcome} (r : Reply) → InReplay T old mid known n o
+    → NextReply T old.cuts n known known' mid (record new { report = out }) o o' (Ok r) → Replies new.state.0 r mid.answers answers (Err failed.NoMemory)
+    → InEnd T old out answers new (ending.Fault fault.NoMemory) o'
 unfolding begins_of
-in_end_unanswered {Kept} {Told} {T} {old} {mid} {new} {known} {form} {n} {o} {told} {r} o' after so_far next wrote (stays, there, ask, is) refused no_memory =
+in_end_unanswered {Kept} {Told} {T} {old} {mid} {new} {out} {answers} {known} {known'} {n} {o} {o'} r so_far (form, known_is, told, next, wrote, noted)
+    (stays, there, ask, is) =
     let h : Handled Told = unanswered next.frame next.report told in
     let hs = so_far.handled in
     let lines : lines_from T 1 (hs ++ h ∷ []) ≡ lines_from T 1 hs ++ T.lines (n + 1) told = next_lines T hs h n so_far.number_is in
@@ -89,66 +87,54 @@ in_end_unanswered {Kept} {Told} {T} {old} {mid} {new} {known} {form} {n} {o} {to
     record {
       handled = hs ++ h ∷ [];
       ends = inr cut;
-      sent = subst (Sent old.report after.report) (sym lines)
-          (Sent-append old.report mid.report after.report (lines_from T 1 hs) (T.lines (n + 1) told) so_far.sent wrote);
-      answered = subst (λ t. IfWanted (λ a b. Sent a b t) old.answers after.answers) (sym (flat_one hs h ∙ append-nil (answers_of hs)))
+      sent = subst (Sent old.report out) (sym lines)
+          (Sent-append old.report mid.report out (lines_from T 1 hs) (T.lines (n + 1) told) so_far.sent wrote);
+      answered = subst (λ t. IfWanted (λ a b. Sent a b t) old.answers answers) (sym (flat_one hs h ∙ append-nil (answers_of hs)))
           (subst (λ x. IfWanted (λ a b. Sent a b (answers_of hs)) old.answers x) (sym stays) so_far.answered);
-      refused_is = refused ∙ ap (λ b. b || T.refuses told) so_far.refused_is ∙ sym (any_more T.refuses hs h);
-      no_memory_is = no_memory ∙ ap (λ b. b || T.lacks_memory told) so_far.no_memory_is ∙ sym (any_more T.lacks_memory hs h);
+      refused_is = noted.refused ∙ ap (λ b. b || T.refuses told) so_far.refused_is ∙ sym (any_more T.refuses hs h);
+      no_memory_is = noted.no_memory ∙ ap (λ b. b || T.lacks_memory told) so_far.no_memory_is ∙ sym (any_more T.lacks_memory hs h);
     }
 
--- the same, where nothing has happened since to the outputs
-pub in_end_here : {Kept Told : Type 0} {T : Teller Kept Told} {old mid new : ReplaySeen Kept} {e : Ending} {o : Outcome} (here : ReplaySeen Kept)
-    (o' : Outcome) → InEnd T old mid new e o → here.report ≡ mid.report → here.answers ≡ mid.answers → o' ≡ o → InEnd T old here new e o'
-in_end_here {Kept} {Told} {T} {old} {mid} {new} {e} {o} here o' end report answers outcome = record {
-  handled = end.handled;
-  ends = end.ends;
-  sent = subst (λ r. Sent old.report r (lines_from T 1 end.handled)) (sym report) end.sent;
-  answered = subst (λ a. IfWanted (λ x y. Sent x y (answers_of end.handled)) old.answers a) (sym answers) end.answered;
-  refused_is = ap (λ x. x.refused) outcome ∙ end.refused_is;
-  no_memory_is = ap (λ x. x.no_memory) outcome ∙ end.no_memory_is;
-}
-
 -- the whole report
-pub report_ended : {Kept Told : Type 0} {T : Teller Kept Told} {old mid : ReplaySeen Kept} {e : Ending} {o : Outcome} (new : ReplaySeen Kept)
-    (r : Result Outcome WriteFault) → InEnd T old mid new e o
-    → Finishes mid.report new.report mid.answers new.answers (last_lines_of T new e) r → IfOk r
+pub report_ended : {Kept Told : Type 0} {T : Teller Kept Told} {old : ReplaySeen Kept} {out : SinkSeen} {answers : Option SinkSeen} {e : Ending}
+    {o : Outcome} (new : ReplaySeen Kept) (r : Result Outcome WriteFault) → InEnd T old out answers new e o
+    → Finishes out new.report answers new.answers (last_lines_of T new e) r → IfOk r
     (λ x. x ≡ record o { refused = o.refused || T.has_rest new.state.1; fault = is_fault e })
     → IfOk r (IsReport T old new)
-report_ended {Kept} {Told} {T} {old} {mid} {e} {o} new (Ok x) end (wrote, flushed) is = record {
+report_ended {Kept} {Told} {T} {old} {out} {answers} {e} {o} new (Ok x) end (wrote, flushed) is = record {
   handled = end.handled;
   ending = e;
   ends = end.ends;
-  wrote = sent_then_flushed old.report mid.report new.report (lines_from T 1 end.handled) (last_lines_of T new e) end.sent wrote;
-  answered = sent_and_flushed old.answers mid.answers new.answers (answers_of end.handled) end.answered flushed;
+  wrote = sent_then_flushed old.report out new.report (lines_from T 1 end.handled) (last_lines_of T new e) end.sent wrote;
+  answered = sent_and_flushed old.answers answers new.answers (answers_of end.handled) end.answered flushed;
   outcome_is = outcome_same x (list_any T.refuses (told_of end.handled) || T.has_rest new.state.1) (list_any T.lacks_memory (told_of end.handled)) (is_fault e)
       (ap (λ y. y.refused) is ∙ ap (λ b. b || T.has_rest new.state.1) end.refused_is) (ap (λ y. y.no_memory) is ∙ end.no_memory_is)
       (ap (λ y. y.fault) is);
 }
-report_ended {Kept} {Told} {T} {old} {mid} {e} {o} new (Err f) end finishes is = tt
+report_ended {Kept} {Told} {T} {old} {out} {answers} {e} {o} new (Err f) end finishes is = tt
 
 -- the last line or a flush failed
-pub report_cut : {Kept Told : Type 0} {T : Teller Kept Told} {old mid : ReplaySeen Kept} {e : Ending} {o : Outcome} (new : ReplaySeen Kept)
-    (r : Result Outcome WriteFault) → InEnd T old mid new e o
-    → Finishes mid.report new.report mid.answers new.answers (last_lines_of T new e) r → OnErr r (IsCutReport T old new)
-report_cut {Kept} {Told} {T} {old} {mid} {e} {o} new (Ok x) end finishes = tt
-report_cut {Kept} {Told} {T} {old} {mid} {e} {o} new (Err f) end (inl (broke, stays)) =
+pub report_cut : {Kept Told : Type 0} {T : Teller Kept Told} {old : ReplaySeen Kept} {out : SinkSeen} {answers : Option SinkSeen} {e : Ending}
+    {o : Outcome} (new : ReplaySeen Kept) (r : Result Outcome WriteFault) → InEnd T old out answers new e o
+    → Finishes out new.report answers new.answers (last_lines_of T new e) r → OnErr r (IsCutReport T old new)
+report_cut {Kept} {Told} {T} {old} {out} {answers} {e} {o} new (Ok x) end finishes = tt
+report_cut {Kept} {Told} {T} {old} {out} {answers} {e} {o} new (Err f) end (inl (broke, stays)) =
     let cut : IsCutAtEnd T old new = record {
       handled = end.handled;
       ending = e;
       ends = end.ends;
-      mid = mid.report;
+      mid = out;
       earlier = end.sent;
       broke = broke;
       answered = subst (λ x. IfWanted (λ a b. Sent a b (answers_of end.handled)) old.answers x) (sym stays) end.answered;
     } in
     inr (inr (inl cut))
-report_cut {Kept} {Told} {T} {old} {mid} {e} {o} new (Err f) end (inr (wrote, failed)) =
+report_cut {Kept} {Told} {T} {old} {out} {answers} {e} {o} new (Err f) end (inr (wrote, failed)) =
     let cut : IsCutInFlush T old new = record {
       handled = end.handled;
       ending = e;
       ends = end.ends;
-      wrote = sent_then_flushed old.report mid.report new.report (lines_from T 1 end.handled) (last_lines_of T new e) end.sent wrote;
-      unflushed = sent_unflushed old.answers mid.answers new.answers (answers_of end.handled) end.answered failed;
+      wrote = sent_then_flushed old.report out new.report (lines_from T 1 end.handled) (last_lines_of T new e) end.sent wrote;
+      unflushed = sent_unflushed old.answers answers new.answers (answers_of end.handled) end.answered failed;
     } in
     inr (inr (inr cut))

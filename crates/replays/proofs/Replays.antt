@@ -15,7 +15,7 @@ use Rattle.wire.specs.Records.{Directed}
 use Rattle.replays.specs.declared.report.FrameReport.{FrameReport}
 use Rattle.replays.specs.declared.report.Outcome.{Outcome}
 use Rattle.replays.specs.Telling.{Teller}
-use Rattle.replays.specs.TellingOf.{BeginsNext, RespondsNext}
+use Rattle.replays.specs.TellingOf.{BeginsNext, NextReply, RespondsNext}
 use Rattle.replays.specs.declared.report.Reply.{Reply}
 use Rattle.lines.specs.declared.out_fault.OutFault.TheVariants as failed
 use Rattle.replays.specs.Answering.{IfWanted, IsReply, Replies, reply_to}
@@ -52,11 +52,12 @@ frame_falls {Kept} {Told} {T} {cuts} {mid} {new} {known} {form} {x} {x'} {told} 
     omega (arith, record_falls mid new known form next.next.directed next.next.gave)
 
 -- before the first frame
-pub in_replay_none : {Kept Told : Type 0} (T : Teller Kept Told) (s : ReplaySeen Kept) (o : Outcome) → o.refused ≡ false → o.no_memory ≡ false
-    → o.fault ≡ false → InReplay T s s None 0 o
-in_replay_none T s o refused no_memory no_fault = record {
+pub in_replay_none : {Kept Told : Type 0} (T : Teller Kept Told) (s : ReplaySeen Kept) (known : Option Form) (o : Outcome) → known ≡ None
+    → o.refused ≡ false → o.no_memory ≡ false → o.fault ≡ false → InReplay T s s known 0 o
+in_replay_none T s known o fresh refused no_memory no_fault = record {
   handled = [];
-  so_far = so_far_none T s.cuts (is_some s.answers) s.source s.state;
+  so_far = subst (λ k. SoFar T s.cuts (is_some s.answers) k s.source s.source s.state s.state []) (sym fresh)
+      (so_far_none T s.cuts (is_some s.answers) s.source s.state);
   number_is = refl;
   room = omega arith;
   sent = record { bytes = Appends_nothing s.report.written; faults = refl; flushes = refl };
@@ -131,38 +132,34 @@ begins_of {Kept} {Told} {T} {cuts} {known} {form} {old} {new} {x} {x'} {told} {r
 }
 
 -- after one more
-pub in_replay_more : {Kept Told : Type 0} {T : Teller Kept Told} {old mid new : ReplaySeen Kept} {known : Option Form} {form : Form} {n : ℕ} {o : Outcome}
-    {told : Told} {r : Reply} (o' : Outcome)
-    → InReplay T old mid known n o
-    → RespondsNext T old.cuts known form mid.source new.source mid.state new.state told r → Sent mid.report new.report (T.lines (n + 1) told)
-    → Replies new.state.0 r mid.answers new.answers (Ok tt)
-    → o'.refused ≡ (o.refused || T.refuses told) → o'.no_memory ≡ (o.no_memory || T.lacks_memory told) → o'.fault ≡ o.fault
-    → InReplay T old new (Some form) (n + 1) o'
-in_replay_more {Kept} {Told} {T} {old} {mid} {new} {known} {form} {n} {o} {told} {r} o' so_far next wrote (bytes, replies, went) refused no_memory no_fault =
+pub in_replay_more : {Kept Told : Type 0} {T : Teller Kept Told} {old mid new : ReplaySeen Kept} {known known' : Option Form} {n : ℕ} {o o' : Outcome}
+    (r : Reply) → InReplay T old mid known n o → NextReply T old.cuts n known known' mid new o o' (Ok r)
+    → Replies new.state.0 r mid.answers new.answers (Ok tt) → InReplay T old new known' (n + 1) o'
+in_replay_more {Kept} {Told} {T} {old} {mid} {new} {known} {known'} {n} {o} {o'} r so_far (form, known_is, told, next, wrote, noted) (bytes, replies, went) =
     let h : Handled Told = with_answer next.frame next.report told bytes in
     let hs = so_far.handled in
     let lines : lines_from T 1 (hs ++ h ∷ []) ≡ lines_from T 1 hs ++ T.lines (n + 1) told = next_lines T hs h n so_far.number_is in
     record {
       handled = hs ++ h ∷ [];
-      so_far = handled_more new bytes so_far next replies;
+      so_far = subst (λ k. SoFar T old.cuts (is_some old.answers) k old.source new.source old.state new.state (hs ++ h ∷ [])) (sym known_is)
+          (handled_more new bytes so_far next replies);
       number_is = omega (arith, so_far.number_is, length-append hs (h ∷ []));
       room = omega (arith, so_far.room, frame_falls next);
       sent = subst (Sent old.report new.report) (sym lines)
           (Sent-append old.report mid.report new.report (lines_from T 1 hs) (T.lines (n + 1) told) so_far.sent wrote);
       answered = subst (λ t. IfWanted (λ a b. Sent a b t) old.answers new.answers) (sym (flat_one hs h))
           (sent_more old.answers mid.answers new.answers (answers_of hs) bytes so_far.answered went);
-      refused_is = refused ∙ ap (λ b. b || T.refuses told) so_far.refused_is ∙ sym (any_more T.refuses hs h);
-      no_memory_is = no_memory ∙ ap (λ b. b || T.lacks_memory told) so_far.no_memory_is ∙ sym (any_more T.lacks_memory hs h);
-      no_fault = no_fault ∙ so_far.no_fault;
+      refused_is = noted.refused ∙ ap (λ b. b || T.refuses told) so_far.refused_is ∙ sym (any_more T.refuses hs h);
+      no_memory_is = noted.no_memory ∙ ap (λ b. b || T.lacks_memory told) so_far.no_memory_is ∙ sym (any_more T.lacks_memory hs h);
+      no_fault = noted.fault ∙ so_far.no_fault;
     }
 
 -- the line of a frame did not go out whole
-pub cut_in_line : {Kept Told : Type 0} {T : Teller Kept Told} {old mid : ReplaySeen Kept} {known : Option Form} {form : Form} {n : ℕ} {o : Outcome}
-    {told : Told} (new : ReplaySeen Kept)
-    → InReplay T old mid known n o
-    → BeginsNext T old.cuts known form mid.source new.source mid.state new.state told → Broke mid.report new.report (T.lines (n + 1) told)
-    → new.answers ≡ mid.answers → IsCutReport T old new
-cut_in_line {Kept} {Told} {T} {old} {mid} {known} {form} {n} {o} {told} new so_far next wrote stays =
+pub cut_in_line : {Kept Told : Type 0} {T : Teller Kept Told} {old mid : ReplaySeen Kept} {known : Option Form} {n : ℕ} {o : Outcome}
+    (new : ReplaySeen Kept) → InReplay T old mid known n o
+    → (form : Form) × (told : Told) × BeginsNext T old.cuts known form mid.source new.source mid.state new.state told
+    × Broke mid.report new.report (T.lines (n + 1) told) → new.answers ≡ mid.answers → IsCutReport T old new
+cut_in_line {Kept} {Told} {T} {old} {mid} {known} {n} {o} new so_far (form, told, next, wrote) stays =
     let hs = so_far.handled in
     let line : T.lines (n + 1) told ≡ T.lines (length hs + 1) told = ap (λ k. T.lines (k + 1) told) so_far.number_is in
     let cut : IsCutInLine T old new = record {
@@ -175,12 +172,10 @@ cut_in_line {Kept} {Told} {T} {old} {mid} {known} {form} {n} {o} {told} new so_f
     inl cut
 
 -- an answer did not go out whole
-pub cut_in_answer : {Kept Told : Type 0} {T : Teller Kept Told} {old mid : ReplaySeen Kept} {known : Option Form} {form : Form} {n : ℕ} {o : Outcome}
-    {told : Told} {r : Reply} (new : ReplaySeen Kept)
-    → InReplay T old mid known n o
-    → RespondsNext T old.cuts known form mid.source new.source mid.state new.state told r → Sent mid.report new.report (T.lines (n + 1) told)
+pub cut_in_answer : {Kept Told : Type 0} {T : Teller Kept Told} {old mid : ReplaySeen Kept} {known known' : Option Form} {n : ℕ} {o o' : Outcome}
+    (r : Reply) (new : ReplaySeen Kept) → InReplay T old mid known n o → NextReply T old.cuts n known known' mid new o o' (Ok r)
     → Replies new.state.0 r mid.answers new.answers (Err failed.Write) → IsCutReport T old new
-cut_in_answer {Kept} {Told} {T} {old} {mid} {known} {form} {n} {o} {told} {r} new so_far next wrote (bytes, replies, broke) =
+cut_in_answer {Kept} {Told} {T} {old} {mid} {known} {known'} {n} {o} {o'} r new so_far (form, known_is, told, next, wrote, noted) (bytes, replies, broke) =
     let h : Handled Told = with_answer next.frame next.report told bytes in
     let hs = so_far.handled in
     let lines : lines_from T 1 (hs ++ h ∷ []) ≡ lines_from T 1 hs ++ T.lines (n + 1) told = next_lines T hs h n so_far.number_is in

@@ -22,7 +22,6 @@ use Rattle.replays.specs.declared.said.Said.TheVariants as said
 use Rattle.replays.specs.Held.{ArePiecesOf, AreSaidOf, IsFirstWith, IsRunOf, SettlesAll}
 use Rattle.lines.specs.Rows.{Spelling}
 use Rattle.lines.specs.Table.{still_held_row}
-use Rattle.lines.specs.Texts.{text_of}
 use Rattle.replays.specs.ReplayRows.{all_lines_as, ending_row}
 use Rattle.replays.specs.SaidLines.{any_lacks, any_refuses}
 use Rattle.replays.specs.Telling.{Teller}
@@ -114,10 +113,6 @@ by_pieces_as spelled = record {
   ending = λ e. spelled (ending_row e);
   stays = λ f S S' k k' told is. is.1;
 }
-
--- the same as text
-abbrev pub by_pieces : Teller HoldingsSeen (List Said)
-by_pieces = by_pieces_as text_of
 
 -- ---- what calls do
 

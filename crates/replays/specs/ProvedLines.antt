@@ -20,7 +20,8 @@ use Rattle.replays.specs.declared.report.FrameReport.TheVariants as frame_report
 use Rattle.replays.specs.declared.report.Outcome.{Outcome}
 use Rattle.replays.specs.declared.said.Said.{Said}
 use Rattle.replays.specs.declared.said.Said.TheVariants as said
-use Rattle.replays.specs.ByPieces.{by_pieces, bytes_in}
+use Rattle.lines.specs.Rows.{Spelling}
+use Rattle.replays.specs.ByPieces.{by_pieces_as, bytes_in}
 use Rattle.replays.specs.Replay.{Beside, Handled, Handles, IsCutReport, IsReport, ReplaySeen}
 
 -- a frame as it was handled, and all that was told of it
@@ -81,32 +82,32 @@ abbrev pub AllProvedCame : List FrameTold → SessionSeen → Type 0
 AllProvedCame frames S = (i : ℕ) (h : FrameTold) → slice_get frames i ≡ Some h
     → (file : ℕ) (run : Run) → IsToldOfFrame (proved_of file run) h → HaveCome frames i S file run
 
--- of the frames of a replay by pieces that began with nothing held, however their lines are
--- written: each block that is told to be proved of one has come by then, and what came last is the
--- block, or two inputs with one digest are named
+-- of the frames of a replay by pieces that began with nothing held, however its lines are spelled:
+-- each block that is told to be proved of one has come by then, and what came last is the block, or
+-- two inputs with one digest are named
 abbrev pub ProvedFramesCame : Type 0
-ProvedFramesCame = (cuts wanted : Bool) (form : Form) (old new : Beside HoldingsSeen)
-    (frames : List (Directed (List ℕ))) (handled : List FrameTold)
-    → Chain (Handles by_pieces cuts wanted form) old frames handled new → old.1.pieces ≡ empty
-    → HasClosedTrees new.0 → AllProvedCame handled new.0
+ProvedFramesCame = (spelled : Spelling) (cuts wanted : Bool) (form : Form)
+    (old new : Beside HoldingsSeen) (frames : List (Directed (List ℕ))) (handled : List FrameTold)
+    → Chain (Handles (by_pieces_as spelled) cuts wanted form) old frames handled new
+    → old.1.pieces ≡ empty → HasClosedTrees new.0 → AllProvedCame handled new.0
 
 -- IN EVERY REPORT of such a replay: each block that is told to be proved of a frame has come by
 -- then, and what came last is the block, or two inputs with one digest are named
 abbrev pub ProvedLinesCame : Type 0
-ProvedLinesCame = (old new : ReplaySeen HoldingsSeen) (outcome : Outcome)
-    (report : IsReport by_pieces old new outcome) → old.state.1.pieces ≡ empty
+ProvedLinesCame = (spelled : Spelling) (old new : ReplaySeen HoldingsSeen) (outcome : Outcome)
+    (report : IsReport (by_pieces_as spelled) old new outcome) → old.state.1.pieces ≡ empty
     → HasClosedTrees new.state.0 → AllProvedCame report.handled new.state.0
 
 -- the frames of a report that was cut off; of the last one not all may have been told
-abbrev pub frames_of : (old new : ReplaySeen HoldingsSeen) → IsCutReport by_pieces old new
-    → List FrameTold
-frames_of old new (inl line) = line.before ++ line.last ∷ []
-frames_of old new (inr (inl answer)) = answer.before ++ answer.last ∷ []
-frames_of old new (inr (inr (inl ends))) = ends.handled
-frames_of old new (inr (inr (inr flush))) = flush.handled
+abbrev pub frames_of : (spelled : Spelling) (old new : ReplaySeen HoldingsSeen)
+    → IsCutReport (by_pieces_as spelled) old new → List FrameTold
+frames_of spelled old new (inl line) = line.before ++ line.last ∷ []
+frames_of spelled old new (inr (inl answer)) = answer.before ++ answer.last ∷ []
+frames_of spelled old new (inr (inr (inl ends))) = ends.handled
+frames_of spelled old new (inr (inr (inr flush))) = flush.handled
 
 -- in every report that was cut off it is so of each frame of which something was told
 abbrev pub CutLinesCame : Type 0
-CutLinesCame = (old new : ReplaySeen HoldingsSeen) (cut : IsCutReport by_pieces old new)
-    → old.state.1.pieces ≡ empty → HasClosedTrees new.state.0
-    → AllProvedCame (frames_of old new cut) new.state.0
+CutLinesCame = (spelled : Spelling) (old new : ReplaySeen HoldingsSeen)
+    (cut : IsCutReport (by_pieces_as spelled) old new) → old.state.1.pieces ≡ empty
+    → HasClosedTrees new.state.0 → AllProvedCame (frames_of spelled old new cut) new.state.0

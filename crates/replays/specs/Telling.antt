@@ -11,7 +11,6 @@ use Rattle.replays.specs.declared.report.Ending.{Ending}
 use Rattle.replays.specs.declared.report.Outcome.{Outcome}
 use Rattle.replays.specs.Outcome.{is_fault, is_refusal, is_no_memory}
 use Rattle.lines.specs.Rows.{Spelling}
-use Rattle.lines.specs.Texts.{text_of}
 use Rattle.replays.specs.ReplayRows.{ending_row, lines_as}
 
 -- how frames are told, by one who keeps something beside the session
@@ -55,7 +54,3 @@ plain_as spelled = record {
   ending = λ e. spelled (ending_row e);
   stays = λ f S S' k k' told is. is.1;
 }
-
--- the same as text
-abbrev pub plain : Teller (Unit {0}) FrameReport
-plain = plain_as text_of

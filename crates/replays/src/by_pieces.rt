@@ -9,10 +9,10 @@ ghost use Rattle.wire.specs.declared.message.Ask.{Ask as AskSeen};
 
 use crate::entries::{Delivery, delivered, tell_entries};
 use crate::naming::first_with;
-use crate::report::{FrameReport, Outcome};
+use crate::report::{FrameReport, Outcome, Reported};
 use crate::said::{Said, say};
 use crate::settlings::{Touched, tell_settled};
-use crate::telling::Telling;
+use crate::telling::TellsFrames;
 use benc::DeviceFault;
 use hashtree::Hash;
 use holdings::{Holdings, Pieces};
@@ -20,7 +20,7 @@ use lines::{Line, LineSink};
 use session::{Blocks, NodeMap, Session, Verdict};
 use wire::{Ask, Direction, Frame, Message};
 
-impl Telling for Holdings {
+impl TellsFrames for Holdings {
     ghost use Rattle.std.specs.Prelude.{List, refl};
     ghost use Rattle.holdings.specs.Holdings.{HoldingsSeen};
     ghost use Rattle.replays.specs.ByPieces.{by_pieces_as};
@@ -38,16 +38,17 @@ impl Telling for Holdings {
         &mut self,
         session: &mut Session<'_, N>,
         out: &mut L,
-        number: u64,
-        frame: (Direction, Frame<'_>),
-        report: &FrameReport,
+        met: Reported<'_>,
         outcome: &mut Outcome,
     ) -> Result<(), DeviceFault> {
+        let report = met.report;
         match report {
             FrameReport::Verdict(verdict) => {
-                tell_verdict(self, session, out, number, frame, verdict, outcome)
+                tell_verdict(self, session, out, met, verdict, outcome)
             }
-            FrameReport::BadFrame { .. } => say(out, number, &Said::Report(*report), outcome),
+            FrameReport::BadFrame { .. } => {
+                say(out, met.number, &Said::Report(*report), outcome)
+            }
         }
     }
 
@@ -70,21 +71,20 @@ fn tell_verdict<N: NodeMap, L: LineSink>(
     held: &mut Holdings,
     session: &mut Session<'_, N>,
     out: &mut L,
-    number: u64,
-    frame: (Direction, Frame<'_>),
+    met: Reported<'_>,
     verdict: &Verdict,
     outcome: &mut Outcome,
 ) -> Result<(), DeviceFault>
-    ensures { TellsFrame (by_pieces_as L.spelled) number frame.entry
+    ensures { TellsFrame (by_pieces_as L.spelled) met.entry.number met.entry.frame
         (FrameReport.Verdict verdict.now) (session.old, held.old) (session.new, held.new)
         (L.seen out.old) (L.seen out.new) outcome.old outcome.new result }
 {
     match verdict {
-        Verdict::Blocks(blocks) => tell_blocks(held, session, out, number, frame, blocks, outcome),
-        Verdict::Stored(count) => tell_stored(held, session, out, number, frame, *count, outcome),
+        Verdict::Blocks(blocks) => tell_blocks(held, session, out, met, blocks, outcome),
+        Verdict::Stored(count) => tell_stored(held, session, out, met, *count, outcome),
         _ => {
             let report = FrameReport::Verdict(*verdict);
-            say(out, number, &Said::Report(report), outcome)
+            say(out, met.number, &Said::Report(report), outcome)
         }
     }
 }
@@ -94,21 +94,20 @@ fn tell_blocks<N: NodeMap, L: LineSink>(
     held: &mut Holdings,
     session: &mut Session<'_, N>,
     out: &mut L,
-    number: u64,
-    frame: (Direction, Frame<'_>),
+    met: Reported<'_>,
     blocks: &Blocks,
     outcome: &mut Outcome,
 ) -> Result<(), DeviceFault>
-    ensures { TellsFrame (by_pieces_as L.spelled) number frame.entry
+    ensures { TellsFrame (by_pieces_as L.spelled) met.entry.number met.entry.frame
         (FrameReport.Verdict (Verdict.Blocks blocks.now))
         (session.old, held.old) (session.new, held.new) (L.seen out.old)
         (L.seen out.new) outcome.old outcome.new result }
 {
-    match run_in(session, frame, blocks) {
-        Some(run) => tell_run(held, session, run, out, number, outcome),
+    match run_in(session, met.frame, blocks) {
+        Some(run) => tell_run(held, session, run, out, met.number, outcome),
         None => {
             let report = FrameReport::Verdict(Verdict::Blocks(*blocks));
-            say(out, number, &Said::Report(report), outcome)
+            say(out, met.number, &Said::Report(report), outcome)
         }
     }
 }
@@ -185,20 +184,26 @@ fn tell_stored<N: NodeMap, L: LineSink>(
     held: &mut Holdings,
     session: &mut Session<'_, N>,
     out: &mut L,
-    number: u64,
-    frame: (Direction, Frame<'_>),
+    met: Reported<'_>,
     count: u64,
     outcome: &mut Outcome,
 ) -> Result<(), DeviceFault>
-    ensures { TellsFrame (by_pieces_as L.spelled) number frame.entry
+    ensures { TellsFrame (by_pieces_as L.spelled) met.entry.number met.entry.frame
         (FrameReport.Verdict (Verdict.Stored count))
         (session.old, held.old) (session.new, held.new) (L.seen out.old)
         (L.seen out.new) outcome.old outcome.new result }
 {
     let report = FrameReport::Verdict(Verdict::Stored(count));
-    match tree_in(session, frame) {
-        Some(touched) => tell_hashes(held, session, touched, &report, out, number, outcome),
-        None => say(out, number, &Said::Report(report), outcome),
+    match tree_in(session, met.frame) {
+        Some(touched) => {
+            let stored = Reported {
+                number: met.number,
+                frame: met.frame,
+                report: &report,
+            };
+            tell_hashes(held, session, touched, out, stored, outcome)
+        }
+        None => say(out, met.number, &Said::Report(report), outcome),
     }
 }
 
@@ -207,18 +212,18 @@ fn tell_hashes<N: NodeMap, L: LineSink>(
     held: &mut Holdings,
     session: &mut Session<'_, N>,
     touched: Touched,
-    report: &FrameReport,
     out: &mut L,
-    number: u64,
+    met: Reported<'_>,
     outcome: &mut Outcome,
 ) -> Result<(), DeviceFault>
     requires there { touched.tree < length session.old.torrent.trees }
     requires tree { touched.pieces.tree ≡ touched.tree }
-    ensures { SaysHashes report.now touched.file session.old held.old touched.pieces session.new
-        held.new L.spelled number (L.seen out.old) (L.seen out.new) outcome.old outcome.new result }
+    ensures { SaysHashes met.entry.report.now touched.file session.old held.old touched.pieces
+        session.new held.new L.spelled met.entry.number (L.seen out.old) (L.seen out.new)
+        outcome.old outcome.new result }
 {
-    match say(out, number, &Said::Report(*report), outcome) {
-        Ok(()) => tell_settled(held, session, touched, out, number, outcome),
+    match say(out, met.number, &Said::Report(*met.report), outcome) {
+        Ok(()) => tell_settled(held, session, touched, out, met.number, outcome),
         Err(fault) => Err(fault),
     }
 }

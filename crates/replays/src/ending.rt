@@ -8,14 +8,14 @@ ghost use Rattle.replays.specs.ReplayRows.{ending_row};
 
 use crate::answering::Answering;
 use crate::report::{Ending, Outcome};
-use crate::telling::Telling;
+use crate::telling::TellsFrames;
 use benc::WriteFault;
 use lines::{Line, LineSink, say_last};
 use wire::FrameFault;
 
 /// Writes the last lines and flushes, and then flushes the answers: what the report amounts to
 /// then.
-pub(crate) fn end_replay<L: LineSink, K: Telling, B: Answering>(
+pub(crate) fn end_replay<L: LineSink, K: TellsFrames, B: Answering>(
     report: &mut L,
     keeper: &K,
     answers: &mut B,
@@ -37,7 +37,7 @@ pub(crate) fn end_replay<L: LineSink, K: Telling, B: Answering>(
 }
 
 // Writes the last lines, and flushes: what the report amounts to then.
-fn end_report<L: LineSink, K: Telling>(
+fn end_report<L: LineSink, K: TellsFrames>(
     report: &mut L,
     keeper: &K,
     mut outcome: Outcome,

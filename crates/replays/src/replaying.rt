@@ -2,7 +2,8 @@
 ghost use Rattle.std.specs.Prelude.{◌≡◌, ◌<◌, ◌+◌, ◌^◌, false, None, Some, IfOk, OnOk, OnErr};
 ghost use Rattle.replays.specs.Answering.{sink_after, sink_before};
 ghost use Rattle.replays.specs.Replay.{IsCutReport, IsReport, replay_seen};
-ghost use Rattle.replays.specs.Telling.{plain, plain_as};
+ghost use Rattle.replays.specs.Telling.{plain_as};
+ghost use Rattle.lines.specs.Texts.{text_of};
 ghost use Rattle.replays.specs.TellingOf.{NextReply};
 ghost use Rattle.wire.specs.Reader.{HasRoom, IsOpen, KeepsSource};
 ghost use Rattle.wire.specs.RecordReader.{form_of, frame_reader, record_source_of};
@@ -10,10 +11,10 @@ ghost use Rattle.wire.specs.RecordReader.{form_of, frame_reader, record_source_o
 use crate::answering::{Answering, Unwanted};
 use crate::ending::end_replay;
 use crate::handing::{frame_as, respond};
-use crate::report::{Ending, Outcome, Reply, Stop};
-use crate::telling::{Plain, Telling};
+use crate::report::{Ending, Outcome, Reply, Reported, Stop};
+use crate::telling::{Plain, TellsFrames};
 use benc::{Sink, Source, WriteFault};
-use lines::{LineSink, OutFault};
+use lines::{LineSink, Nowhere, OutFault};
 use session::{NodeMap, Session};
 use std::alloc::Global;
 use wire::{FrameFault, RecordReader};
@@ -39,28 +40,20 @@ pub fn replay<N: NodeMap, R: Source, W: Sink, A: Sink>(
     report: &mut W,
     answers: Option<&mut A>,
 ) -> Result<Outcome, WriteFault>
-    ensures report { IfOk result (IsReport plain
+    ensures report { IfOk result (IsReport (plain_as text_of)
         (replay_seen false (R.seen source.old) session.old tt (W.seen report.old)
         (sink_before A.seen answers.entry))
         (replay_seen false (R.seen source.new) session.new tt (W.seen report.new)
         (sink_after A.seen answers.exit))) }
-    ensures cut_report { OnErr result (IsCutReport plain
+    ensures cut_report { OnErr result (IsCutReport (plain_as text_of)
         (replay_seen false (R.seen source.old) session.old tt (W.seen report.old)
         (sink_before A.seen answers.entry))
         (replay_seen false (R.seen source.new) session.new tt (W.seen report.new)
         (sink_after A.seen answers.exit))) }
 {
-    let mut reader = RecordReader::new(alloc, source);
     match answers {
-        Some(out) => replay_reader(session, &mut Plain, &mut reader, report, out, false),
-        None => replay_reader(
-            session,
-            &mut Plain,
-            &mut reader,
-            report,
-            &mut Unwanted,
-            false,
-        ),
+        Some(out) => replay_onto(alloc, session, source, report, Some(out), false),
+        None => replay_onto(alloc, session, source, report, None::<&mut Nowhere>, false),
     }
 }
 
@@ -103,7 +96,7 @@ pub fn replay_onto<N: NodeMap, R: Source, L: LineSink, A: Sink>(
 }
 
 // Takes the memory, and reads frames to the end or to a fault.
-pub(crate) fn replay_reader<N: NodeMap, K: Telling, R: Source, L: LineSink, B: Answering>(
+pub(crate) fn replay_reader<N: NodeMap, K: TellsFrames, R: Source, L: LineSink, B: Answering>(
     session: &mut Session<'_, N>,
     keeper: &mut K,
     reader: &mut RecordReader<'_, R>,
@@ -132,7 +125,7 @@ pub(crate) fn replay_reader<N: NodeMap, K: Telling, R: Source, L: LineSink, B: A
 }
 
 // Reads frames to the end or to a fault.
-fn replay_frames<N: NodeMap, K: Telling, R: Source, L: LineSink, B: Answering>(
+fn replay_frames<N: NodeMap, K: TellsFrames, R: Source, L: LineSink, B: Answering>(
     session: &mut Session<'_, N>,
     keeper: &mut K,
     reader: &mut RecordReader<'_, R>,
@@ -158,7 +151,11 @@ fn replay_frames<N: NodeMap, K: Telling, R: Source, L: LineSink, B: Answering>(
     let mut outcome = Outcome::default();
     let mut number = 0;
     'frames: loop {
-        let reply = match next_reply(session, keeper, reader, report, number, &mut outcome, cuts) {
+        let next = NextFrame {
+            after: number,
+            cuts,
+        };
+        let reply = match next_reply(session, keeper, reader, report, next, &mut outcome) {
             Ok(reply) => reply,
             Err(Stop::Ended(ending)) => {
                 return end_replay(report, keeper, answers, outcome, ending);
@@ -176,43 +173,47 @@ fn replay_frames<N: NodeMap, K: Telling, R: Source, L: LineSink, B: Answering>(
     }
 }
 
-// Tells the next frame, after this many: what is to be answered to it; or how the record ended if
-// there is none, or that its lines broke off.
+// How the next frame is handled: after this many others, and with its padding cut away or not.
+#[derive(Clone, Copy)]
+struct NextFrame {
+    after: u64,
+    cuts: bool,
+}
+
+// Tells the next frame: what is to be answered to it; or how the record ended if there is none, or
+// that its lines broke off.
 #[inline(always)]
-fn next_reply<N: NodeMap, K: Telling, R: Source, L: LineSink>(
+fn next_reply<N: NodeMap, K: TellsFrames, R: Source, L: LineSink>(
     session: &mut Session<'_, N>,
     keeper: &mut K,
     reader: &mut RecordReader<'_, R>,
     report: &mut L,
-    number: u64,
+    next: NextFrame,
     outcome: &mut Outcome,
-    cuts: bool,
 ) -> Result<Reply, Stop>
     requires open { IsOpen (frame_reader reader.old) }
     requires room { HasRoom (frame_reader reader.old) }
-    requires count { number + (R.seen (record_source_of reader.old)).limit < 2 ^ 64 }
+    requires count { next.after + (R.seen (record_source_of reader.old)).limit < 2 ^ 64 }
     ensures source { KeepsSource (frame_reader reader.old) (frame_reader reader.new) }
-    ensures next { NextReply (K.teller L.spelled) cuts number
+    ensures next { NextReply (K.teller L.spelled) next.cuts next.after
         (form_of reader.old) (form_of reader.new)
-        (replay_seen cuts (R.seen (record_source_of reader.old)) session.old (K.kept keeper.old)
-        (L.seen report.old) None)
-        (replay_seen cuts (R.seen (record_source_of reader.new)) session.new (K.kept keeper.new)
-        (L.seen report.new) None) outcome.old outcome.new result }
+        (replay_seen next.cuts (R.seen (record_source_of reader.old)) session.old
+        (K.kept keeper.old) (L.seen report.old) None)
+        (replay_seen next.cuts (R.seen (record_source_of reader.new)) session.new
+        (K.kept keeper.new) (L.seen report.new) None) outcome.old outcome.new result }
     ensures open { OnOk result (IsOpen (frame_reader reader.new)) }
     ensures room { HasRoom (frame_reader reader.new) }
 {
     match reader.advance() {
         Ok(true) => {
-            let frame = frame_as(session.torrent(), reader.frame(), cuts);
+            let frame = frame_as(session.torrent(), reader.frame(), next.cuts);
             let response = respond(session, reader.form(), frame);
-            match keeper.tell(
-                session,
-                report,
-                number + 1,
+            let met = Reported {
+                number: next.after + 1,
                 frame,
-                &response.report,
-                outcome,
-            ) {
+                report: &response.report,
+            };
+            match keeper.tell(session, report, met, outcome) {
                 Ok(()) => Ok(response.reply),
                 Err(_) => Err(Stop::Write),
             }

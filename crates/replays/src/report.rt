@@ -3,11 +3,11 @@
 ghost use Rattle.std.specs.Prelude.{◌≡◌, ◌||◌, Bool};
 ghost use Rattle.replays.specs.Answering.{reply_of, reply_to};
 ghost use Rattle.replays.specs.Outcome.{is_refusal, is_no_memory, status_of};
-ghost use Rattle.wire.specs.declared.frame.Frame.TheVariants as Frame;
+ghost use Rattle.wire.specs.declared.frame.Frame.TheVariants as frames;
 ghost use Rattle.replays.specs.declared.report.FrameReport.TheVariants as FrameReport;
 
 use session::{HashRefusal, Verdict};
-use wire::{Ask, Direction, FrameFault, Message};
+use wire::{Ask, Direction, Frame, FrameFault, Message};
 
 /// What a replay makes of a frame.
 #[derive(Clone, Copy)]
@@ -32,6 +32,14 @@ pub(crate) enum FrameReport {
     },
 }
 
+/// A frame as it was handled: its number, counted from 1, and what is reported of it.
+#[derive(Clone, Copy)]
+pub(crate) struct Reported<'f> {
+    pub(crate) number: u64,
+    pub(crate) frame: (Direction, Frame<'f>),
+    pub(crate) report: &'f FrameReport,
+}
+
 /// What is to be answered to a frame, if answers are wanted.
 #[derive(Clone, Copy)]
 pub(crate) enum Reply {
@@ -46,7 +54,7 @@ pub(crate) enum Reply {
 impl Reply {
     /// What is to be answered to a message with this verdict: nothing, if it went out.
     pub(crate) fn of(direction: Direction, message: &Message<'_>, verdict: &Verdict) -> Reply
-        ensures { result ≡ reply_to (direction, Frame.Message message.now)
+        ensures { result ≡ reply_to (direction, frames.Message message.now)
             (FrameReport.Verdict verdict.now) }
     {
         match direction {

@@ -3,14 +3,13 @@ ghost use Rattle.replays.specs.Outcome.{is_refusal, is_no_memory};
 ghost use Rattle.replays.specs.TellingOf.{TellsFrame, TellsRest};
 
 use crate::lines_of_frame::write_frame;
-use crate::report::{FrameReport, Outcome};
+use crate::report::{Outcome, Reported};
 use benc::DeviceFault;
 use lines::LineSink;
 use session::{NodeMap, Session};
-use wire::{Direction, Frame};
 
 /// Tells frames: writes the lines of each, once the session has made its step for it.
-pub(crate) trait Telling {
+pub(crate) trait TellsFrames {
     ghost use Rattle.std.specs.Prelude.{◌≡◌};
     ghost use Rattle.lines.specs.Rows.{Spelling};
     ghost use Rattle.replays.specs.ReplayRows.{ending_row};
@@ -26,18 +25,17 @@ pub(crate) trait Telling {
 
     ghost teller: { Spelling → Teller Self.Kept Self.Told };
 
-    /// Writes the lines of the frame of this number, for which the session's step gave this report,
-    /// and notes what they amount to.
+    /// Writes the lines of a frame, for which the session's step gave its report, and notes what
+    /// they amount to.
     fn tell<N: NodeMap, L: LineSink>(
         &mut self,
         session: &mut Session<'_, N>,
         out: &mut L,
-        number: u64,
-        frame: (Direction, Frame<'_>),
-        report: &FrameReport,
+        met: Reported<'_>,
         outcome: &mut Outcome,
     ) -> Result<(), DeviceFault>
-        ensures { TellsFrame (Self.teller L.spelled) number frame.entry report.now
+        ensures { TellsFrame (Self.teller L.spelled) met.entry.number met.entry.frame
+            met.entry.report.now
             (session.old, Self.kept self.old) (session.new, Self.kept self.new)
             (L.seen out.old) (L.seen out.new) outcome.old outcome.new result };
 
@@ -54,7 +52,7 @@ pub(crate) trait Telling {
 #[derive(Drop)]
 pub(crate) struct Plain;
 
-impl Telling for Plain {
+impl TellsFrames for Plain {
     ghost use Rattle.std.specs.Prelude.{refl};
     ghost use Rattle.replays.specs.Telling.{plain_as};
     ghost use Rattle.replays.specs.declared.report.FrameReport.{FrameReport as ReportSeen};
@@ -71,13 +69,11 @@ impl Telling for Plain {
         &mut self,
         _session: &mut Session<'_, N>,
         out: &mut L,
-        number: u64,
-        _frame: (Direction, Frame<'_>),
-        report: &FrameReport,
+        met: Reported<'_>,
         outcome: &mut Outcome,
     ) -> Result<(), DeviceFault> {
-        outcome.note(report);
-        write_frame(out, number, report)
+        outcome.note(met.report);
+        write_frame(out, met.number, met.report)
     }
 
     fn tell_rest<L: LineSink>(&self, _out: &mut L) -> Result<bool, DeviceFault> {

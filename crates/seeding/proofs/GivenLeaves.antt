@@ -15,7 +15,7 @@ use Rattle.sha2.specs.Sha256.{sha256}
 use Rattle.opening.specs.Description.{TreeEntry}
 use Rattle.seeding.specs.Giving.{FindsHeld, HasStated}
 use Rattle.seeding.specs.Together.{IsHeldAs, StandsHashed}
-use Rattle.seeding.specs.declared.ahead.Held.TheVariants as held
+use Rattle.seeding.specs.declared.ahead.HeldFile.TheVariants as held
 use Rattle.seeding.proofs.FedLeaves.{length-leaves}
 
 -- a block of a content that stands in a buffer stands there too

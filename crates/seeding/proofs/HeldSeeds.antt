@@ -15,8 +15,8 @@ use Rattle.seeding.specs.Giving.{FillsByTree, HasHeldBlocks, HasStated, LacksMem
 use Rattle.seeding.specs.Seeding.{SeedStep, SeedsFiles, StopsAtFile, shelf_and_session}
 use Rattle.seeding.specs.Together.{HoldsFrom, IsHeldAs, IsHeldFrom, SeedsNext, StandsHashed, StopsNext, held_left}
 use Rattle.seeding.specs.declared.ahead.Ahead.{Ahead}
-use Rattle.seeding.specs.declared.ahead.Held.{Held}
-use Rattle.seeding.specs.declared.ahead.Held.TheVariants as held
+use Rattle.seeding.specs.declared.ahead.HeldFile.{HeldFile}
+use Rattle.seeding.specs.declared.ahead.HeldFile.TheVariants as held
 use Rattle.seeding.specs.declared.together.HeldFiles.{HeldFiles}
 use Rattle.seeding.proofs.GivenFiles.{seeds_held, stated, stops_held}
 use Rattle.seeding.proofs.HeldTogether.{IsNextHeld, holds_none, looks_behind}
@@ -32,23 +32,25 @@ on_err_then P Q (Ok x) holds more = tt
 on_err_then P Q (Err e) holds more = more holds
 
 -- the blocks of what is held are in the window
-pub has_blocks : (w : Window) (h : Held) (content : Option (List ℕ)) (len : ℕ) → IsHeldAs (StandsHashed w) h content → HasStated len content
+pub has_blocks : (w : Window) (h : HeldFile) (content : Option (List ℕ)) (len : ℕ) → IsHeldAs (StandsHashed w) h content → HasStated len content
     → HasHeldBlocks h len
 has_blocks w held.Nothing content len is long = tt
 has_blocks w (held.Whole first) None len is long = absurd is
 has_blocks w (held.Whole first) (Some bytes) len is long = omega (arith, is.stands.has.within, w.within, ap block_count long)
 
+-- what is held of the next file is of its stated length
+pub next_stated : {S F : Type 0} (shelf : Ghosts S F) (seen : F → SourceSeen) (files : List FileEntry) (P : ℕ → List ℕ → Type 0) (n : ℕ) (s : S)
+    (f : FileEntry) (one : HeldFile) (hs : List HeldFile) (s' : S) (next : IsNextHeld shelf seen files P n s f one hs s') → HasStated f.length next.content
+next_stated shelf seen files P n s f one hs s' next = stated shelf seen s next.after f f.tree next.content next.looks.looks
+
 module _ {S F : Type 0} (shelf : Ghosts S F) (seen : F → SourceSeen) (files : List FileEntry) (n : ℕ) (f : FileEntry) (there : slice_get files n ≡ Some f)
     (K K' : SessionSeen) (s s' : S) where
   -- ---- the next file is held
-  module _ (blocks : Window) (one : Held) (after : Ahead) (few : length (held_left after) < 64)
+  module _ (blocks : Window) (one : HeldFile) (after : Ahead) (few : length (held_left after) < 64)
       (next : IsNextHeld shelf seen files (StandsHashed blocks) n s f one (held_left after) s') where
     -- what is left is held
     abbrev pub rest_held : HeldFiles
     rest_held = record { files = after; blocks = blocks }
-
-    pub next_stated : HasStated f.length next.content
-    next_stated = stated shelf seen s next.after f f.tree next.content next.looks.looks
 
     pub seeds_next : (seeded : Bool) → FillsByTree K f f.tree next.content seeded K'
         → SeedsNext shelf seen files n (shelf_and_session s K) seeded rest_held (shelf_and_session s' K')

@@ -12,8 +12,8 @@ use Rattle.folders.specs.declared.shelf.Shelf.{Ghosts}
 use Rattle.opening.specs.Description.{FileEntry}
 use Rattle.seeding.specs.Seeding.{IsSmallFile, LooksAhead, LooksBehind}
 use Rattle.seeding.specs.Together.{AreHeldAs, HoldsFrom, IsHeldAs, KeepsWindowFiles, Stands, StandsHashed}
-use Rattle.seeding.specs.declared.ahead.Held.{Held}
-use Rattle.seeding.specs.declared.ahead.Held.TheVariants as held
+use Rattle.seeding.specs.declared.ahead.HeldFile.{HeldFile}
+use Rattle.seeding.specs.declared.ahead.HeldFile.TheVariants as held
 
 -- ---- what stands in a room
 
@@ -41,26 +41,26 @@ stands_later w w' room room' used used' keeps same le first bytes at = record {
 -- ---- what is held
 
 module _ (P Q : ℕ → List ℕ → Type 0) (more : (first : ℕ) (bytes : List ℕ) → P first bytes → Q first bytes) where
-  pub held_later : (h : Held) (c : Option (List ℕ)) → IsHeldAs P h c → IsHeldAs Q h c
+  pub held_later : (h : HeldFile) (c : Option (List ℕ)) → IsHeldAs P h c → IsHeldAs Q h c
   held_later held.Nothing None at = tt
   held_later held.Nothing (Some bytes) at = at
   held_later (held.Whole first) None at = at
   held_later (held.Whole first) (Some bytes) at = more first bytes at
 
-  are_later : (hs : List Held) (cs : List (Option (List ℕ))) → AreHeldAs P hs cs → AreHeldAs Q hs cs
+  are_later : (hs : List HeldFile) (cs : List (Option (List ℕ))) → AreHeldAs P hs cs → AreHeldAs Q hs cs
   are_later [] [] at = tt
   are_later [] (c ∷ cs) at = at
   are_later (h ∷ hs) [] at = at
   are_later (h ∷ hs) (c ∷ cs) (one, rest) = (held_later h c one, are_later hs cs rest)
 
-are_more : (P : ℕ → List ℕ → Type 0) (hs : List Held) (cs : List (Option (List ℕ))) (h : Held) (c : Option (List ℕ)) → AreHeldAs P hs cs
+are_more : (P : ℕ → List ℕ → Type 0) (hs : List HeldFile) (cs : List (Option (List ℕ))) (h : HeldFile) (c : Option (List ℕ)) → AreHeldAs P hs cs
     → IsHeldAs P h c → AreHeldAs P (hs ++ h ∷ []) (cs ++ c ∷ [])
 are_more P [] [] h c at one = (one, tt)
 are_more P [] (d ∷ cs) h c at one = absurd at
 are_more P (g ∷ hs) [] h c at one = absurd at
 are_more P (g ∷ hs) (d ∷ cs) h c (first, rest) one = (first, are_more P hs cs h c rest one)
 
-are_many : (P : ℕ → List ℕ → Type 0) (hs : List Held) (cs : List (Option (List ℕ))) → AreHeldAs P hs cs → length cs ≡ length hs
+are_many : (P : ℕ → List ℕ → Type 0) (hs : List HeldFile) (cs : List (Option (List ℕ))) → AreHeldAs P hs cs → length cs ≡ length hs
 are_many P [] [] at = refl
 are_many P [] (d ∷ cs) at = absurd at
 are_many P (g ∷ hs) [] at = absurd at
@@ -78,7 +78,7 @@ module _ {S F : Type 0} (shelf : Ghosts S F) (seen : F → SourceSeen) (files : 
   holds_none P from s = record { contents = []; run = refl; are = tt }
 
   -- one more file
-  pub holds_more : (P Q : ℕ → List ℕ → Type 0) (from : ℕ) (s mid s' : S) (hs : List Held) (f : FileEntry) (h : Held) (c : Option (List ℕ))
+  pub holds_more : (P Q : ℕ → List ℕ → Type 0) (from : ℕ) (s mid s' : S) (hs : List HeldFile) (f : FileEntry) (h : HeldFile) (c : Option (List ℕ))
       → ((first : ℕ) (bytes : List ℕ) → P first bytes → Q first bytes) → HoldsFrom shelf seen P files from s hs mid
       → slice_get files (from + length hs) ≡ Some f → LooksAhead shelf seen mid f c s' → IsHeldAs Q h c
       → HoldsFrom shelf seen Q files from s (hs ++ h ∷ []) s'
@@ -90,7 +90,7 @@ module _ {S F : Type 0} (shelf : Ghosts S F) (seen : F → SourceSeen) (files : 
         are = are_more Q hs so_far.contents h c (are_later P Q later hs so_far.contents so_far.are) is;
       }
 
-  pub holds_later : (P Q : ℕ → List ℕ → Type 0) (from : ℕ) (s s' : S) (hs : List Held) → ((first : ℕ) (bytes : List ℕ) → P first bytes → Q first bytes)
+  pub holds_later : (P Q : ℕ → List ℕ → Type 0) (from : ℕ) (s s' : S) (hs : List HeldFile) → ((first : ℕ) (bytes : List ℕ) → P first bytes → Q first bytes)
       → HoldsFrom shelf seen P files from s hs s' → HoldsFrom shelf seen Q files from s hs s'
   holds_later P Q from s s' hs later so_far = record {
     contents = so_far.contents;
@@ -99,7 +99,8 @@ module _ {S F : Type 0} (shelf : Ghosts S F) (seen : F → SourceSeen) (files : 
   }
 
   -- the blocks of the window are hashed
-  pub holds_hashed : (w w' : Window) (room : List ℕ) (used from : ℕ) (s s' : S) (hs : List Held) → used ≤ length room → KeepsWindowFiles w w' → IsHashed w' room
+  pub holds_hashed : (w w' : Window) (room : List ℕ) (used from : ℕ) (s s' : S) (hs : List HeldFile) → used ≤ length room
+      → KeepsWindowFiles w w' → IsHashed w' room
       → HoldsFrom shelf seen (Stands w room used) files from s hs s' → HoldsFrom shelf seen (StandsHashed w') files from s hs s'
   holds_hashed w w' room used from s s' hs le keeps hashed =
       holds_later (Stands w room used) (StandsHashed w') from s s' hs (λ first bytes at. record {
@@ -114,14 +115,14 @@ module _ {S F : Type 0} (shelf : Ghosts S F) (seen : F → SourceSeen) (files : 
 
   module _ (P : ℕ → List ℕ → Type 0) where
     -- the next file of those that were visited
-    pub record IsNextHeld (n : ℕ) (s : S) (f : FileEntry) (h : Held) (hs : List Held) (s' : S) : Type 0 where
+    pub record IsNextHeld (n : ℕ) (s : S) (f : FileEntry) (h : HeldFile) (hs : List HeldFile) (s' : S) : Type 0 where
       pub content : Option (List ℕ)
       pub after : S
       pub looks : LooksAhead shelf seen s f content after
       pub is : IsHeldAs P h content
       pub rest : HoldsFrom shelf seen P files (n + 1) after hs s'
 
-    pub next_held : (n : ℕ) (s : S) (f : FileEntry) (h : Held) (hs : List Held) (s' : S) → slice_get files n ≡ Some f
+    pub next_held : (n : ℕ) (s : S) (f : FileEntry) (h : HeldFile) (hs : List HeldFile) (s' : S) → slice_get files n ≡ Some f
         → HoldsFrom shelf seen P files n s (h ∷ hs) s' → IsNextHeld n s f h hs s'
     next_held n s f h hs s' there holds =
         parted holds.contents
@@ -140,17 +141,17 @@ module _ {S F : Type 0} (shelf : Ghosts S F) (seen : F → SourceSeen) (files : 
         }
 
     -- where nothing is held, nothing was visited
-    pub none_held : (n : ℕ) (s s' : S) (hs : List Held) → hs ≡ [] → HoldsFrom shelf seen P files n s hs s' → s' ≡ s
+    pub none_held : (n : ℕ) (s s' : S) (hs : List HeldFile) → hs ≡ [] → HoldsFrom shelf seen P files n s hs s' → s' ≡ s
     none_held n s s' hs none holds = ended s holds.contents s'
         (subst (λ gs. Chain (LooksAhead shelf seen) s (take (length gs) (drop n files)) holds.contents s') none holds.run)
 
     -- there is no file behind the last one
-    pub all_held : (n : ℕ) (s s' : S) (hs : List Held) → length files ≤ n → HoldsFrom shelf seen P files n s hs s' → s' ≡ s
+    pub all_held : (n : ℕ) (s s' : S) (hs : List HeldFile) → length files ≤ n → HoldsFrom shelf seen P files n s hs s' → s' ≡ s
     all_held n s s' hs all holds = ended s holds.contents s'
         (subst (λ fs. Chain (LooksAhead shelf seen) s fs holds.contents s') (take_nothing (length hs) (drop n files) (drop_all n files all)) holds.run)
 
     -- and those behind it
-    pub looks_behind : (n : ℕ) (f : FileEntry) (s s' : S) (hs : List Held) → length hs < 64 → (hs ≡ []) ⊎ IsSmallFile f
+    pub looks_behind : (n : ℕ) (f : FileEntry) (s s' : S) (hs : List HeldFile) → length hs < 64 → (hs ≡ []) ⊎ IsSmallFile f
         → HoldsFrom shelf seen P files (n + 1) s hs s' → LooksBehind shelf seen files n f s s'
     looks_behind n f s s' hs few small holds =
         let many = are_many P hs holds.contents holds.are in

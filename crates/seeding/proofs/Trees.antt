@@ -1,5 +1,5 @@
 -- The tree of a file, where a torrent's trees are looked at.
-use Rattle.std.proofs.Common.{◌≡◌, ℕ, ◌<◌, ◌≤◌, ◌^◌, List, length, map, get_or, Some, option_map, sym, ap, ◌∙◌, subst}
+use Rattle.std.proofs.Common.{◌≡◌, ℕ, ◌<◌, List, length, map, get_or, Some, option_map, sym, ap, ◌∙◌, subst}
 use Rattle.std.specs.Prelude.{slice_get}
 use Rattle.std.proofs.lemmas.Option.{same_Some, slice_get-get_or, slice_get-map}
 use Rattle.opening.specs.Description.{Description, FileEntry, TreeEntry}
@@ -8,16 +8,10 @@ use Rattle.opening.specs.Sound.{IsSound}
 use Rattle.opening.specs.declared.torrent.TreeInfo.{TreeInfo}
 use Rattle.folders.specs.Verdicts.{IsFileOf}
 use Rattle.folders.proofs.Places.{tree_inside}
-
--- the tree that stands at a file's number: that of the file, of its length, in range
-pub record IsTreeAt (t : Description) (f : FileEntry) (n : ℕ) (e : TreeEntry) : Type 0 where
-  pub there : slice_get t.trees n ≡ Some e
-  pub same : e.length ≡ f.length
-  pub some : 0 < e.length
-  pub small : e.length ≤ 2 ^ 46
+use Rattle.seeding.specs.OwnTrees.{IsOwnTree}
 
 pub found_tree : (t : Description) (f : FileEntry) (n : ℕ) (trees : List TreeInfo) (d : TreeInfo) → map tree_entry trees ≡ t.trees → IsSound t → IsFileOf t f
-    → f.tree ≡ Some n → (n < length trees) × IsTreeAt t f n (tree_entry (get_or trees n d))
+    → f.tree ≡ Some n → (n < length trees) × IsOwnTree t f n (tree_entry (get_or trees n d))
 found_tree t f n trees d is sound file at =
     let fine = sound.files file.0 f file.1 in
     let inside = tree_inside t f n trees is fine at in
@@ -27,4 +21,4 @@ found_tree t f n trees d is sound file at =
     let tree = fine.tree_there n at in
     let same : tree.0 ≡ e = same_Some tree.0 e (sym tree.1 ∙ there) in
     let good = sound.trees n e there in
-    (inside, record { there = there; same = subst (λ (x : TreeEntry). x.length ≡ f.length) same tree.2; some = good.some; small = good.bound })
+    (inside, record { number_is = at; there = there; same = subst (λ (x : TreeEntry). x.length ≡ f.length) same tree.2; some = good.some; small = good.bound })

@@ -4,8 +4,8 @@ use Rattle.hashtree.specs.Tree.{Fits, block_count, layer_of}
 use Rattle.node_maps.specs.Digest.{Hash}
 use Rattle.opening.specs.Description.{FileEntry, TreeEntry}
 use Rattle.seeding.specs.Seeding.{FillsLeaves}
-use Rattle.seeding.specs.declared.ahead.Held.{Held}
-use Rattle.seeding.specs.declared.ahead.Held.TheVariants as held
+use Rattle.seeding.specs.declared.ahead.HeldFile.{HeldFile}
+use Rattle.seeding.specs.declared.ahead.HeldFile.TheVariants as held
 use Rattle.session.specs.Session.{SessionSeen}
 
 -- the leaves of a content, if it fits the tree; none else
@@ -28,7 +28,7 @@ abbrev pub HoldsFitting : TreeEntry → Option (List ℕ) → Type 0
 HoldsFitting e content = (bytes : List ℕ) × (content ≡ Some bytes) × Fits bytes e.length e.root
 
 -- the blocks of a content of this length are those of a window, from one on
-abbrev pub HasHeldBlocks : Held → ℕ → Type 0
+abbrev pub HasHeldBlocks : HeldFile → ℕ → Type 0
 HasHeldBlocks held.Nothing len = ⊤
 HasHeldBlocks (held.Whole first) len = first + block_count len ≤ 64
 

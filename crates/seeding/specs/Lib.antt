@@ -5,3 +5,4 @@ pub mod Leaves
 pub mod LeavesLaws
 pub mod Seeding
 pub mod Together
+pub mod OwnTrees

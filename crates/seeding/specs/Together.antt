@@ -9,13 +9,13 @@ use Rattle.hashtree.specs.Tree.{block_count}
 use Rattle.opening.specs.Description.{FileEntry}
 use Rattle.seeding.specs.Seeding.{LooksAhead, LooksBehind, SeedStep, StopsAtFile, shelf_and_session}
 use Rattle.seeding.specs.declared.ahead.Ahead.{Ahead}
-use Rattle.seeding.specs.declared.ahead.Held.{Held}
-use Rattle.seeding.specs.declared.ahead.Held.TheVariants as held
+use Rattle.seeding.specs.declared.ahead.HeldFile.{HeldFile}
+use Rattle.seeding.specs.declared.ahead.HeldFile.TheVariants as held
 use Rattle.seeding.specs.declared.together.HeldFiles.{HeldFiles}
 use Rattle.session.specs.Session.{SessionSeen}
 
 -- what is held of the files that are left
-abbrev pub held_left : Ahead → List Held
+abbrev pub held_left : Ahead → List HeldFile
 held_left a = drop a.next (take a.count a.held)
 
 -- there is room for one more file of this length: it is one of 64 and has eight blocks at most, its
@@ -45,14 +45,14 @@ pub record StandsHashed (w : Window) (first : ℕ) (bytes : List ℕ) : Type 0 w
   pub hashed : IsHashed w room
 
 -- what is held of a file is this content, whose bytes stand so from a block on
-abbrev pub IsHeldAs : (ℕ → List ℕ → Type 0) → Held → Option (List ℕ) → Type 0
+abbrev pub IsHeldAs : (ℕ → List ℕ → Type 0) → HeldFile → Option (List ℕ) → Type 0
 IsHeldAs Standing held.Nothing None = ⊤
 IsHeldAs Standing held.Nothing (Some bytes) = ⊥
 IsHeldAs Standing (held.Whole first) None = ⊥
 IsHeldAs Standing (held.Whole first) (Some bytes) = Standing first bytes
 
 -- the same of several files
-abbrev pub AreHeldAs : (ℕ → List ℕ → Type 0) → List Held → List (Option (List ℕ)) → Type 0
+abbrev pub AreHeldAs : (ℕ → List ℕ → Type 0) → List HeldFile → List (Option (List ℕ)) → Type 0
 AreHeldAs Standing [] [] = ⊤
 AreHeldAs Standing [] (c ∷ cs) = ⊥
 AreHeldAs Standing (h ∷ hs) [] = ⊥
@@ -60,7 +60,8 @@ AreHeldAs Standing (h ∷ hs) (c ∷ cs) = IsHeldAs Standing h c × AreHeldAs St
 
 -- the files from this one on were visited, and this is held of their contents
 pub record HoldsFrom {S F : Type 0} (shelf : Ghosts S F) (seen : F → SourceSeen)
-    (Standing : ℕ → List ℕ → Type 0) (files : List FileEntry) (from : ℕ) (s : S) (hs : List Held)
+    (Standing : ℕ → List ℕ → Type 0) (files : List FileEntry) (from : ℕ) (s : S)
+    (hs : List HeldFile)
     (s' : S) : Type 0 where
   pub contents : List (Option (List ℕ))
   pub run : Chain (LooksAhead shelf seen) s (take (length hs) (drop from files)) contents s'

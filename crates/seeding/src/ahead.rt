@@ -6,7 +6,7 @@ pub(crate) const MOST: usize = 64;
 
 /// What is held of a file that was visited.
 #[derive(Clone, Copy)]
-pub(crate) enum Held {
+pub(crate) enum HeldFile {
     /// Nothing: it is empty, missing, unreadable or of another length.
     Nothing,
     /// All its bytes, in the blocks of a window from this one on.
@@ -16,7 +16,7 @@ pub(crate) enum Held {
 /// What is held of the files that come next, which were visited together.
 #[derive(Drop)]
 pub(crate) struct Ahead {
-    held: [Held; MOST],
+    held: [HeldFile; MOST],
     next: usize,
     count: usize,
     ghost order: { next ≤ count },
@@ -32,7 +32,7 @@ impl Ahead {
         ensures count { result.count ≡ 0 }
     {
         Ahead {
-            held: [Held::Nothing; MOST],
+            held: [HeldFile::Nothing; MOST],
             next: 0,
             count: 0,
         }
@@ -53,7 +53,7 @@ impl Ahead {
     }
 
     /// What is held of the next file; `None` if no file is left.
-    pub(crate) fn take(&mut self) -> Option<Held>
+    pub(crate) fn take(&mut self) -> Option<HeldFile>
         ensures some { IfSome result (λ h. held_left self.old ≡ h ∷ held_left self.new) }
         ensures none { IsNone result → (held_left self.new ≡ []) × (held_left self.old ≡ []) }
         ensures few { length (held_left self.new) < 64 }
@@ -67,7 +67,7 @@ impl Ahead {
     }
 
     /// Keeps what is held of one more file, behind the others. Condition: there is room.
-    pub(crate) fn push(&mut self, held: Held)
+    pub(crate) fn push(&mut self, held: HeldFile)
         requires { self.old.count < 64 }
         ensures count { self.new.count ≡ self.old.count + 1 }
         ensures last { held_left self.new ≡ held_left self.old ++ held ∷ [] }

@@ -8,7 +8,8 @@ ghost use Rattle.seeding.specs.Giving.{FillsByTree, FindsHeld, HasHeldBlocks, Ha
 ghost use Rattle.seeding.specs.Seeding.{FillsLeaves};
 ghost use Rattle.seeding.specs.Together.{IsHeldAs, StandsHashed};
 
-use crate::ahead::Held;
+use crate::ahead::HeldFile;
+use crate::own_tree::OwnTree;
 use crate::seeding::take_over;
 use block_windows::Window;
 use hashtree::{BLOCK_LENGTH, Hash, NoMemory, Shape};
@@ -26,7 +27,7 @@ pub(crate) fn seed_held<N: NodeMap>(
     alloc: Global,
     session: &mut Session<'_, N>,
     file: &File<'_>,
-    held: Held,
+    held: HeldFile,
     blocks: &Window,
 ) -> Result<bool, NoMemory>
     requires file { IsFileOf session.old.torrent (file_entry file.now) }
@@ -40,13 +41,8 @@ pub(crate) fn seed_held<N: NodeMap>(
         → LacksMemoryForLeaves session.old (file_entry file.now) content session.new) }
     ensures torrent { session.new.torrent ≡ session.old.torrent }
 {
-    let torrent = session.torrent();
-    torrent.recall_sound();
-    match file.tree {
-        Some(number) => {
-            let tree = &torrent.trees()[number];
-            seed_tree_held(alloc, session, number, tree, held, blocks)
-        }
+    match OwnTree::of(session.torrent(), file) {
+        Some(own) => seed_tree_held(alloc, session, own, held, blocks),
         None => Ok(false),
     }
 }
@@ -55,25 +51,27 @@ pub(crate) fn seed_held<N: NodeMap>(
 fn seed_tree_held<N: NodeMap>(
     alloc: Global,
     session: &mut Session<'_, N>,
-    number: usize,
-    tree: &TreeInfo<'_>,
-    held: Held,
+    own: OwnTree<'_, '_>,
+    held: HeldFile,
     blocks: &Window,
 ) -> Result<bool, NoMemory>
-    requires tree { slice_get session.old.torrent.trees number ≡ Some (tree_entry tree.now) }
-    requires bounds { (0 < tree.now.length) × (tree.now.length ≤ 2 ^ 46) }
-    requires within { HasHeldBlocks held tree.now.length }
+    requires tree { slice_get session.old.torrent.trees own.number
+        ≡ Some (tree_entry own.tree.now) }
+    requires bounds { (0 < own.tree.now.length) × (own.tree.now.length ≤ 2 ^ 46) }
+    requires within { HasHeldBlocks held own.tree.now.length }
     ensures seeds { IfOk result (λ seeded. (content : Option (List ℕ))
-        → IsHeldAs (StandsHashed blocks.now) held content → HasStated tree.now.length content
-        → (found : Option (List Digest)) × FindsHeld (tree_entry tree.now) content found
-        × FillsLeaves session.old number found seeded session.new) }
+        → IsHeldAs (StandsHashed blocks.now) held content
+        → HasStated own.entry.tree.now.length content
+        → (found : Option (List Digest)) × FindsHeld (tree_entry own.entry.tree.now) content found
+        × FillsLeaves session.old own.entry.number found seeded session.new) }
     ensures no_memory { OnErr result ((session.new ≡ session.old) × ((content : Option (List ℕ))
-        → IsHeldAs (StandsHashed blocks.now) held content → HasStated tree.now.length content
-        → HoldsFitting (tree_entry tree.now) content)) }
+        → IsHeldAs (StandsHashed blocks.now) held content
+        → HasStated own.entry.tree.now.length content
+        → HoldsFitting (tree_entry own.entry.tree.now) content)) }
     ensures torrent { session.new.torrent ≡ session.old.torrent }
 {
-    match find_held(alloc, tree, held, blocks)? {
-        Some(grown) => Ok(take_over(session, number, grown)),
+    match find_held(alloc, own.tree, held, blocks)? {
+        Some(grown) => Ok(take_over(session, own.number, grown)),
         None => Ok(false),
     }
 }
@@ -82,7 +80,7 @@ fn seed_tree_held<N: NodeMap>(
 fn find_held<N: NodeMap>(
     alloc: Global,
     tree: &TreeInfo<'_>,
-    held: Held,
+    held: HeldFile,
     blocks: &Window,
 ) -> Result<Option<GrownTree<N>>, NoMemory>
     requires bounds { (0 < tree.now.length) × (tree.now.length ≤ 2 ^ 46) }
@@ -96,8 +94,8 @@ fn find_held<N: NodeMap>(
         → HoldsFitting (tree_entry tree.now) content) }
 {
     match held {
-        Held::Nothing => Ok(None),
-        Held::Whole(first) => {
+        HeldFile::Nothing => Ok(None),
+        HeldFile::Whole(first) => {
             let size = tree.length as usize;
             if blocks.root(first, size) != tree.root {
                 return Ok(None);

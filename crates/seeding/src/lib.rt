@@ -5,6 +5,7 @@ mod ahead;
 mod giving;
 mod held;
 mod leaves;
+mod own_tree;
 mod seeding;
 mod together;
 

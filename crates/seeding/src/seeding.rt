@@ -6,11 +6,13 @@ ghost use Rattle.opening.specs.Seen.{file_entry, tree_entry};
 ghost use Rattle.folders.specs.Shelf.{more};
 ghost use Rattle.folders.specs.Verdicts.{IsFileOf};
 ghost use Rattle.seeding.specs.Leaves.{found_of};
+ghost use Rattle.seeding.specs.OwnTrees.{IsOwnTree};
 ghost use Rattle.seeding.specs.Seeding.{FillsLeaves, FindsLeaves, HasFitting, OpensToFind, SeedStep, Seeds, SeedsAs, SeedsFiles, SeedsTree, StopsAtFile, seed_line_as, shelf_and_session};
 ghost use Rattle.seeding.specs.Together.{IsHeldFrom, SeedsNext, StopsNext};
 
 use crate::giving::seed_held;
 use crate::leaves::{Grown, TreeReader};
+use crate::own_tree::OwnTree;
 use crate::together::{HeldFiles, look_ahead};
 use benc::{DeviceFault, Sink};
 use folders::{Pace, ReadFault, Shelf, Unhurried, room_for_files, visit};
@@ -177,13 +179,8 @@ fn seed_file<N: NodeMap, S: Shelf>(
         (shelf_and_session shelf.new session.new)) }
     ensures torrent { session.new.torrent ≡ session.old.torrent }
 {
-    let torrent = session.torrent();
-    torrent.recall_sound();
-    match file.tree {
-        Some(number) => {
-            let tree = &torrent.trees()[number];
-            seed_tree(alloc, session, shelf, file, number, tree, buffer)
-        }
+    match OwnTree::of(session.torrent(), file) {
+        Some(own) => seed_tree(alloc, session, shelf, file, own, buffer),
         None => Ok(false),
     }
 }
@@ -194,25 +191,22 @@ fn seed_tree<N: NodeMap, S: Shelf>(
     session: &mut Session<'_, N>,
     shelf: &mut S,
     file: &File<'_>,
-    number: usize,
-    tree: &TreeInfo<'_>,
+    own: OwnTree<'_, '_>,
     buffer: &mut [u8],
 ) -> Result<bool, NoMemory>
     requires some { 0 < length buffer.old }
-    requires number { file.now.tree ≡ Some number }
-    requires tree { slice_get session.old.torrent.trees number ≡ Some (tree_entry tree.now) }
-    requires bounds { (0 < tree.now.length) × (tree.now.length ≤ 2 ^ 46) }
-    requires same { tree.now.length ≡ file.now.length }
+    requires own { IsOwnTree session.old.torrent (file_entry file.now) own.number
+        (tree_entry own.tree.now) }
     ensures seeds { IfOk result (λ seeded. SeedsTree S.Shelf S.File.seen
-        (shelf_and_session shelf.old session.old) (file_entry file.now) number seeded
+        (shelf_and_session shelf.old session.old) (file_entry file.now) own.entry.number seeded
         (shelf_and_session shelf.new session.new)) }
     ensures no_memory { OnErr result (StopsAtFile S.Shelf S.File.seen
         (shelf_and_session shelf.old session.old) (file_entry file.now)
         (shelf_and_session shelf.new session.new)) }
     ensures torrent { session.new.torrent ≡ session.old.torrent }
 {
-    match find_tree(alloc, shelf, file, tree, buffer)? {
-        Some(grown) => Ok(take_over(session, number, grown)),
+    match find_tree(alloc, shelf, file, own.tree, buffer)? {
+        Some(grown) => Ok(take_over(session, own.number, grown)),
         None => Ok(false),
     }
 }

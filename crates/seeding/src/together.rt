@@ -6,7 +6,7 @@ ghost use Rattle.opening.specs.Seen.{file_entry};
 ghost use Rattle.seeding.specs.Seeding.{LooksAhead};
 ghost use Rattle.seeding.specs.Together.{HasRoomAhead, HoldsFrom, IsHeldAs, KeepsWindowFiles, Stands, StandsHashed, held_left};
 
-use crate::ahead::{Ahead, Held, MOST};
+use crate::ahead::{Ahead, HeldFile, MOST};
 use crate::held::hold_file;
 use block_windows::Window;
 use folders::{Pace, Shelf};
@@ -107,7 +107,7 @@ fn hold_in<S: Shelf>(
     room: &mut Vec<u8>,
     at: usize,
     blocks: &mut Window,
-) -> Held
+) -> HeldFile
     requires small { file.now.length ≤ 131072 }
     requires blocks { block_total blocks.old + block_count file.now.length ≤ 64 }
     requires room { at + file.now.length < length room.old.items }
@@ -121,12 +121,12 @@ fn hold_in<S: Shelf>(
         → IsWithin blocks.new bytes }
 {
     match file.tree {
-        None => Held::Nothing,
+        None => HeldFile::Nothing,
         Some(_) => {
             if !hold_file(shelf, file, room, at) {
-                return Held::Nothing;
+                return HeldFile::Nothing;
             }
-            Held::Whole(blocks.push(at, file.length as usize))
+            HeldFile::Whole(blocks.push(at, file.length as usize))
         }
     }
 }

@@ -9,6 +9,7 @@ pub mod RoundRuns
 pub mod EndLaws
 pub mod OneGap
 pub mod Sessions
+pub mod KeptTrees
 pub mod SessionCalls
 pub mod BlockTrees
 pub mod LeavesOfTrees

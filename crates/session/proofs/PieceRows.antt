@@ -14,9 +14,7 @@ use Rattle.partial_tree.specs.LeafPieces.{IsPieceRow}
 use Rattle.session.specs.Pieces.{piece_span, piece_size, IsTakenFrom, IsRefusedFrom, IsPieceRefused}
 use Rattle.opening.specs.Places.{place_of}
 use Rattle.std.proofs.Common.{◌/◌, List, length, set, Some, None, Result, Ok, Err, IfOk, IfErr}
-use Rattle.std.specs.Prelude.{slice_get}
-use Rattle.std.proofs.lemmas.List.{map-set}
-use Rattle.opening.specs.Description.{Description, FileEntry}
+use Rattle.opening.specs.Description.{Description}
 use Rattle.node_maps.specs.Known.{Known, look}
 use Rattle.node_maps.specs.Places.{IsKnown}
 use Rattle.partial_tree.specs.Claims.{HasNew, IsMismatch}
@@ -26,8 +24,10 @@ use Rattle.partial_tree.specs.LeafPieces.{leaves_in, TreeTakesPiece, TreeRefuses
 use Rattle.partial_tree.specs.declared.refusal.PieceRefusal.{PieceRefusal}
 use Rattle.partial_tree.specs.declared.refusal.PieceRefusal.TheVariants.{BadPlace, BadSize, Unproved, BadPiece, NoMemory}
 use Rattle.session.specs.Asks.{AskSet}
-use Rattle.session.specs.Layouts.{SessionSeen, AreKept, seen, state_of}
-use Rattle.session.proofs.Sessions.{with_trees, in_file, state_stays}
+use Rattle.session.specs.Layouts.{SessionSeen, seen}
+use Rattle.session.specs.BlockTree.{HasBlockTree}
+use Rattle.session.proofs.KeptTrees.{IsKeptTree, tree-after, tree-stays}
+use Rattle.session.proofs.BlockTrees.{length_there, block_inside, in_kept_file}
 use Rattle.tree_laws.proofs.Keeping.{StaysGood}
 use Rattle.partial_tree.proofs.Ranges.{pow_more}
 
@@ -75,63 +75,60 @@ module _ (p : ℕ) (legal : IsPieceLength p) where
 
 -- ---- what a tree says of a piece
 
-module _ (d : Description) (ts : List KeptTree) (kept : AreKept d ts) (o : AskSet) (file first tr : ℕ) (f : FileEntry) (a : KeptTree)
-    (there : slice_get d.files file ≡ Some f) (is : f.tree ≡ Some tr) (e : slice_get ts tr ≡ Some a) (low : first < block_count a.length)
-    (same : a.length ≡ f.length) (bytes : List ℕ) (size : length bytes ≡ piece_size d.piece_length f.length first)
-    (k : ℕ) (span : k ≡ piece_span d.piece_length f.length) (row : IsPieceRow a.length first k (length bytes)) where
-  size_here : length bytes ≡ piece_size d.piece_length a.length first
-  size_here = size ∙ ap (λ n. piece_size d.piece_length n first) (sym same)
+module _ {d : Description} {ts : List KeptTree} {o : AskSet} {v : SessionSeen} {n : ℕ} {a : KeptTree} (x : IsKeptTree d ts o v n a) {file first : ℕ}
+    (e : HasBlockTree v file first n) (bytes : List ℕ) (size : length bytes ≡ piece_size v.torrent.piece_length e.entry.length first)
+    (k : ℕ) (span : k ≡ piece_span v.torrent.piece_length a.length) where
+  size_here : length bytes ≡ piece_size v.torrent.piece_length a.length first
+  size_here = size ∙ ap (λ m. piece_size v.torrent.piece_length m first) (sym (length_there x e))
 
-  span_here : k ≡ piece_span d.piece_length a.length
-  span_here = span ∙ ap (piece_span d.piece_length) (sym same)
+  module _ (aligned : first % 2 ^ piece_layer v.torrent.piece_length ≡ 0) where
+    row_here : IsPieceRow a.length first (piece_span v.torrent.piece_length a.length) (length bytes)
+    row_here = row-of-piece v.torrent.piece_length e.sound.legal a.length first (length bytes) (block_inside x e) aligned size_here
 
-  pub piece_taken : {X : Type 0} (next : KeptTree) (r : Result X PieceRefusal) → IfOk r (λ _. TreeTakesPiece a first k bytes next)
-      → IfOk r (λ _. IsTakenFrom (seen d o ts) file first bytes (seen d o (set ts tr next)))
-  piece_taken next (Err x) ok = tt
-  piece_taken next (Ok x) ok = record {
-    in_file = in_file d ts kept file first tr f a there is e low o;
-    size = size_here;
-    row = subst (λ n. IsPieceRow a.length first n (length bytes)) span_here row;
-    count = ok.count;
-    after = next.state;
-    taken = subst (λ n. TakesRow a.length first n (leaves_in bytes) a.state.known ok.count next.state.known) span_here
-        (subst (λ (m : Known). TakesRow a.length first k (leaves_in bytes) a.state.known ok.count m)
-        (sym (ap (λ (t : KeptTree). t.state.known) ok.marks)) ok.joins.0);
-    marks = ap (λ (t : KeptTree). t.state.marked) ok.marks ∙ ap (λ (t : KeptTree). mark_run t.state.marked first (block_count (length bytes))) ok.joins.1;
-    state_after = ap (with_trees d o) (map-set state_of ts tr next);
-  }
+    pub piece_row : IsPieceRow a.length first k (length bytes)
+    piece_row = subst (λ m. IsPieceRow a.length first m (length bytes)) (sym span) row_here
 
-  refused_here : (x : PieceRefusal) → TreeRefusesPiece a first k bytes x → IsRefusedFrom (seen d o ts) file first bytes x
-  refused_here Unproved h = (
-    in_file d ts kept file first tr f a there is e low o,
-    (
-      size_here,
-      subst (λ n. look a.state.known n (first / 2 ^ n) ≡ None) span_here h,
-    ),
-  )
+    pub piece_taken : {X : Type 0} (next : KeptTree) (r : Result X PieceRefusal) → IfOk r (λ _. TreeTakesPiece a first k bytes next)
+        → IfOk r (λ _. IsTakenFrom v file first bytes (seen d o (set ts n next)))
+    piece_taken next (Err z) ok = tt
+    piece_taken next (Ok z) ok = record {
+      in_file = in_kept_file x e;
+      size = size_here;
+      row = row_here;
+      count = ok.count;
+      after = next.state;
+      taken = subst (λ m. TakesRow a.length first m (leaves_in bytes) a.state.known ok.count next.state.known) span
+          (subst (λ (m : Known). TakesRow a.length first k (leaves_in bytes) a.state.known ok.count m)
+          (sym (ap (λ (t : KeptTree). t.state.known) ok.marks)) ok.joins.0);
+      marks = ap (λ (t : KeptTree). t.state.marked) ok.marks ∙ ap (λ (t : KeptTree). mark_run t.state.marked first (block_count (length bytes))) ok.joins.1;
+      state_after = tree-after x next;
+    }
+
+  refused_here : (z : PieceRefusal) → TreeRefusesPiece a first k bytes z → IsRefusedFrom v file first bytes z
+  refused_here Unproved h = (in_kept_file x e, (size_here, subst (λ m. look a.state.known m (first / 2 ^ m) ≡ None) span h))
   refused_here BadPiece h = (
-    in_file d ts kept file first tr f a there is e low o,
+    in_kept_file x e,
     (
       size_here,
-      subst (λ n. IsKnown (look a.state.known) n (first / 2 ^ n)) span_here h.0,
-      subst (λ n. IsMismatch (look a.state.known) (row_claims first n (leaves_in bytes))) span_here h.1,
+      subst (λ m. IsKnown (look a.state.known) m (first / 2 ^ m)) span h.0,
+      subst (λ m. IsMismatch (look a.state.known) (row_claims first m (leaves_in bytes))) span h.1,
     ),
   )
   refused_here NoMemory h = (
-    in_file d ts kept file first tr f a there is e low o,
+    in_kept_file x e,
     (
       size_here,
-      subst (λ n. IsKnown (look a.state.known) n (first / 2 ^ n)) span_here h.0,
-      subst (λ n. HasNew (look a.state.known) (row_joins a.length first n (leaves_in bytes))) span_here h.1,
+      subst (λ m. IsKnown (look a.state.known) m (first / 2 ^ m)) span h.0,
+      subst (λ m. HasNew (look a.state.known) (row_joins a.length first m (leaves_in bytes))) span h.1,
     ),
   )
   refused_here BadPlace h = absurd h
   refused_here BadSize h = absurd h
 
-  pub piece_refused : {X : Type 0} (next : KeptTree) (r : Result X PieceRefusal) → IfErr r (λ x. TreeRefusesPiece a first k bytes x × (next ≡ a))
-      → IfErr r (λ x. IsRefusedFrom (seen d o ts) file first bytes x × (seen d o (set ts tr next) ≡ seen d o ts))
-  piece_refused next (Ok x) h = tt
-  piece_refused next (Err x) h = (refused_here x h.0, ap (with_trees d o) (state_stays ts tr a next e h.1))
+  pub piece_refused : {X : Type 0} (next : KeptTree) (r : Result X PieceRefusal) → IfErr r (λ z. TreeRefusesPiece a first k bytes z × (next ≡ a))
+      → IfErr r (λ z. IsRefusedFrom v file first bytes z × (seen d o (set ts n next) ≡ v))
+  piece_refused next (Ok z) h = tt
+  piece_refused next (Err z) (refuses, same) = (refused_here z refuses, tree-stays x next same)
 
 -- a tree stays good after a piece, whether it was taken or refused
 pub good_after_piece : {X : Type 0} (a b : KeptTree) (first k : ℕ) (bytes : List ℕ) (r : Result X PieceRefusal) → IsGoodTree b

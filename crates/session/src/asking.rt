@@ -1,6 +1,7 @@
 //! What a session asks for, and what it answers.
 
-ghost use Rattle.std.specs.Prelude.{◌≡◌, ◌<◌, ◌↔◌, IfOk, OnErr, IsTrue, length, Some};
+ghost use Rattle.std.specs.Prelude.{◌≡◌, ◌<◌, ◌↔◌, ℕ, IfOk, IfSome, OnErr, IsTrue, length, Some};
+ghost use Rattle.opening.specs.Trees.{IsTreeWithRoot};
 ghost use Rattle.partial_tree.specs.Kept.{TreeState};
 ghost use Rattle.session.specs.Session.{IsTree, IsAnswered};
 ghost use Rattle.node_maps.specs.Known.{look};
@@ -12,7 +13,7 @@ ghost use Rattle.session.specs.Answers.{IsAnswerTo};
 
 use crate::session::SessionOf;
 use crate::torrent_holder::HoldsTorrent;
-use hashtree::NoMemory;
+use hashtree::{Hash, NoMemory};
 use node_maps::NodeMap;
 use partial_tree::Answer;
 use wire::Ask;
@@ -35,9 +36,8 @@ impl<T: HoldsTorrent, N: NodeMap> SessionOf<T, N> {
     pub fn can_answer(&self, ask: &Ask) -> bool
         ensures { IsTrue result ↔ IsAnswered self.now ask.now }
     {
-        let torrent = self.torrent.lend();
-        torrent.recall_sound();
-        match torrent.tree_with_root(&ask.root) {
+        self.recall_distinct_roots();
+        match self.number_of(&ask.root) {
             None => false,
             Some(number) => self.trees[number].can_answer(ask),
         }
@@ -51,11 +51,20 @@ impl<T: HoldsTorrent, N: NodeMap> SessionOf<T, N> {
         ensures answer { IfOk result (IsAnswerTo self.now ask.now) }
         ensures no_memory { OnErr result (IsAnswered self.now ask.now) }
     {
-        let torrent = self.torrent.lend();
-        torrent.recall_sound();
-        match torrent.tree_with_root(&ask.root) {
+        self.recall_distinct_roots();
+        match self.number_of(&ask.root) {
             None => Ok(Answer::Reject),
             Some(number) => self.trees[number].answer(ask),
         }
+    }
+
+    // The number of the tree with a root.
+    pub(crate) fn number_of(&self, root: &Hash) -> Option<usize>
+        ensures found { IfSome result (IsTreeWithRoot self.now.torrent.trees root.now) }
+        ensures within { IfSome result (λ n. n < length self.now.torrent.trees) }
+        ensures only { (n : ℕ) → IsTreeWithRoot self.now.torrent.trees root.now n
+            → result ≡ Some n }
+    {
+        self.lent_torrent().tree_with_root(root)
     }
 }

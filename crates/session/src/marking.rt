@@ -7,7 +7,8 @@ ghost use Rattle.hashtree.specs.Tree.{block};
 ghost use Rattle.session.specs.Blocks.{cuts, most_blocks};
 ghost use Rattle.partial_tree.specs.BlockDigests.{AreDigests};
 ghost use Rattle.session.specs.Layouts.{HasBlock, HasRun};
-ghost use Rattle.session.specs.BlockTree.{HasBlockTree};
+ghost use Rattle.session.specs.BlockTree.{HasBlockAt, HasBlockTree};
+ghost use Rattle.opening.specs.Places.{place_of};
 ghost use Rattle.chains.specs.Chain.{Chain};
 ghost use Rattle.session.specs.SafeStep.{KeepsKnown, VerifiesTrueBlock, VerifiesTrueBlocks};
 
@@ -54,7 +55,7 @@ impl<T: HoldsTorrent, N: NodeMap> SessionOf<T, N> {
         ensures refused { IfErr result (λ r. IsBlockRefused self.old index begin block.now r
             × (self.new ≡ self.old)) }
     {
-        let Some((file, number)) = self.torrent.lend().place(index, begin) else {
+        let Some((file, number)) = self.block_at(index, begin) else {
             return Err(BlockRefusal::BadPlace);
         };
         match self.mark_in_file(file, number, block, None) {
@@ -92,12 +93,13 @@ impl<T: HoldsTorrent, N: NodeMap> SessionOf<T, N> {
         ensures refused { IfErr result (λ r. AreRefused self.old index begin bytes.now r
             × (self.new ≡ self.old)) }
     {
-        let torrent = self.torrent.lend();
-        torrent.recall_sound();
-        let Some((file, first)) = torrent.place(index, begin) else {
+        let Some((file, first)) = self.block_at(index, begin) else {
             return Err(BlockRefusal::BadPlace);
         };
-        match torrent.block_run(file, first, bytes.len() as u64) {
+        match self
+            .lent_torrent()
+            .block_run(file, first, bytes.len() as u64)
+        {
             None => Err(BlockRefusal::BadSize),
             Some(count) => Ok(self.mark_run(file, first, bytes, count)),
         }
@@ -154,10 +156,20 @@ impl<T: HoldsTorrent, N: NodeMap> SessionOf<T, N> {
         self.trees[tree].knows_leaves(block, 8)
     }
 
+    // The file and the block of it that begin at the place of a message.
+    pub(crate) fn block_at(&self, index: u32, begin: u32) -> Option<(usize, u64)>
+        ensures value { result ≡ place_of self.now.torrent index begin }
+        ensures found { IfSome result (λ p. HasBlockAt self.now index begin p.0 p.1) }
+    {
+        let torrent = self.torrent.lend();
+        torrent.recall_sound();
+        torrent.place(index, begin)
+    }
+
     // The number of the tree that a block of a file is in.
     pub(crate) fn tree_of_block(&self, file: usize, block: u64) -> usize
         requires { HasBlock self.now.torrent file block }
-        ensures { HasBlockTree self.now.torrent file block result }
+        ensures { HasBlockTree self.now file block result }
     {
         let torrent = self.torrent.lend();
         torrent.recall_sound();

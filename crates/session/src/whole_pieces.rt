@@ -47,9 +47,7 @@ impl<T: HoldsTorrent, N: NodeMap> SessionOf<T, N> {
         ensures refused { IfErr result (λ r. IsPieceRefused self.old index bytes.now r
             × (self.new ≡ self.old)) }
     {
-        let torrent = self.torrent.lend();
-        torrent.recall_sound();
-        let Some((file, first)) = torrent.place(index, 0) else {
+        let Some((file, first)) = self.block_at(index, 0) else {
             return Err(PieceRefusal::BadPlace);
         };
         match self.take_from(file, first, bytes) {

@@ -8,7 +8,7 @@ use Rattle.opening.specs.Description.{Description}
 use Rattle.replays.specs.Replay.{AnswersDirected, Beside, Ends, Handled, Handles, IsHandledAs, IsReport, Meets, ReplaySeen, Replayed, replay_seen, told_of}
 use Rattle.replays.specs.Replay.{lines_from as handled_lines}
 use Rattle.replays.specs.ReplayRows.{ending_row, lines_as}
-use Rattle.replays.specs.Telling.{plain}
+use Rattle.replays.specs.Telling.{plain_as}
 use Rattle.replays.specs.declared.report.Outcome.{Outcome}
 use Rattle.session.specs.Session.{SessionSeen}
 use Rattle.uses.specs.Records.{IsReportOf, frame_lines_from}
@@ -35,7 +35,7 @@ unanswered form S (i, frame.Message m) d answer S' (v, steps, is, answers) = (v,
 unanswered form S (i, frame.BadSize id len) d answer S' (is, none, stays) = (is, refl, stays)
 
 reported : (form : Form) (x : Beside (Unit {0})) (body : Directed (List ℕ)) (h : Handled _) (x' : Beside (Unit {0}))
-    → Handles plain false false form x body h x'
+    → Handles (plain_as text_of) false false form x body h x'
     → (f : Directed Frame) × MeansDirected body f × Meets false form x.0 f h.told [] x'.0
 reported form x body h x' (f, means, handled, stepped, meets, (told, stays)) =
     let same : h.frame ≡ f = same-frame x.0.torrent f h.frame handled in
@@ -45,13 +45,13 @@ reported form x body h x' (f, means, handled, stepped, meets, (told, stays)) =
     (f, means, subst (λ T. Meets false form x.0 f h.told [] T) (sym stays) of_told)
 
 all-reported : (form : Form) (x : Beside (Unit {0})) (bodies : List (Directed (List ℕ))) (hs : List (Handled _)) (x' : Beside (Unit {0}))
-    → Chain (Handles plain false false form) x bodies hs x'
+    → Chain (Handles (plain_as text_of) false false form) x bodies hs x'
     → Chain (λ S body d S'. (f : Directed Frame) × MeansDirected body f × Meets false form S f d [] S') x.0 bodies (told_of hs) x'.0
-all-reported form = Chain-each (Handles plain false false form)
+all-reported form = Chain-each (Handles (plain_as text_of) false false form)
     (λ x bodies hs x'. Chain (λ S body d S'. (f : Directed Frame) × MeansDirected body f × Meets false form S f d [] S') x.0 bodies (told_of hs) x'.0)
     (λ x. refl) (λ x body h mid bodies hs x' step rest later. (mid.0, reported form x body h mid step, later))
 
-same-lines : (n : ℕ) (hs : List (Handled _)) → handled_lines plain n hs ≡ frame_lines_from (lines_as text_of) n (told_of hs)
+same-lines : (n : ℕ) (hs : List (Handled _)) → handled_lines (plain_as text_of) n hs ≡ frame_lines_from (lines_as text_of) n (told_of hs)
 same-lines n [] = refl
 same-lines n (h ∷ hs) = ap (λ rest. lines_as text_of n h.told ++ rest) (same-lines (n + 1) hs)
 
@@ -63,14 +63,14 @@ module _ (source source' : SourceSeen) (S S' : SessionSeen) (out out' : SinkSeen
   abbrev new : ReplaySeen (Unit {0})
   new = replay_seen false source' S' tt out' None
 
-  replayed : (handled : List (Handled _)) (e : _) → Ends plain old new handled e → Replayed plain old new handled (Some e)
+  replayed : (handled : List (Handled _)) (e : _) → Ends (plain_as text_of) old new handled e → Replayed (plain_as text_of) old new handled (Some e)
   replayed handled e (inl ends) = ends
   replayed handled e (inr unanswered) = absurd (none-wanted unanswered.wanted)
     where
       none-wanted : false ≡ true → ⊥
       none-wanted e = cc
 
-  pub is-report : (outcome : Outcome) → IsReport plain old new outcome → IsReportOf source source' S S' out out'
+  pub is-report : (outcome : Outcome) → IsReport (plain_as text_of) old new outcome → IsReportOf source source' S S' out out'
   is-report outcome r =
       let ends = replayed r.handled r.ending r.ends in
       record {

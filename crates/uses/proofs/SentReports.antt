@@ -9,9 +9,8 @@ use Rattle.folders.specs.declared.report.FileVerdict.TheVariants as file
 use Rattle.lines.specs.Texts.{text_of}
 use Rattle.opening.specs.Description.{Description, FileEntry}
 use Rattle.part_reports.specs.Texts.{TruePartsReport}
-use Rattle.parts.specs.Laws.{PartWordsAreTexts, PlacesAreTested}
+use Rattle.parts.specs.Laws.{PlacesAreTested}
 use Rattle.parts.specs.PartLines.{has_place}
-use Rattle.parts.specs.PartWords.{part_as, part_words}
 use Rattle.parts.specs.Parts.{Touches}
 use Rattle.parts.specs.Shares.{share}
 use Rattle.printing.specs.declared.fault.Fault.{Fault}
@@ -23,18 +22,18 @@ pub chain_at : {S I O : Type 0} (Step : S → I → O → S → Type 0) (P : I �
 chain_at Step P each s s' is os chain n i o at of =
     let here = step_at Step s is os n i o s' at of chain in each here.from here.to i o here.step
 
-module _ (words : PartWordsAreTexts) (tested : PlacesAreTested) (reports : TruePartsReport) (t : Description) (part count : ℕ)
+module _ (tested : PlacesAreTested) (reports : TruePartsReport) (t : Description) (part count : ℕ)
     (under : List (List ℕ) → Option (Option (List ℕ))) (Went : List FileVerdict → Type 0) (out out' : SinkSeen) (there : part < count) (small : count < 2 ^ 64)
     (off : (files : List FileVerdict) → Went files → (n : ℕ) (f : FileEntry) (v : FileVerdict) → slice_get t.files n ≡ Some f
     → slice_get files n ≡ Some v → (Touches t (share t part count) f → ⊥) → v ≡ file.Good)
   where
-    pub report_sent : (result : Result ℕ Fault) → ChecksPart (part_words text_of) t part count under Went out out' result
+    pub report_sent : (result : Result ℕ Fault) → ChecksPart text_of t part count under Went out out' result
         → IfOk result (λ _. SendsReport t part count under out out')
     report_sent (Ok status) (files, v1, has, found, went, sent, is) = record {
       contents = found.contents;
       agree = found.agree;
       text = _;
-      sent = subst (λ w. SentAndFlushed out out' (part_as w t part count files v1)) words sent;
+      sent = sent;
       whole = reports t found.contents part count files v1 there small found.are_true
           (λ n f v at of none. off files went n f v at of (λ touched.
           let has_one : has_place t (share t part count) f ≡ true = (tested t (share t part count) f).1 touched in (let no : ⊥ = cc in no)));

@@ -1,3 +1,4 @@
+//! Tests of what machines do that each have a part.
 use crate::tests::ABC;
 use crate::{joined_report, report_part, text_of_part, torrent_of_parts};
 use actions::NumberedPart;

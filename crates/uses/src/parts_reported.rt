@@ -5,9 +5,7 @@ ghost use Rattle.uses.specs.PartsReported.{IsWhatACheckSays, SendsReport};
 
 use actions::NumberedPart;
 use benc::Sink;
-use checker::laws::{
-    part_words_are_texts, places_are_tested, texts_make_the_report, true_parts_report,
-};
+use checker::laws::{places_are_tested, texts_make_the_report, true_parts_report};
 use checker::{Fault, JoinFault, Report, SeekShelf, join_reports};
 use commands::part_checks::check_part;
 use metainfo::Torrent;
@@ -26,7 +24,6 @@ pub fn report_part<'a, S: SeekShelf, W: Sink>(
     ensures { IfOk result (λ _. SendsReport torrent.now (part.number - 1) part.count
         (S.Shelf.contents shelf.old).under (W.seen out.old) (W.seen out.new)) }
 {
-    part_words_are_texts();
     places_are_tested();
     true_parts_report();
     check_part(alloc, torrent, shelf, part, out)

@@ -1,3 +1,4 @@
+//! Tests of the clients on a torrent of one small file.
 use crate::{
     Holding, draft_folder, draft_of_parts, judge_folder, keep_block, keep_piece, machines_hold_all,
     report_on, take_message, trusted_run, verdicts_on, write_torrent,

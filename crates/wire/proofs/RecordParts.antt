@@ -1,10 +1,10 @@
 -- The parts of a record that a source gave, and why no further frame came.
 use Rattle.std.proofs.Common.{◌≡◌, ◌≢◌, ℕ, suc, zero, ◌+◌, ◌-◌, ◌^◌, ◌<◌, ◌≤◌, List, [], ◌∷◌, ◌++◌, length, take, drop, get_or, codes, nat_eq, true, false}
 use Rattle.std.proofs.Common.{Option, Some, None, inr, ap, refl, subst, sym, arith, ◌∙◌}
-use Rattle.std.proofs.lemmas.List.{append_assoc, length-append, take_at}
+use Rattle.std.proofs.lemmas.List.{append_assoc, length-append, length-drop, length-take, take_at}
 use Rattle.std.specs.Cmp.Lexicographic.{pointwise, same_text}
 use Rattle.std.proofs.lemmas.Bool.{false≢true}
-use Rattle.std.specs.Io.KnownBytes.{IsAtEnd}
+use Rattle.std.specs.Io.KnownBytes.{Consumes, IsAtEnd}
 use Rattle.benc.specs.Device.{SourceSeen}
 use Rattle.wire.specs.declared.form.Direction.{Direction}
 use Rattle.wire.specs.declared.form.Direction.TheVariants.{In}
@@ -18,7 +18,7 @@ use Rattle.wire.specs.Reading.{Gave, GaveFaultless, CountsRead, StopsShort, Stop
 use Rattle.wire.specs.Records.{Directed, HasForm, direction_byte, header, record_frame}
 use Rattle.wire.specs.RecordReading.{GavePart, GaveFrame, EndsRecord, StopsAt, StopsInRecord, GivesNext}
 use Rattle.wire.proofs.FourBytes.{length-four_bytes, same_from_four_bytes}
-use Rattle.wire.proofs.Giving.{Gave-trans, Gave-until, Faultless-trans}
+use Rattle.wire.proofs.Giving.{Gave-trans, Gave-until, Faultless-take, Faultless-trans}
 use Rattle.wire.proofs.Partial.{IsPartial-from_short, IsPartial-from_unfinished}
 use Rattle.wire.proofs.Stopping.{StopsInFrame-in_length, StopsInFrame-in_body}
 
@@ -120,6 +120,15 @@ first_byte (suc n) [] fits some = absurd (omega (arith, fits))
 first_byte (suc n) (x ∷ buf) fits some =
     let same : n ≡ suc n - 1 = omega arith in
     ap (λ k. x ∷ take k buf) same
+
+-- what the first read of a direction and a length gave, and how many bytes are behind the direction
+pub start_gave : (a b : SourceSeen) (count : ℕ) (buf : List ℕ) → length buf ≡ 5 → count ≤ length buf → count ≢ 0 → Consumes a.left b.left (take count buf)
+    → b.limit + count ≡ a.limit → b.faults ≡ a.faults
+    → GaveFaultless a b (get_or buf 0 0 ∷ take (count - 1) (drop 1 buf)) × (length (take (count - 1) (drop 1 buf)) + 1 ≡ count)
+start_gave a b count buf five fits some given falls faults = (
+  subst (GaveFaultless a b) (first_byte count buf fits some) (Faultless-take a b count buf fits given falls faults),
+  omega (arith, five, fits, some, length-take (count - 1) (drop 1 buf), length-drop 1 buf),
+)
 
 -- ---- why none came
 

@@ -50,9 +50,9 @@ fn in_unit(bytes: u64) -> Scaled {
 
 /// A number of seconds, as hours, minutes and seconds.
 #[derive(Drop)]
-pub(crate) struct Span(pub(crate) u64);
+pub(crate) struct Elapsed(pub(crate) u64);
 
-impl fmt::Display for Span {
+impl fmt::Display for Elapsed {
     fn fmt<W: fmt::Write>(&self, f: &mut fmt::Formatter<W>) -> fmt::Result {
         let (minutes, seconds) = (self.0 / 60, self.0 % 60);
         if minutes < 60 {

@@ -2,7 +2,7 @@
 ghost use Rattle.std.specs.Prelude.{◌≤◌, chars, false};
 ghost use Rattle.unicode_width.specs.Width.{str_width};
 
-use crate::progress::amount::{Amount, Span};
+use crate::progress::amount::{Amount, Elapsed};
 use arrayvec::ArrayString;
 use std::fmt::Write;
 use std::time::Duration;
@@ -73,9 +73,9 @@ impl Figures {
     }
 
     // The time that is left at this rate.
-    fn left(&self) -> Span {
+    fn left(&self) -> Elapsed {
         let all = self.all.unwrap_or(self.done);
-        Span(all.saturating_sub(self.done) / self.rate().max(1))
+        Elapsed(all.saturating_sub(self.done) / self.rate().max(1))
     }
 }
 

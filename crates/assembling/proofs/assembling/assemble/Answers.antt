@@ -9,6 +9,16 @@ use Rattle.assembling.specs.Behind.{AreLong, NamesFirstOther, behind}
 use Rattle.assembling.specs.Outcome.{IsAssembled}
 use Rattle.assembling.proofs.Results.{added_all, divided_as, front_stop, passed_on, pieces_stop, size_stop, unread_stop}
 use Rattle.assembling.proofs.assembling.assemble.Goals as goal
+use Rattle.assembling.proofs.assembling.assemble.Goals.{After-of-division}
+
+-- what holds of the division does of the listing and the parts
+divided : (c : After-of-division) (P : ℕ → ℕ → ℕ → Type 0) → P c.of-division.result.piece_length c.of-division.result.total c.of-division.result.parts
+    → P c.in-Ok.listing.piece_length (total_of (map listed c.in-Ok.listing.files.items)) (length c.in_ok-parts.parts.rows.items)
+divided c P =
+    let d = c.of-division.result in
+    let l = c.in-Ok.listing in
+    divided_as P d.piece_length l.piece_length d.total (total_of (map listed l.files.items)) d.parts (length c.in_ok-parts.parts.rows.items)
+    (search rules) (search rules) (search rules)
 
 pub returns-in_err-parts : goal.returns-in_err-parts
 returns-in_err-parts c =
@@ -38,28 +48,20 @@ returns-in_err-test_sizes c =
     let texts = map (λ (x : Bor (List ℕ)). x.now) c.args.texts.now in
     let p = c.in_ok-parts.parts in
     let l = c.in-Ok.listing in
-    let d = c.of-division.result in
-    let pieces : d.piece_length ≡ l.piece_length = search rules in
-    let total : d.total ≡ total_of (map listed l.files.items) = search rules in
-    let parts : d.parts ≡ length p.rows.items = search rules in
     let e = err_from_is_err_and c.from_residual-in_err-test_sizes.result c.from_residual-in_err-test_sizes.ensures.1 in
     let legal : IsPieceLength l.piece_length = search rules in
     passed_on texts _ e.0 c.from_residual-in_err-test_sizes.result e.1 e.2
     (size_stop texts p l c.in_ok-parts.ensures.parts c.in-Ok.ensures.found c.in-Ok.ensures.exact.0 c.in-Ok.ensures.exact.1 legal _
-    (divided_as (λ k t n. NamesFirstOther k l.hybrid t n (map listed l.files.items) p c.in_err-test_sizes.field-0.0) d.piece_length l.piece_length d.total
-    (total_of (map listed l.files.items)) d.parts (length p.rows.items) pieces total parts c.in_err-test_sizes.ensures.reason))
+    (divided (goal.at.returns-in_err-test_sizes c).After-of-division
+    (λ k t n. NamesFirstOther k l.hybrid t n (map listed l.files.items) p c.in_err-test_sizes.field-0.0) c.in_err-test_sizes.ensures.reason))
 
 pub returns : goal.returns
 returns c =
     let texts = map (λ (x : Bor (List ℕ)). x.now) c.args.texts.now in
     let p = c.in_ok-parts.parts in
     let l = c.in-Ok.listing in
-    let d = c.of-division.result in
-    let pieces : d.piece_length ≡ l.piece_length = search rules in
-    let total : d.total ≡ total_of (map listed l.files.items) = search rules in
-    let parts : d.parts ≡ length p.rows.items = search rules in
     let legal : IsPieceLength l.piece_length = search rules in
-    let long = divided_as (λ k t n. AreLong k l.hybrid t n 0 (map listed l.files.items) (behind p)) d.piece_length l.piece_length d.total
-    (total_of (map listed l.files.items)) d.parts (length p.rows.items) pieces total parts c.in_ok-test_sizes.ensures.sizes in
+    let long = divided (goal.at.returns c).After-of-division (λ k t n. AreLong k l.hybrid t n 0 (map listed l.files.items) (behind p))
+    c.in_ok-test_sizes.ensures.sizes in
     added_all texts p l c.in_ok-parts.ensures.parts c.in-Ok.ensures.found c.in-Ok.ensures.exact.0 c.in-Ok.ensures.exact.1 legal long c.add_all.result
     c.add_all.ensures.draft c.add_all.ensures.no_write c.add_all.ensures.reason c.add_all.ensures.gathers

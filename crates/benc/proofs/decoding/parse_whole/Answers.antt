@@ -1,9 +1,9 @@
 use Rattle.std.proofs.Common.{◌≡◌, inl, inr, arith}
-use Rattle.std.proofs.lemmas.Result.{err_from_is_err_and}
 use Rattle.std.specs.Option.{option_copied}
 use Rattle.benc.specs.View.{view}
 use Rattle.benc.specs.declared.fault.FaultKind.TheVariants.{NoMemory, Trailing}
 use Rattle.benc.proofs.Fronts.{taken_trails, whole_is, whole_spells}
+use Rattle.benc.proofs.Handed.{handed_on}
 use Rattle.benc.proofs.Lookups.{spans_stand}
 use Rattle.benc.proofs.Unique.{no_fault, one_fault}
 use Rattle.benc.proofs.decoding.parse_whole.Goals as goal
@@ -11,26 +11,26 @@ use Rattle.benc.proofs.decoding.parse_whole.Goals as goal
 pub returns-in_err-v-clause-only : goal.returns-in_err-v-clause-only
 returns-in_err-v-clause-only c v s =
     let fault = c.in_err-v.field-0.0 in
-    let p = err_from_is_err_and c.from_residual.result c.from_residual.ensures.1 in
-    rw (p.1, p.2) (absurd (no_fault c.args.input.now v fault.kind fault.offset s (inl c.in_err-v.ensures.fault.1)))
+    rw (handed_on c.from_residual.result _ c.from_residual.ensures.1)
+    (absurd (no_fault c.args.input.now v fault.kind fault.offset s (inl c.in_err-v.ensures.fault.1)))
 
 pub returns-in_err-v-clause-first : goal.returns-in_err-v-clause-first
 returns-in_err-v-clause-first c kind offset f =
     let fault = c.in_err-v.field-0.0 in
-    let p = err_from_is_err_and c.from_residual.result c.from_residual.ensures.1 in
-    rw (p.1, p.2) (one_fault c.args.input.now fault.kind kind fault.offset offset (inl c.in_err-v.ensures.fault.1) f)
+    rw (handed_on c.from_residual.result _ c.from_residual.ensures.1)
+    (one_fault c.args.input.now fault.kind kind fault.offset offset (inl c.in_err-v.ensures.fault.1) f)
 
 pub returns-in_err-v-clause-fault : goal.returns-in_err-v-clause-fault
 returns-in_err-v-clause-fault c =
-    let p = err_from_is_err_and c.from_residual.result c.from_residual.ensures.1 in rw (p.1, p.2) (λ known. inl c.in_err-v.ensures.fault.1)
+    rw (handed_on c.from_residual.result _ c.from_residual.ensures.1) (λ known. inl c.in_err-v.ensures.fault.1)
 
 pub returns-in_err-v-clause-memory : goal.returns-in_err-v-clause-memory
 returns-in_err-v-clause-memory c =
-    let p = err_from_is_err_and c.from_residual.result c.from_residual.ensures.1 in rw (p.1, p.2) (λ none. absurd (c.in_err-v.ensures.fault.0 none))
+    rw (handed_on c.from_residual.result _ c.from_residual.ensures.1) (λ none. absurd (c.in_err-v.ensures.fault.0 none))
 
 pub returns-in_err-v-clause-spelled : goal.returns-in_err-v-clause-spelled
 returns-in_err-v-clause-spelled c =
-    let p = err_from_is_err_and c.from_residual.result c.from_residual.ensures.1 in rw (p.1, p.2) (λ none. absurd (c.in_err-v.ensures.fault.0 none))
+    rw (handed_on c.from_residual.result _ c.from_residual.ensures.1) (λ none. absurd (c.in_err-v.ensures.fault.0 none))
 
 trails : Trailing ≡ NoMemory → ⊥
 trails h = cc
@@ -61,8 +61,8 @@ returns-then-used-input-clause-first c kind offset f =
 pub returns-in_err-check-clause-spelled : goal.returns-in_err-check-clause-spelled
 returns-in_err-check-clause-spelled c =
     let found = c.in_ok-v.ensures.spelled in
-    let p = err_from_is_err_and c.from_residual-in_err-check.result c.from_residual-in_err-check.ensures.1 in
-    rw (p.1, p.2) (λ none. (found.0, whole_spells c.args.input.now c.in_ok-v.used found.0 (omega arith) found.1))
+    rw (handed_on c.from_residual-in_err-check.result _ c.from_residual-in_err-check.ensures.1)
+    (λ none. (found.0, whole_spells c.args.input.now c.in_ok-v.used found.0 (omega arith) found.1))
 
 pub returns-in_err-check-clause-first : goal.returns-in_err-check-clause-first
 returns-in_err-check-clause-first c kind offset f =
@@ -95,13 +95,12 @@ returns-clause-first c kind offset f =
 
 pub returns-in_err-check-clause-fault : goal.returns-in_err-check-clause-fault
 returns-in_err-check-clause-fault c =
-    let p = err_from_is_err_and c.from_residual-in_err-check.result c.from_residual-in_err-check.ensures.1 in
-    rw (p.1, p.2) (λ known. absurd (known c.in_err-check.ensures.0))
+    rw (handed_on c.from_residual-in_err-check.result _ c.from_residual-in_err-check.ensures.1) (λ known. absurd (known c.in_err-check.ensures.0))
 
 pub returns-in_err-check-clause-memory : goal.returns-in_err-check-clause-memory
 returns-in_err-check-clause-memory c =
-    let p = err_from_is_err_and c.from_residual-in_err-check.result c.from_residual-in_err-check.ensures.1 in rw (p.1, p.2) (λ none. c.in_err-check.ensures.1)
+    rw (handed_on c.from_residual-in_err-check.result _ c.from_residual-in_err-check.ensures.1) (λ none. c.in_err-check.ensures.1)
 
 pub returns-in_err-check-clause-only : goal.returns-in_err-check-clause-only
 returns-in_err-check-clause-only c v s =
-    let p = err_from_is_err_and c.from_residual-in_err-check.result c.from_residual-in_err-check.ensures.1 in rw (p.1, p.2) c.in_err-check.ensures.0
+    rw (handed_on c.from_residual-in_err-check.result _ c.from_residual-in_err-check.ensures.1) c.in_err-check.ensures.0

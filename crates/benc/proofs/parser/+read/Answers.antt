@@ -1,11 +1,11 @@
 use Rattle.std.proofs.Common.{◌≡◌, ◌-◌, inl, length, map, take, [], ◌∷◌, ◌++◌, Ok, Err, option_copied, refl, sym, ap, ◌∙◌, arith}
 use Rattle.std.specs.Int.{w64}
 use Rattle.std.proofs.lemmas.Int.{to_z-of_z}
-use Rattle.std.proofs.lemmas.Result.{err_from_is_err_and}
 use Rattle.benc.specs.Value.{Bencode, int, text, list, dict}
 use Rattle.benc.specs.View.{view, pair_view, items_of, pairs_of}
 use Rattle.benc.specs.Parser.{◌>>=◌, GrowsForItem, GrowsForPair, begun_at, value_at, items_behind, pairs_behind}
 use Rattle.benc.specs.Fails.{Reaches}
+use Rattle.benc.proofs.Handed.{handed_on}
 use Rattle.benc.proofs.Reached.{list_reaches, dict_reaches}
 use Rattle.benc.proofs.Lookups.{none_yet, span_push}
 use Rattle.benc.proofs.SoFar.{value_of, same_value, left_mapped, value_bytes, items_begin, items_next, items_all, items_cut, items_failed, items_grow_here}
@@ -34,34 +34,30 @@ value-returns-then-room-eq0-2-clause-read t c =
 
 pub value-returns-in-Ok-clause-kept : goal.value-returns-in-Ok-clause-kept
 value-returns-in-Ok-clause-kept t c kept =
-    let bytes = c.args.bytes.now in
-    value_integer c.args.room bytes _ (at_front c.in-Some.ensures c.in-105.is) ∙ ap (λ r. begun_at bytes r >>= λ x. Ok (int x.0, x.1)) c.in-Ok.ensures.read
+    value_integer c.args.room c.args.bytes.now _ (at_front c.in-Some.ensures c.in-105.is)
+    ∙ ap (λ r. begun_at c.args.bytes.now r >>= λ x. Ok (int x.0, x.1)) c.in-Ok.ensures.read
     ∙ ap (λ v. Ok (v, c.in-Ok.after.now)) (ap int (sym (to_z-of_z w64 c.in-Ok.n c.in-Ok.ensures.fits)) ∙ sym (view-Int _))
 
 pub value-returns-in-Ok-clause-read : goal.value-returns-in-Ok-clause-read
 value-returns-in-Ok-clause-read t c =
-    let bytes = c.args.bytes.now in
-    let first = at_front c.in-Some.ensures c.in-105.is in
-    ap (λ r. r >>= λ y. Ok y.1) (value_integer c.args.room bytes _ first ∙ ap (λ r. begun_at bytes r >>= λ x. Ok (int x.0, x.1)) c.in-Ok.ensures.read)
+    ap (λ r. r >>= λ y. Ok y.1) (value_integer c.args.room c.args.bytes.now _ (at_front c.in-Some.ensures c.in-105.is)
+    ∙ ap (λ r. begun_at c.args.bytes.now r >>= λ x. Ok (int x.0, x.1)) c.in-Ok.ensures.read)
 
 pub value-returns-in-Err-clause-read : goal.value-returns-in-Err-clause-read
 value-returns-in-Err-clause-read t c =
-    let bytes = c.args.bytes.now in
-    value_integer c.args.room bytes _ (at_front c.in-Some.ensures c.in-105.is) ∙ ap (λ r. begun_at bytes r >>= λ x. Ok (int x.0, x.1)) c.in-Err.ensures.read
-    ∙ ap Err (sym c.at-in-Err.ensures)
+    value_integer c.args.room c.args.bytes.now _ (at_front c.in-Some.ensures c.in-105.is)
+    ∙ ap (λ r. begun_at c.args.bytes.now r >>= λ x. Ok (int x.0, x.1)) c.in-Err.ensures.read ∙ ap Err (sym c.at-in-Err.ensures)
 
 pub value-returns-in-Ok-string-clause-kept : goal.value-returns-in-Ok-string-clause-kept
 value-returns-in-Ok-string-clause-kept t c kept =
-    let bytes = c.args.bytes.now in
-    value_text c.args.room bytes c.in-Some.rest.now c.in-Some.first (omega arith) (omega arith) c.in-Some.ensures
-    ∙ ap (λ r. begun_at bytes r >>= λ x. Ok (text x.0, x.1)) c.in-Ok-string.ensures.read
+    value_text c.args.room c.args.bytes.now c.in-Some.rest.now c.in-Some.first (omega arith) (omega arith) c.in-Some.ensures
+    ∙ ap (λ r. begun_at c.args.bytes.now r >>= λ x. Ok (text x.0, x.1)) c.in-Ok-string.ensures.read
     ∙ ap (λ v. Ok (v, c.in-Ok-string.after.now)) (sym (view-Bytes c.in-Ok-string.text))
 
 pub value-returns-in-Ok-string-clause-read : goal.value-returns-in-Ok-string-clause-read
 value-returns-in-Ok-string-clause-read t c =
-    let bytes = c.args.bytes.now in
-    let is = value_text c.args.room bytes c.in-Some.rest.now c.in-Some.first (omega arith) (omega arith) c.in-Some.ensures in
-    ap (λ r. r >>= λ y. Ok y.1) (is ∙ ap (λ r. begun_at bytes r >>= λ x. Ok (text x.0, x.1)) c.in-Ok-string.ensures.read)
+    ap (λ r. r >>= λ y. Ok y.1) (value_text c.args.room c.args.bytes.now c.in-Some.rest.now c.in-Some.first (omega arith) (omega arith) c.in-Some.ensures
+    ∙ ap (λ r. begun_at c.args.bytes.now r >>= λ x. Ok (text x.0, x.1)) c.in-Ok-string.ensures.read)
 
 pub value-returns-in-Err-string-clause-read : goal.value-returns-in-Err-string-clause-read
 value-returns-in-Err-string-clause-read t c =
@@ -78,14 +74,13 @@ value-returns-in_default-first-clause-read t c =
 
 pub value-returns-in_ok-found-in-108-clause-read : goal.value-returns-in_ok-found-in-108-clause-read
 value-returns-in_ok-found-in-108-clause-read t c =
-    let rest = c.in-Some.rest.now in
-    left_mapped (items_behind (c.args.room - 1) rest) list (value_at c.args.room c.args.bytes.now) c.in_ok-found-in-108.after.now
-    (value_items c.args.room c.args.bytes.now rest (omega arith) (at_front c.in-Some.ensures c.in-108.is)) c.in_ok-found-in-108.ensures.read
+    left_mapped (items_behind (c.args.room - 1) c.in-Some.rest.now) list (value_at c.args.room c.args.bytes.now) c.in_ok-found-in-108.after.now
+    (value_items c.args.room c.args.bytes.now _ (omega arith) (at_front c.in-Some.ensures c.in-108.is)) c.in_ok-found-in-108.ensures.read
 
 pub value-returns-in_ok-found-in-108-clause-kept : goal.value-returns-in_ok-found-in-108-clause-kept
 value-returns-in_ok-found-in-108-clause-kept t c kept =
-    let first = at_front c.in-Some.ensures c.in-108.is in
-    value_items c.args.room _ _ (omega arith) first ∙ ap (λ r. r >>= λ x. Ok (list x.0, x.1)) (c.in_ok-found-in-108.ensures.kept kept)
+    value_items c.args.room _ _ (omega arith) (at_front c.in-Some.ensures c.in-108.is)
+    ∙ ap (λ r. r >>= λ x. Ok (list x.0, x.1)) (c.in_ok-found-in-108.ensures.kept kept)
     ∙ ap (λ v. Ok (v, c.in_ok-found-in-108.after.now)) (sym (view-List c.in_ok-found-in-108.found))
 
 pub value-returns-in_ok-found-in-108-clause-memory : goal.value-returns-in_ok-found-in-108-clause-memory
@@ -96,14 +91,13 @@ value-returns-in_ok-found-in-108-clause-memory t c =
 
 pub value-returns-in_ok-found-in-100-clause-read : goal.value-returns-in_ok-found-in-100-clause-read
 value-returns-in_ok-found-in-100-clause-read t c =
-    let rest = c.in-Some.rest.now in
-    left_mapped (pairs_behind (c.args.room - 1) rest) dict (value_at c.args.room c.args.bytes.now) c.in_ok-found-in-100.after.now
-    (value_pairs c.args.room c.args.bytes.now rest (omega arith) (at_front c.in-Some.ensures c.in-100.is)) c.in_ok-found-in-100.ensures.read
+    left_mapped (pairs_behind (c.args.room - 1) c.in-Some.rest.now) dict (value_at c.args.room c.args.bytes.now) c.in_ok-found-in-100.after.now
+    (value_pairs c.args.room c.args.bytes.now _ (omega arith) (at_front c.in-Some.ensures c.in-100.is)) c.in_ok-found-in-100.ensures.read
 
 pub value-returns-in_ok-found-in-100-clause-kept : goal.value-returns-in_ok-found-in-100-clause-kept
 value-returns-in_ok-found-in-100-clause-kept t c kept =
-    let first = at_front c.in-Some.ensures c.in-100.is in
-    value_pairs c.args.room _ _ (omega arith) first ∙ ap (λ r. r >>= λ x. Ok (dict x.0, x.1)) (c.in_ok-found-in-100.ensures.kept kept)
+    value_pairs c.args.room _ _ (omega arith) (at_front c.in-Some.ensures c.in-100.is)
+    ∙ ap (λ r. r >>= λ x. Ok (dict x.0, x.1)) (c.in_ok-found-in-100.ensures.kept kept)
     ∙ ap (λ v. Ok (v, c.in_ok-found-in-100.after.now)) (sym (view-Dict c.in_ok-found-in-100.found))
 
 pub value-returns-in_ok-found-in-100-clause-memory : goal.value-returns-in_ok-found-in-100-clause-memory
@@ -114,15 +108,15 @@ value-returns-in_ok-found-in-100-clause-memory t c =
 
 pub value-returns-in_err-found-in-108-clause-read : goal.value-returns-in_err-found-in-108-clause-read
 value-returns-in_err-found-in-108-clause-read t c =
-    let first = at_front c.in-Some.ensures c.in-108.is in
-    let p = err_from_is_err_and c.from_residual.result c.from_residual.ensures.1 in
-    rw (p.1, p.2) (value_items c.args.room _ _ (omega arith) first ∙ ap (λ r. r >>= λ x. Ok (list x.0, x.1)) c.in_err-found-in-108.ensures.read)
+    rw (handed_on c.from_residual.result _ c.from_residual.ensures.1)
+    (value_items c.args.room _ _ (omega arith) (at_front c.in-Some.ensures c.in-108.is)
+    ∙ ap (λ r. r >>= λ x. Ok (list x.0, x.1)) c.in_err-found-in-108.ensures.read)
 
 pub value-returns-in_err-found-in-100-clause-read : goal.value-returns-in_err-found-in-100-clause-read
 value-returns-in_err-found-in-100-clause-read t c =
-    let first = at_front c.in-Some.ensures c.in-100.is in
-    let p = err_from_is_err_and c.from_residual-in_err-found-in-100.result c.from_residual-in_err-found-in-100.ensures.1 in
-    rw (p.1, p.2) (value_pairs c.args.room _ _ (omega arith) first ∙ ap (λ r. r >>= λ x. Ok (dict x.0, x.1)) c.in_err-found-in-100.ensures.read)
+    rw (handed_on c.from_residual-in_err-found-in-100.result _ c.from_residual-in_err-found-in-100.ensures.1)
+    (value_pairs c.args.room _ _ (omega arith) (at_front c.in-Some.ensures c.in-100.is)
+    ∙ ap (λ r. r >>= λ x. Ok (dict x.0, x.1)) c.in_err-found-in-100.ensures.read)
 
 pub items-items-init : goal.items-items-init
 items-items-init t c = record {
@@ -133,59 +127,42 @@ items-items-init t c = record {
 }
 
 pub items-returns-in_default-clause-read : goal.items-returns-in_default-clause-read
-items-returns-in_default-clause-read t c =
-    let l = c.items in
-    items_cut c.args.room c.args.bytes.now l.rest.now l.invariant.read.0 l.invariant.read.1 c.in_default.ensures ∙ ap Err (sym c.at.ensures)
+items-returns-in_default-clause-read t c = items_cut c.items.invariant.read.1 c.in_default.ensures ∙ ap Err (sym c.at.ensures)
 
 pub items-returns-then-first-eq101-clause-read : goal.items-returns-then-first-eq101-clause-read
-items-returns-then-first-eq101-clause-read t c =
-    let l = c.items in
-    ap (λ r. r >>= λ y. Ok y.1) (items_all c.args.room c.args.bytes.now l.rest.now c.in-Some.after.now l.invariant.read.0 c.in-Some.first l.invariant.read.1
-    c.in-Some.ensures (omega arith))
+items-returns-then-first-eq101-clause-read t c = ap (λ r. r >>= λ y. Ok y.1) (items_all c.items.invariant.read.1 c.in-Some.ensures (omega arith))
 
 pub items-returns-then-first-eq101-clause-kept : goal.items-returns-then-first-eq101-clause-kept
 items-returns-then-first-eq101-clause-kept t c kept =
-    let l = c.items in
-    items_all c.args.room c.args.bytes.now l.rest.now c.in-Some.after.now l.invariant.read.0 c.in-Some.first l.invariant.read.1 c.in-Some.ensures (omega arith)
-    ∙ ap (λ vs. Ok (items_of vs, c.in-Some.after.now)) (l.invariant.read.2 kept)
+    items_all c.items.invariant.read.1 c.in-Some.ensures (omega arith) ∙ ap (λ vs. Ok (items_of vs, c.in-Some.after.now)) (c.items.invariant.read.2 kept)
 
 pub items-returns-in_err-item-clause-read : goal.items-returns-in_err-item-clause-read
 items-returns-in_err-item-clause-read t c =
-    let l = c.items in
-    let e = c.in_err-item.field-0.0 in
-    let p = err_from_is_err_and c.from_residual.result c.from_residual.ensures.1 in
-    rw (p.1, p.2) (items_failed c.args.room c.args.bytes.now l.rest.now l.invariant.read.0 c.in-Some.first c.in-Some.after.now (e.kind, e.rest.now)
-    l.invariant.read.1 c.in-Some.ensures c.if-first-eq101.false c.in_err-item.ensures.read)
+    rw (handed_on c.from_residual.result _ c.from_residual.ensures.1)
+    (items_failed c.items.invariant.read.1 c.in-Some.ensures c.if-first-eq101.false c.in_err-item.ensures.read)
 
 pub items-items-preserved : goal.items-items-preserved
 items-items-preserved t c =
     let l = c.items in
-    let room = c.args.room in
-    let bytes = c.args.bytes.now in
-    let start = c.args.start.now in
     let vs = l.invariant.read.0 in
     let so = l.invariant.read.1 in
-    let here = l.rest.now in
-    let after = c.in_ok-item.after.now in
     let given = c.in_ok-item.ensures in
-    let v = value_of (value_at room here) after given.read in
-    let middle = c.value.new.store in
-    let new = c.push.new.self in
-    let Grows = GrowsForItem room start bytes in
+    let v = value_of (value_at c.args.room l.rest.now) c.in_ok-item.after.now given.read in
+    let Grows = GrowsForItem c.args.room c.args.start.now c.args.bytes.now in
     record {
       read = (
         vs ++ v.0 ∷ [],
-        items_next room bytes here after vs c.in-Some.first c.in-Some.after.now v.0 so c.in-Some.ensures c.if-first-eq101.false v.1 given.shorter,
+        items_next so c.in-Some.ensures c.if-first-eq101.false v.1 given.shorter,
         λ kept.
-            let still = keeps_before middle new (λ s. s ≡ start) c.push.ensures.refused kept in
-            let before = keeps_before l.store middle (Reaches room here) given.memory still in
-            let same = same_value (value_at room here) v.0 (view c.in_ok-item.item) after v.1 (given.kept still) in
+            let still = keeps_before c.value.new.store c.push.new.self (λ s. s ≡ c.args.start.now) c.push.ensures.refused kept in
+            let before = keeps_before l.store c.value.new.store (Reaches c.args.room l.rest.now) given.memory still in
+            let same = same_value (value_at c.args.room l.rest.now) v.0 (view c.in_ok-item.item) c.in_ok-item.after.now v.1 (given.kept still) in
             kept_push view l.found.items c.push.new.found.items c.in_ok-item.item vs v.0 (l.invariant.read.2 before) same (c.push.ensures.kept kept),
       );
-      refused = refused_then c.args.store.now middle new Grows (λ s. s ≡ start)
-          (refused_then c.args.store.now l.store middle Grows (Reaches room here) l.invariant.refused given.memory
-          (λ there r. items_reach room bytes here start there vs so r))
-          c.push.ensures.refused (λ there same. items_grow_here room bytes here after start there vs v.0 so v.1 same);
+      refused = refused_then c.args.store.now c.value.new.store c.push.new.self Grows (λ s. s ≡ c.args.start.now)
+          (refused_then c.args.store.now l.store c.value.new.store Grows (Reaches c.args.room l.rest.now) l.invariant.refused given.memory
+          (λ there r. items_reach so c.args.start.now there r))
+          c.push.ensures.refused (λ there same. items_grow_here so v.1 same);
       room = c.push.ensures.room l.invariant.room;
       thrifty = all_more is_thrifty l.found.items c.push.new.found.items c.in_ok-item.item l.invariant.thrifty given.room c.push.ensures.lost;
     }
@@ -199,80 +176,56 @@ pairs-pairs-init t c = record {
 }
 
 pub pairs-returns-in_default-clause-read : goal.pairs-returns-in_default-clause-read
-pairs-returns-in_default-clause-read t c =
-    let l = c.pairs in
-    pairs_cut c.args.room c.args.bytes.now l.rest.now (option_copied l.before) l.invariant.read.0 l.invariant.read.1 c.in_default.ensures
-    ∙ ap Err (sym c.at.ensures)
+pairs-returns-in_default-clause-read t c = pairs_cut c.pairs.invariant.read.1 c.in_default.ensures ∙ ap Err (sym c.at.ensures)
 
 pub pairs-returns-then-first-eq101-clause-read : goal.pairs-returns-then-first-eq101-clause-read
-pairs-returns-then-first-eq101-clause-read t c =
-    let l = c.pairs in
-    ap (λ r. r >>= λ y. Ok y.1) (pairs_all c.args.room c.args.bytes.now l.rest.now c.in-Some.after.now (option_copied l.before) l.invariant.read.0
-    c.in-Some.first l.invariant.read.1 c.in-Some.ensures (omega arith))
+pairs-returns-then-first-eq101-clause-read t c = ap (λ r. r >>= λ y. Ok y.1) (pairs_all c.pairs.invariant.read.1 c.in-Some.ensures (omega arith))
 
 pub pairs-returns-then-first-eq101-clause-kept : goal.pairs-returns-then-first-eq101-clause-kept
 pairs-returns-then-first-eq101-clause-kept t c kept =
-    let l = c.pairs in
-    pairs_all c.args.room c.args.bytes.now l.rest.now c.in-Some.after.now (option_copied l.before) l.invariant.read.0 c.in-Some.first l.invariant.read.1
-    c.in-Some.ensures (omega arith) ∙ ap (λ ps. Ok (pairs_of ps, c.in-Some.after.now)) (l.invariant.read.2 kept)
+    pairs_all c.pairs.invariant.read.1 c.in-Some.ensures (omega arith) ∙ ap (λ ps. Ok (pairs_of ps, c.in-Some.after.now)) (c.pairs.invariant.read.2 kept)
 
 pub pairs-returns-then-first-eq101-clause-memory : goal.pairs-returns-then-first-eq101-clause-memory
 pairs-returns-then-first-eq101-clause-memory t c = c.pairs.invariant.refused
 
 pub pairs-returns-in-Err-clause-read : goal.pairs-returns-in-Err-clause-read
 pairs-returns-in-Err-clause-read t c =
-    let l = c.pairs in
-    pairs_keyless c.args.room c.args.bytes.now l.rest.now (option_copied l.before) l.invariant.read.0 c.in-Some.first c.in-Some.after.now c.in-Err.kind
-    l.invariant.read.1 c.in-Some.ensures c.if-first-eq101.false c.in-Err.ensures.read ∙ ap Err (sym c.at-in-Err.ensures)
+    pairs_keyless c.pairs.invariant.read.1 c.in-Some.ensures c.if-first-eq101.false c.in-Err.ensures.read ∙ ap Err (sym c.at-in-Err.ensures)
 
 pub pairs-returns-in_err-item-clause-read : goal.pairs-returns-in_err-item-clause-read
 pairs-returns-in_err-item-clause-read t c =
-    let l = c.pairs in
-    let k = c.in-Ok.x in
-    let e = c.in_err-item.field-0.0 in
-    let p = err_from_is_err_and c.from_residual.result c.from_residual.ensures.1 in
-    rw (p.1, p.2) (pairs_failed c.args.room c.args.bytes.now l.rest.now k.1.now (option_copied l.before) l.invariant.read.0 c.in-Some.first c.in-Some.after.now
-    k.0.now (e.kind, e.rest.now)
-    l.invariant.read.1 c.in-Some.ensures c.if-first-eq101.false c.in-Ok.ensures.read c.in_err-item.ensures.read)
+    rw (handed_on c.from_residual.result _ c.from_residual.ensures.1)
+    (pairs_failed c.pairs.invariant.read.1 c.in-Some.ensures c.if-first-eq101.false c.in-Ok.ensures.read c.in_err-item.ensures.read)
 
 pub pairs-pairs-preserved : goal.pairs-pairs-preserved
 pairs-pairs-preserved t c =
     let l = c.pairs in
-    let room = c.args.room in
-    let bytes = c.args.bytes.now in
-    let start = c.args.start.now in
     let ps = l.invariant.read.0 in
     let so = l.invariant.read.1 in
-    let here = l.rest.now in
-    let last = option_copied l.before in
     let k = c.in-Ok.x.0.now in
     let behind = c.in-Ok.x.1.now in
-    let key = c.in-Ok.ensures.read in
-    let after = c.in_ok-item.after.now in
     let given = c.in_ok-item.ensures in
-    let v = value_of (value_at room behind) after given.read in
-    let middle = c.value.new.store in
-    let new = c.push.new.self in
-    let Grows = GrowsForPair room start bytes in
+    let after = c.in_ok-item.after.now in
+    let v = value_of (value_at c.args.room behind) after given.read in
+    let Grows = GrowsForPair c.args.room c.args.start.now c.args.bytes.now in
     let x : Pair = record { key = c.in-Ok.x.0; value = c.in_ok-item.item } in
     record {
       read = (
         ps ++ (k, v.0) ∷ [],
-        pairs_next room bytes here behind after last ps c.in-Some.first c.in-Some.after.now k v.0 so c.in-Some.ensures c.if-first-eq101.false key
-            c.in-Ok.ensures.shorter v.1 given.shorter,
+        pairs_next so c.in-Some.ensures c.if-first-eq101.false c.in-Ok.ensures.read c.in-Ok.ensures.shorter v.1 given.shorter,
         λ kept.
-            let still = keeps_before middle new (λ s. s ≡ start) c.push.ensures.refused kept in
-            let before = keeps_before l.store middle (Reaches room behind) given.memory still in
-            let same = same_value (value_at room behind) v.0 (view c.in_ok-item.item) after v.1 (given.kept still) in
+            let still = keeps_before c.value.new.store c.push.new.self (λ s. s ≡ c.args.start.now) c.push.ensures.refused kept in
+            let before = keeps_before l.store c.value.new.store (Reaches c.args.room behind) given.memory still in
+            let same = same_value (value_at c.args.room behind) v.0 (view c.in_ok-item.item) after v.1 (given.kept still) in
             let seen : (k, v.0) ≡ pair_view x = ap (λ (w : Bencode). (k, w)) same ∙ sym (view-Pair c.in-Ok.x.0 c.in_ok-item.item) in
             kept_push pair_view l.found.items c.push.new.found.items x ps (k, v.0) (l.invariant.read.2 before) seen (c.push.ensures.kept kept),
         span_push (option_copied c.args.asked) l.span c.if_asked.result c.or-span.result ps k v.0 (take (length behind - length after) behind)
-            l.invariant.read.3 c.if_asked.ensures (value_bytes room behind after v.0 v.1) c.or-span.ensures,
+            l.invariant.read.3 c.if_asked.ensures (value_bytes c.args.room behind after v.0 v.1) c.or-span.ensures,
       );
-      refused = refused_then c.args.store.now middle new Grows (λ s. s ≡ start)
-          (refused_then c.args.store.now l.store middle Grows (Reaches room behind) l.invariant.refused given.memory
-          (λ there r. pairs_reach room bytes here behind start there last ps k so key r))
-          c.push.ensures.refused (λ there same. pairs_grow_here room bytes here behind after start there last ps k v.0 so key v.1 same);
+      refused = refused_then c.args.store.now c.value.new.store c.push.new.self Grows (λ s. s ≡ c.args.start.now)
+          (refused_then c.args.store.now l.store c.value.new.store Grows (Reaches c.args.room behind) l.invariant.refused given.memory
+          (λ there r. pairs_reach so c.args.start.now there c.in-Ok.ensures.read r))
+          c.push.ensures.refused (λ there same. pairs_grow_here so c.in-Ok.ensures.read v.1 same);
       room = c.push.ensures.room l.invariant.room;
       thrifty = all_more pair_is_thrifty l.found.items c.push.new.found.items x l.invariant.thrifty
           (thrifty_pair c.in-Ok.x.0 c.in_ok-item.item given.room) c.push.ensures.lost;

@@ -6,18 +6,14 @@ use Rattle.benc.proofs.scan.number.Goals as goal
 
 pub returns-in_err-checked_mul : goal.returns-in_err-checked_mul
 returns-in_err-checked_mul c =
-    let run = c.args.run.now in
-    let i = c.loop-c.c-index in
-    let step = run_step run i c.requires (omega arith) in
-    let le = run_le run (i + 1) in
+    let step = run_step c.args.run.now c.loop-c.c-index c.requires (omega arith) in
+    let le = run_le c.args.run.now (c.loop-c.c-index + 1) in
     rw c.from_residual.ensures (λ h. c.in_err-checked_mul.ensures (omega arith))
 
 pub returns-in_err-n : goal.returns-in_err-n
 returns-in_err-n c =
-    let run = c.args.run.now in
-    let i = c.loop-c.c-index in
-    let step = run_step run i c.requires (omega arith) in
-    let le = run_le run (i + 1) in
+    let step = run_step c.args.run.now c.loop-c.c-index c.requires (omega arith) in
+    let le = run_le c.args.run.now (c.loop-c.c-index + 1) in
     rw c.from_residual-in_err-n.ensures (λ h. c.in_err-n.ensures (omega arith))
 
 pub loop-c-preserved : goal.loop-c-preserved
@@ -30,7 +26,5 @@ loop-c-preserved c =
 
 pub returns : goal.returns
 returns c =
-    let run = c.args.run.now in
-    let i = c.loop-c.c-index in
-    let all = ap (digits_value 10) (take_all i run (omega arith)) in
+    let all = ap (digits_value 10) (take_all c.loop-c.c-index c.args.run.now (omega arith)) in
     (omega (arith, all), omega (arith, all))

@@ -1,26 +1,31 @@
-use Rattle.std.proofs.Common.{◌≡◌, ℕ, suc, ◌+◌, ◌^◌, ◌<◌, length, sym, ap, ◌∙◌, subst, arith}
+use Rattle.std.proofs.Common.{◌≡◌, ℕ, suc, ◌+◌, ◌^◌, ◌<◌, length, sym, ap, subst, arith}
 use Rattle.opening.specs.Sound.{IsSound}
 use Rattle.holdings.specs.Holding.{IsTreeBlock}
 use Rattle.btcheck_c.specs.Held.{EntriesHeld}
 use Rattle.btcheck_c.proofs.Placing.{entry_block, entry_bytes, few_blocks, number_is, tree_inside}
 use Rattle.btcheck_c.proofs.holding.hold_unproved.Goals as goal
+use Rattle.btcheck_c.proofs.holding.hold_unproved.Goals.{After-unwrap-tree}
+
+-- the tree that was found is that of the blocks
+module _ (c : After-unwrap-tree) where
+  number : c.unwrap-tree.result ≡ c.requires.number
+  number = number_is c.args.session.now c.args.blocks.now (length c.args.bytes.now) c.requires c.torrent-2.result.now c.place-file.result
+      c.tree_of.result c.unwrap-tree.result c.torrent-2.ensures c.place-file.ensures c.tree_of.ensures c.unwrap-tree.ensures
+
+  within : c.unwrap-tree.result < length c.args.session.now.torrent.trees
+  within =
+      let inside = tree_inside c.args.session.now c.args.blocks.now (length c.args.bytes.now) c.requires in
+      omega (arith, inside, number)
 
 pub hold_entry-requires-clause-tree : goal.hold_entry-requires-clause-tree
-hold_entry-requires-clause-tree c =
-    let S = c.args.session.now in let v = c.args.blocks.now in let size : ℕ = length c.args.bytes.now in
-    let number : c.unwrap-tree.result ≡ c.requires.number =
-    number_is S v size c.requires c.torrent-2.result.now c.place-file.result c.tree_of.result c.unwrap-tree.result c.torrent-2.ensures c.place-file.ensures
-    c.tree_of.ensures c.unwrap-tree.ensures in
-    omega (arith, tree_inside S v size c.requires, number)
+hold_entry-requires-clause-tree c = within (goal.at.hold_entry-requires-clause-tree c).After-unwrap-tree
 
 pub hold_entry-requires-clause-block : goal.hold_entry-requires-clause-block
 hold_entry-requires-clause-block c =
-    let S = c.args.session.now in let v = c.args.blocks.now in let size : ℕ = length c.args.bytes.now in
-    let number : c.unwrap-tree.result ≡ c.requires.number =
-    number_is S v size c.requires c.torrent-2.result.now c.place-file.result c.tree_of.result c.unwrap-tree.result c.torrent-2.ensures c.place-file.ensures
-    c.tree_of.ensures c.unwrap-tree.ensures in
+    let S = c.args.session.now in let v = c.args.blocks.now in
     let low : c.entries.entry < length v.refusals = omega (arith, c.entries-test.true, c.len-entry-end.ensures.count) in
-    subst (λ n. IsTreeBlock S n (v.first + c.entries.entry)) (sym number) (entry_block S v size c.requires c.entries.entry low)
+    subst (λ n. IsTreeBlock S n (v.first + c.entries.entry)) (sym (number (goal.at.hold_entry-requires-clause-block c).After-unwrap-tree))
+    (entry_block S v (length c.args.bytes.now) c.requires c.entries.entry low)
 
 pub hold_entry-requires-clause-bytes : goal.hold_entry-requires-clause-bytes
 hold_entry-requires-clause-bytes c =
@@ -43,12 +48,7 @@ entries-preserved c =
     )
 
 pub pieces_of-pieces-requires-clause-tree : goal.pieces_of-pieces-requires-clause-tree
-pieces_of-pieces-requires-clause-tree c =
-    let S = c.args.session.now in let v = c.args.blocks.now in let size : ℕ = length c.args.bytes.now in
-    let number : c.unwrap-tree.result ≡ c.requires.number =
-    number_is S v size c.requires c.torrent-2.result.now c.place-file.result c.tree_of.result c.unwrap-tree.result c.torrent-2.ensures c.place-file.ensures
-    c.tree_of.ensures c.unwrap-tree.ensures in
-    omega (arith, tree_inside S v size c.requires, number)
+pieces_of-pieces-requires-clause-tree c = within (goal.at.pieces_of-pieces-requires-clause-tree c).After-unwrap-tree
 
 pub pieces_of-pieces-requires-clause-few : goal.pieces_of-pieces-requires-clause-few
 pieces_of-pieces-requires-clause-few c =

@@ -1,12 +1,20 @@
-use Rattle.std.proofs.Common.{◌≡◌, ◌≤◌, length, refl, inl, inr, sym, ap, ◌∙◌, subst, arith}
+use Rattle.std.proofs.Common.{refl, inl, inr, ap, ◌∙◌, subst, arith}
 use Rattle.partial_tree.specs.declared.answer.Answer.{Answer}
 use Rattle.session.specs.Answers.{IsAnswerTo}
 use Rattle.session_exports.specs.Exports.{IsExport, NothingFrom}
 use Rattle.c_layouts.specs.Cursors.{cursor_of}
-use Rattle.btcheck_c.specs.Keeping.{NextLeaves}
 use Rattle.btcheck_c.proofs.Exporting.{export-answered, range-can, IsFewFrom}
 use Rattle.btcheck_c.proofs.keeping_calls.write_export.Goals as goal
-use Rattle.btcheck_c.proofs.keeping_calls.write_export.Goals.{then-status-eq-DONE, else-status-eq-DONE}
+use Rattle.btcheck_c.proofs.keeping_calls.write_export.Goals.{After-deref, then-status-eq-DONE, else-status-eq-DONE}
+
+-- the hashes that answer are a few
+few_hashes : (c : After-deref) → IsFewFrom c.args.session.now c.in-Some.export.ask c.deref.result.now
+few_hashes c =
+    let next = c.in-Some.ensures.found in let ask = c.in-Some.export.ask in let S = c.args.session.now in
+    let given = subst (λ (a : Answer). IsAnswerTo S ask a) c.in-Ok-Hashes.field-0-is c.in-Ok-Hashes.ensures.answer in
+    export-answered S S c.torrent.result.now c.in-Some.export.tree next.block ask c.in-Ok-Hashes.hashes.items c.deref.result.now
+    refl c.torrent.ensures c.recall_sound.ensures c.recall_closed_trees.ensures c.recall_distinct_roots.ensures next.range
+    c.deref.ensures.value given
 
 pub returns-in_default-clause-done : goal.returns-in_default-clause-done
 returns-in_default-clause-done c =
@@ -32,26 +40,14 @@ returns-in-Err-clause-done c =
 
 pub write_hashes_frame-status-requires : goal.write_hashes_frame-status-requires
 write_hashes_frame-status-requires c =
-    let next = c.in-Some.ensures.found in let ask = c.in-Some.export.ask in let S = c.args.session.now in
-    let given = subst (λ (a : Answer). IsAnswerTo S ask a) c.in-Ok-Hashes.field-0-is c.in-Ok-Hashes.ensures.answer in
-    let few : IsFewFrom c.args.session.now ask c.deref.result.now =
-    export-answered S S c.torrent.result.now c.in-Some.export.tree next.block ask c.in-Ok-Hashes.hashes.items c.deref.result.now
-    refl c.torrent.ensures c.recall_sound.ensures c.recall_closed_trees.ensures c.recall_distinct_roots.ensures next.range
-    c.deref.ensures.value given in
-    omega (arith, few.few)
+    let hashes = few_hashes (goal.at.write_hashes_frame-status-requires c).After-deref in omega (arith, hashes.few)
 
 pub returns-after-status-eq-DONE-clause-done : goal.returns-after-status-eq-DONE-clause-done
 returns-after-status-eq-DONE-clause-done c =
-    let next = c.in-Some.ensures.found in let ask = c.in-Some.export.ask in let S = c.args.session.now in
-    let given = subst (λ (a : Answer). IsAnswerTo S ask a) c.in-Ok-Hashes.field-0-is c.in-Ok-Hashes.ensures.answer in
-    let few : IsFewFrom c.args.session.now ask c.deref.result.now =
-    export-answered S S c.torrent.result.now c.in-Some.export.tree next.block ask c.in-Ok-Hashes.hashes.items c.deref.result.now
-    refl c.torrent.ensures c.recall_sound.ensures c.recall_closed_trees.ensures c.recall_distinct_roots.ensures next.range
-    c.deref.ensures.value given in
-    let is_next = subst (λ p. IsExport c.args.session.now p c.in-Some.export) c.read_cursor.ensures next in
+    let few = few_hashes (goal.at.returns-after-status-eq-DONE-clause-done c).After-deref in
     inl (record {
       next = c.in-Some.export;
-      is_next = is_next;
+      is_next = subst (λ p. IsExport c.args.session.now p c.in-Some.export) c.read_cursor.ensures c.in-Some.ensures.found;
       hashes = c.deref.result.now;
       answers = few.from;
       few = few.few;

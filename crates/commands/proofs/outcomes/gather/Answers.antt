@@ -1,7 +1,6 @@
 use Rattle.std.proofs.Common.{refl, rules}
 use Rattle.commands.proofs.outcomes.gather.Goals as goal
 
--- src/outcomes.rt:198:1
 pub returns-in_ok-refuse-in-Err-Refused : goal.returns-in_ok-refuse-in-Err-Refused
 returns-in_ok-refuse-in-Err-Refused g c = (
   c.in_ok-refuse-in-Err-Refused.ensures.status,
@@ -11,6 +10,5 @@ returns-in_ok-refuse-in-Err-Refused g c = (
   search rules,
 )
 
--- src/outcomes.rt:198:1
 pub returns-in-Ok : goal.returns-in-Ok
 returns-in-Ok g c = (c.in-Ok.ensures.gathers, refl)

@@ -5,9 +5,9 @@ use Rattle.cut_windows.proofs.stretches.take_stretch.Goals as goal
 
 pub returns : goal.returns
 returns c j lt =
-    let buffer : List ℕ = c.args.buffer.now in
-    let start : ℕ = slice_index c.args.starts.now j in
-    let size : ℕ = slice_index c.args.sizes.now j in
+    let buffer : List ℕ = c.args.cuts.buffer.now in
+    let start : ℕ = slice_index c.args.cuts.starts.now j in
+    let size : ℕ = slice_index c.args.cuts.sizes.now j in
     let before : List ℕ = take c.args.from (filled_at buffer start size c.args.whole) in
     subst (HasTaken c.update.new.self j)
     (ap₂ (λ s z. before ++ filled_at buffer s z (c.args.to - c.args.from)) (c.starts_from-part_starts.ensures j lt) (c.sizes_from-part_sizes.ensures j lt)

@@ -1,26 +1,20 @@
-use Rattle.std.proofs.Common.{◌≡◌, ◌||◌, ◌+◌, false, arith, sym, ap, ◌∙◌, drop, rules}
-use Rattle.benc.specs.View.{pair_view, pairs_view, view}
+use Rattle.std.proofs.Common.{◌≡◌, true, false, arith, sym, ap, ◌∙◌, rules}
+use Rattle.benc.specs.View.{pair_view, view}
 use Rattle.benc.specs.declared.value.Value.{the_lemmas}
-use Rattle.filetree.specs.FileTree.{is_nil, walks, walks_in}
+use Rattle.filetree.specs.FileTree.{is_nil, walks_in}
 use Rattle.filetree.specs.FileTests.{any_fails}
 use Rattle.filetree.proofs.FilesTested.{any_at, at_component}
 use Rattle.filetree.proofs.file_tests.+file_test.Goals as goal
 
 pub any_fails-returns-then-any_fails_at : goal.any_fails-returns-then-any_fails_at
 any_fails-returns-then-any_fails_at t c =
-    let xs = c.args.pairs.now in
-    let x = c.pair-item.result in
-    let rest = any_fails c.args.test (walks (pairs_view (drop (c.pairs.pair-index + 1) xs))) in
-    sym (c.pairs.invariant ∙ any_at c.args.test xs c.pairs.pair-index x (omega arith) c.pair-item.is
-    ∙ ap (λ b. b || rest) (sym c.any_fails_at.ensures ∙ c.if-any_fails_at.true))
+    sym (c.pairs.invariant ∙ any_at c.args.test c.args.pairs.now c.pairs.pair-index c.pair-item.result true (omega arith) c.pair-item.is
+    (sym c.any_fails_at.ensures ∙ c.if-any_fails_at.true))
 
 pub any_fails-pairs-preserved : goal.any_fails-pairs-preserved
 any_fails-pairs-preserved t c =
-    let xs = c.args.pairs.now in
-    let x = c.pair-item.result in
-    let rest = any_fails c.args.test (walks (pairs_view (drop (c.pairs.pair-index + 1) xs))) in
-    c.pairs.invariant ∙ any_at c.args.test xs c.pairs.pair-index x (omega arith) c.pair-item.is
-    ∙ ap (λ b. b || rest) (sym c.any_fails_at.ensures ∙ c.if-any_fails_at.false)
+    c.pairs.invariant ∙ any_at c.args.test c.args.pairs.now c.pairs.pair-index c.pair-item.result false (omega arith) c.pair-item.is
+    (sym c.any_fails_at.ensures ∙ c.if-any_fails_at.false)
 
 pub any_fails_at-returns : goal.any_fails_at-returns
 any_fails_at-returns t c =

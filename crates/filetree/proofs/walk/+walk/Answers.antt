@@ -8,7 +8,7 @@ use Rattle.benc.proofs.Values.{view-Pair, view-Dict}
 use Rattle.filetree.proofs.Views.{pairs_next}
 use Rattle.filetree.proofs.Rooms.{all_left, folder_at, left_behind, node_at}
 use Rattle.benc.specs.declared.value.Value.{the_lemmas}
-use Rattle.filetree.proofs.Walking.{file_node, walked_file, walked_on, walked_inner}
+use Rattle.filetree.proofs.Walking.{dict_pairs, file_node, walked_below, walked_file, walked_on}
 use Rattle.std.proofs.lemmas.Grind.{common_steps}
 use Rattle.std.proofs.lemmas.Result.{on_ok_weaker}
 use Rattle.filetree.proofs.walk.+walk.Goals as goal
@@ -32,16 +32,12 @@ walk-pairs-init t c = (search rules, all_left c.args.folder.now (pairs_view c.ar
 
 pub walk_pair-returns : goal.walk_pair-returns
 walk_pair-returns t c =
-    let x = c.args.pair.now in
     let path = c.args.folder.now in
-    let some : is_nil x.key.now ≡ false = subst (λ (p : Seen). is_nil p.0 ≡ false) (view-Pair x.key x.value) c.requires.named in
-    let old = map walk_of c.args.files.now.items in
-    let new = map walk_of c.walk.new.files.items in
-    let farther : c.in_ok-below.below ≡ path ++ x.key.now ∷ [] = c.in_ok-below.ensures ∙ ap (λ n. path ++ n ∷ []) c.component-name.ensures in
-    let inner : view x.value ≡ dict (pairs_view c.deref-2.result.now) = ap view c.in-Dict.is ∙ view-Dict c.in-Dict.inner
-    ∙ ap (λ ps. dict (pairs_view ps)) (sym c.deref-2.ensures.value) in
-    on_ok_weaker c.walk.result (λ adds. subst (λ (p : Seen). AddsBehind path (walks_at p) old new) (sym (view-Pair x.key x.value))
-    (walked_inner path c.in_ok-below.below x.key.now (pairs_view c.deref-2.result.now) (view x.value) old new some farther inner adds)) c.walk.ensures
+    let farther : c.in_ok-below.below ≡ path ++ c.args.pair.now.key.now ∷ [] = c.in_ok-below.ensures
+    ∙ ap (λ n. path ++ n ∷ []) c.component-name.ensures in
+    let inner = dict_pairs c.args.pair.now.value _ c.deref-2.result.now _ c.in-Dict.is (view-Dict c.in-Dict.inner) c.deref-2.ensures.value in
+    on_ok_weaker c.walk.result (walked_below path c.in_ok-below.below c.args.pair.now _ (map walk_of c.args.files.now.items)
+    (map walk_of c.walk.new.files.items) c.requires.named farther inner) c.walk.ensures
 
 pub walk_pair-returns-then-is_file : goal.walk_pair-returns-then-is_file
 walk_pair-returns-then-is_file t c =
@@ -78,8 +74,7 @@ walk_pair-walk-requires t c = (
   grind (arith, common_steps, the_lemmas),
   (let x = c.args.pair.now in
       let path = c.args.folder.now in
-      let inner : view x.value ≡ dict (pairs_view c.deref-2.result.now) = ap view c.in-Dict.is ∙ view-Dict c.in-Dict.inner
-      ∙ ap (λ ps. dict (pairs_view ps)) (sym c.deref-2.ensures.value) in
+      let inner = dict_pairs x.value _ c.deref-2.result.now _ c.in-Dict.is (view-Dict c.in-Dict.inner) c.deref-2.ensures.value in
       let farther : c.in_ok-below.below ≡ path ++ x.key.now ∷ [] = c.in_ok-below.ensures ∙ ap (λ n. path ++ n ∷ []) c.component-name.ensures in
       let other : is_file (pairs_view c.deref-2.result.now) ≡ false = ap (λ ps. is_file (pairs_view ps)) (c.deref-2.ensures.value ∙ sym c.deref.ensures.value)
       ∙ sym c.is_file.ensures ∙ c.if-is_file.false in

@@ -1,4 +1,4 @@
-use Rattle.std.proofs.Common.{◌≡◌, ◌+◌, ◌*◌, ◌<◌, ◌≤◌, ◌∙◌, ◌++◌, [], length, sym, ap, ap₂, arith}
+use Rattle.std.proofs.Common.{◌+◌, ◌∙◌, ◌++◌, length, sym, ap, ap₂, arith}
 use Rattle.std.proofs.lemmas.List.{length_push}
 use Rattle.fixed_maps.specs.Tiers.{capacity_of, flat, room_of}
 use Rattle.fixed_maps.proofs.Carried.{flat-push, room-push, capacity-push}

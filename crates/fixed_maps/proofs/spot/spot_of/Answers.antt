@@ -1,4 +1,4 @@
-use Rattle.std.proofs.Common.{◌≡◌, ◌<◌, ◌≤◌, length, inl, inr, subst, sym, arith}
+use Rattle.std.proofs.Common.{inl, arith}
 use Rattle.fixed_maps.proofs.Spots.{tier-rising, spot-read}
 use Rattle.fixed_maps.proofs.spot.spot_of.Goals as goal
 

@@ -1,4 +1,4 @@
-use Rattle.std.proofs.Common.{◌≡◌, ◌-◌, ◌≤◌, length, take, drop}
+use Rattle.std.proofs.Common.{◌-◌, ◌≤◌, length, take, drop}
 use Rattle.fixed_maps.specs.Tiers.{IsPlaceOfKey}
 use Rattle.fixed_maps.proofs.tier.place_in.Given as goal
 

@@ -1,4 +1,4 @@
-use Rattle.std.proofs.Common.{◌≡◌, ◌≤◌, ◌-◌, ◌++◌, ◌∷◌, [], length, take, drop}
+use Rattle.std.proofs.Common.{◌≡◌, ◌-◌, ◌++◌, ◌∷◌, [], length, take, drop}
 use Rattle.fixed_maps.specs.Tiers.{flat, room_of}
 use Rattle.fixed_maps.proofs.tiers.carry_back.Given as goal
 

@@ -1,4 +1,4 @@
-use Rattle.std.proofs.Common.{◌≡◌, ◌+◌, ◌<◌, ◌∙◌, length, sym, arith, None, Some}
+use Rattle.std.proofs.Common.{◌+◌, ◌<◌, ◌∙◌, length, sym, arith, None, Some}
 use Rattle.std.proofs.lemmas.List.{length-set, append-nil}
 use Rattle.fixed_maps.proofs.Carried.{step-on, flat-parts, room-set}
 use Rattle.fixed_maps.proofs.tiers.carry_on.Goals as goal

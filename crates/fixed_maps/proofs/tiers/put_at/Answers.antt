@@ -1,7 +1,6 @@
-use Rattle.std.proofs.Common.{◌≡◌, ◌+◌, ◌<◌, ◌++◌, ◌∷◌, ◌∙◌, length, drop, take, sym, ap, subst, arith, length-append, Some, None}
-use Rattle.std.proofs.lemmas.List.{append-nil, take-append-drop}
-use Rattle.fixed_maps.specs.Tiers.{flat, items_at, before_spot, after_spot}
-use Rattle.fixed_maps.proofs.Spots.{flat-split}
+use Rattle.std.proofs.Common.{◌+◌, ◌∙◌, sym, arith, Some, None}
+use Rattle.std.proofs.lemmas.List.{append-nil}
+use Rattle.fixed_maps.specs.Tiers.{before_spot, after_spot}
 use Rattle.fixed_maps.proofs.Carried.{entry-in, flat-parts, room-set, one-more, parted-length}
 use Rattle.fixed_maps.proofs.tiers.put_at.Goals as goal
 

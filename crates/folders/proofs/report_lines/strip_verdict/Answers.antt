@@ -1,9 +1,8 @@
-use Rattle.std.proofs.Common.{◌≡◌, ◌++◌, ◌∙◌, ap, map, subst}
+use Rattle.std.proofs.Common.{◌≡◌, ◌++◌, ap, map, subst}
 use Rattle.std.specs.Option.{MatchOption}
 use Rattle.lines.specs.Reading.{BeginsWith}
 use Rattle.lines.specs.Texts.{text_of}
 use Rattle.opening.specs.Seen.{file_entry}
-use Rattle.folders.proofs.AsTexts.{file_is}
 use Rattle.folders.proofs.report_lines.strip_verdict.Goals as goal
 
 pub returns : goal.returns
@@ -12,4 +11,4 @@ returns c =
     let text = c.args.text.now in
     let path : f.path ≡ map (λ s. s.now) c.deref.result.now = cc (c.parts.ensures, c.deref.ensures.0) in
     subst (λ l. MatchOption c.strip_line.result (BeginsWith l text → ⊥) (λ rest. text ≡ l ++ rest.now))
-    (ap text_of (c.verdict_line.ensures f path) ∙ file_is c.args.verdict f) c.strip_line.ensures
+    (ap text_of (c.verdict_line.ensures f path)) c.strip_line.ensures

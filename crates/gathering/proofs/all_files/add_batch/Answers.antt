@@ -1,4 +1,4 @@
-use Rattle.std.proofs.Common.{◌≡◌, ◌∙◌, ◌+◌, length, map, Ok, subst, arith}
+use Rattle.std.proofs.Common.{◌≡◌, ◌∙◌, ◌+◌, length, map, Ok, subst, sym, arith}
 use Rattle.folders.specs.Shelf.{path_bytes}
 use Rattle.gathering.specs.Adding.{AddsContents, AddsLast, StopsIn}
 use Rattle.gathering.specs.Batches.{contents_of}
@@ -14,10 +14,10 @@ returns-in-Err-clause-adds c contents are =
 
 pub add_last-requires-clause-piece_length : goal.add_last-requires-clause-piece_length
 add_last-requires-clause-piece_length c =
-    (same_kind c.args.draft.now _ _ c.add_held.new.draft c.in_default.ensures.adds).0 ∙ c.requires.piece_length
+    (same_kind c.args.draft.now _ _ c.add_held.new.draft c.in_default.ensures.adds).0 ∙ sym c.requires.kind.piece_length_is
 
 pub add_last-requires-clause-hybrid : goal.add_last-requires-clause-hybrid
-add_last-requires-clause-hybrid c = (same_kind c.args.draft.now _ _ c.add_held.new.draft c.in_default.ensures.adds).1 ∙ c.requires.hybrid
+add_last-requires-clause-hybrid c = (same_kind c.args.draft.now _ _ c.add_held.new.draft c.in_default.ensures.adds).1 ∙ sym c.requires.kind.hybrid_is
 
 pub add_last-requires-clause-found : goal.add_last-requires-clause-found
 add_last-requires-clause-found c =

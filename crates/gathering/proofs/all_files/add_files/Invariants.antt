@@ -12,7 +12,7 @@ invariant-batches g l = record {
   hybrid : l.draft.hybrid ≡ l.kind.hybrid;
   kind : IsOfKind l.kind.piece_length l.kind.hybrid l.batch;
   placed : ArePlaced l.batch;
-  capacity : vec_capacity l.parts ≡ vec_capacity l.fn.parts;
+  capacity : vec_capacity l.room.parts ≡ vec_capacity l.fn.parts;
   stays : g.S.Shelf.contents l.shelf ≡ g.S.Shelf.contents l.fn.shelf;
   inside : l.number ≤ length l.paths;
   so_far : HasGathered g.S.Shelf g.S.File.Source.seen l.fn.draft l.fn.shelf l.fn.shelf (take l.number (map path_bytes l.paths)) l.shelf l.draft;

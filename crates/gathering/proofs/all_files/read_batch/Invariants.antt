@@ -12,6 +12,5 @@ invariant-files g l = record {
   row : ReadsRow g.S.Shelf g.S.File.Source.seen l.fn.shelf (map path_bytes l.paths) l.from (contents_of l.batch) l.shelf;
   place : l.number ≡ l.from + length (contents_of l.batch);
   stays : g.S.Shelf.contents l.shelf ≡ g.S.Shelf.contents l.fn.shelf;
-  capacity : vec_capacity l.parts ≡ vec_capacity l.fn.parts;
-  buffer : length l.buffer ≡ length l.fn.buffer;
+  capacity : vec_capacity l.room.parts ≡ vec_capacity l.fn.room.parts;
 }

@@ -8,19 +8,11 @@ use Rattle.lines.proofs.string.write_path_string.Goals as goal
 
 pub returns-in_err-write_all : goal.returns-in_err-write_all
 returns-in_err-write_all g c =
-    let inside = string_bytes (join_with_byte slash (map g.S.AsStr.text c.args.path.now)) in
     let p = err_from_is_err_and c.from_residual.result c.from_residual.ensures.1 in
-    Wrote-part _ p.0 _ _ (codes "\"") (inside ++ codes "\"") _ refl p.1 c.in_err-write_all.ensures
-
-pub returns-in_err-write_joined : goal.returns-in_err-write_joined
-returns-in_err-write_joined g c =
-    let inside = string_bytes (join_with_byte slash (map g.S.AsStr.text c.args.path.now)) in
-    let p = err_from_is_err_and c.from_residual-in_err-write_joined.result c.from_residual-in_err-write_joined.ensures.1 in
-    Wrote-then _ _ _ _ (codes "\"") (inside ++ codes "\"") _ refl c.in_ok-write_all.ensures
-    (Wrote-part _ p.0 _ _ inside (codes "\"") _ refl p.1 c.in_err-write_joined.ensures)
+    Wrote-part _ p.0 _ _ (codes "\"") (string_bytes (join_with_byte slash (map g.S.AsStr.text c.args.path.now)) ++ codes "\"") _
+    refl p.1 c.in_err-write_all.ensures
 
 pub returns : goal.returns
 returns g c =
-    let inside = string_bytes (join_with_byte slash (map g.S.AsStr.text c.args.path.now)) in
-    Wrote-then _ _ _ _ (codes "\"") (inside ++ codes "\"") _ refl c.in_ok-write_all.ensures
-    (Wrote-then _ _ _ _ inside (codes "\"") _ refl c.in_ok-write_joined.ensures c.write_all-2.ensures)
+    Wrote-then _ _ _ _ (codes "\"") (string_bytes (join_with_byte slash (map g.S.AsStr.text c.args.path.now)) ++ codes "\"") _ refl c.in_ok-write_all.ensures
+    (c.close_string.ensures _ (string_bytes (join_with_byte slash (map g.S.AsStr.text c.args.path.now))) c.write_joined-said.ensures)

@@ -7,6 +7,5 @@ pub returns-clause-others : goal.returns-clause-others
 returns-clause-others c =
     let rows = c.args.rows.now in
     let row = c.index_mut-row.result.now in
-    flat-cells_but rows.items c.args.layer row (with_item row c.args.index (Some c.args.hash)) (cell-row rows.items c.args.layer c.args.index c.requires)
-    c.index_mut-row.ensures.value c.args.index
-    (hash-other row.items c.args.index (Some c.args.hash))
+    flat-cells_but (record { low = cell-row rows.items c.args.layer c.args.index c.requires; is = c.index_mut-row.ensures.value })
+    (with_item row c.args.index (Some c.args.hash)) c.args.index (hash-other row.items c.args.index (Some c.args.hash))

@@ -1,6 +1,5 @@
 use Rattle.std.proofs.Common.{map, ap, ◌∙◌, ◌≡◌, ◌≤◌, ℕ, zero, suc, ◌<◌, List, [], ◌∷◌, ◌++◌, length, Some, Result, Ok, Err, refl, subst, arith, slice_get}
 use Rattle.std.proofs.Common.{◌^◌, slice_index_or}
-use Rattle.std.proofs.lemmas.Result.{err_from_is_err_and}
 use Rattle.benc.specs.Value.{Pairs}
 use Rattle.filetree.specs.Tests.{First, NoneHolds, PassesUnlessNoMemory}
 use Rattle.filetree.specs.declared.files.ListedFile.{ListedFile}
@@ -12,8 +11,9 @@ use Rattle.opening.specs.PieceLayers.{tree_at}
 use Rattle.opening.specs.Refusals.{count_rows, layer_rows}
 use Rattle.opening.specs.Rooted.{AreNumbers, AreRoots, AreTrees}
 use Rattle.opening.specs.Trees.{IsIn, entries_from, pieces_in, roots_in}
-use Rattle.opening.specs.declared.open.Contents.{Contents}
+use Rattle.opening.specs.declared.torrent.Contents.{Contents}
 use Rattle.opening.specs.declared.roots.Root.{Root}
+use Rattle.opening.proofs.Handed.{handed_on}
 use Rattle.opening.proofs.open.read_contents.Goals as goal
 
 read_at : (xs : List Root) (k : ℕ) (d : Root) → k < length xs → slice_get xs k ≡ Some (slice_index_or xs k d)
@@ -25,8 +25,8 @@ pub returns-in_err-roots : goal.returns-in_err-roots
 returns-in_err-roots c =
     let k = c.args.piece_length in
     let r = c.in_err-roots.field-0.0 in
-    let p = err_from_is_err_and c.from_residual.result c.from_residual.ensures.1 in
-    rw (p.1, p.2) (λ memory. first_front (count_rows k c.args.listed.items) (layer_rows k (layer_pairs c.args.layers.now) (roots_in c.args.listed.items)) r
+    rw (handed_on c.from_residual.result _ c.from_residual.ensures.1)
+    (λ memory. first_front (count_rows k c.args.listed.items) (layer_rows k (layer_pairs c.args.layers.now) (roots_in c.args.listed.items)) r
     (subst (λ fs. First (count_rows k fs) r) c.deref.ensures.value (c.in_err-roots.ensures.passes memory)))
 
 pub with_layers-requires-clause-pieces : goal.with_layers-requires-clause-pieces

@@ -6,6 +6,7 @@ use Rattle.opening.specs.PieceLayers.{tree_at}
 use Rattle.opening.specs.Refusals.{layer_rows}
 use Rattle.opening.specs.declared.roots.Root.{Root}
 use Rattle.opening.proofs.Growing.{layers_take_none}
+use Rattle.opening.proofs.Handed.{handed_on}
 use Rattle.opening.proofs.open.with_layers.Goals as goal
 
 pub test-requires : goal.test-requires
@@ -14,21 +15,20 @@ test-requires c = subst (All (λ (t : Root). t.length ≤ 2 ^ 46)) (sym c.as_sli
 pub returns-in_err-test-clause-passes : goal.returns-in_err-test-clause-passes
 returns-in_err-test-clause-passes c =
     let r = c.in_err-test.field-0.0 in
-    let p = err_from_is_err_and c.from_residual.result c.from_residual.ensures.1 in
-    rw (p.1, p.2) (λ _. subst (λ us. First (layer_rows c.args.piece_length (layer_pairs c.args.layers.now) us) r) c.as_slice.ensures c.in_err-test.ensures)
+    rw (handed_on c.from_residual.result _ c.from_residual.ensures.1)
+    (λ _. subst (λ us. First (layer_rows c.args.piece_length (layer_pairs c.args.layers.now) us) r) c.as_slice.ensures c.in_err-test.ensures)
 
 pub returns-in_err-test-clause-memory : goal.returns-in_err-test-clause-memory
 returns-in_err-test-clause-memory c =
     let k = c.args.piece_length in
     let layers = layer_pairs c.args.layers.now in
     let us = c.as_slice.result.now in
-    let p = err_from_is_err_and c.from_residual.result c.from_residual.ensures.1 in
-    rw (p.1, p.2) (λ memory. absurd (layers_take_none k layers us (subst (First (layer_rows k layers us)) memory c.in_err-test.ensures)))
+    rw (handed_on c.from_residual.result _ c.from_residual.ensures.1)
+    (λ memory. absurd (layers_take_none k layers us (subst (First (layer_rows k layers us)) memory c.in_err-test.ensures)))
 
 pub returns-in_err-trees-clause-passes : goal.returns-in_err-trees-clause-passes
 returns-in_err-trees-clause-passes c =
-    let p = err_from_is_err_and c.from_residual-in_err-trees.result c.from_residual-in_err-trees.ensures.1 in
-    rw (p.1, p.2) (λ other. absurd (other refl))
+    rw (handed_on c.from_residual-in_err-trees.result _ c.from_residual-in_err-trees.ensures.1) (λ other. absurd (other refl))
 
 pub returns-in_err-trees-clause-memory : goal.returns-in_err-trees-clause-memory
 returns-in_err-trees-clause-memory c =
@@ -37,8 +37,7 @@ returns-in_err-trees-clause-memory c =
 
 pub returns-in_err-files-clause-passes : goal.returns-in_err-files-clause-passes
 returns-in_err-files-clause-passes c =
-    let p = err_from_is_err_and c.from_residual-in_err-files.result c.from_residual-in_err-files.ensures.1 in
-    rw (p.1, p.2) (λ other. absurd (other refl))
+    rw (handed_on c.from_residual-in_err-files.result _ c.from_residual-in_err-files.ensures.1) (λ other. absurd (other refl))
 
 pub returns-in_err-files-clause-memory : goal.returns-in_err-files-clause-memory
 returns-in_err-files-clause-memory c =

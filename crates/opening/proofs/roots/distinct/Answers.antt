@@ -1,7 +1,7 @@
 use Rattle.std.proofs.Common.{◌≡◌, ◌+◌, take, None, sym, subst, inl, inr, arith}
-use Rattle.std.proofs.lemmas.Result.{err_from_is_err_and}
 use Rattle.opening.specs.Rooted.{AreRoots}
 use Rattle.opening.proofs.Rooting.{roots_none, roots_some, reused, take_next, item_in, taken_in, none_left}
+use Rattle.opening.proofs.Handed.{handed_on}
 use Rattle.opening.proofs.roots.distinct.Goals as goal
 use Rattle.opening.proofs.roots.distinct.Goals.{in-Some+in_ok-add, in_default}
 
@@ -10,8 +10,8 @@ returns-in_err-add c =
     let xs = c.args.files.now in
     let i = c.files.file-index in
     let x = c.file-item.result in
-    let p = err_from_is_err_and c.from_residual.result c.from_residual.ensures.1 in
-    rw (p.1, p.2) (λ memory. elim c.in_err-add.ensures.there [
+    rw (handed_on c.from_residual.result _ c.from_residual.ensures.1)
+    (λ memory. elim c.in_err-add.ensures.there [
       | inl known ↦ (
         known.0,
         reused xs (take i xs) c.files.roots x c.in-Some.root known.1.number known.1.at (taken_in xs i)

@@ -9,6 +9,15 @@ use Rattle.opening.specs.Trees.{pieces_in}
 use Rattle.pieces.specs.Pieces.{pieces_of}
 use Rattle.opening.proofs.Rooting.{files_step}
 use Rattle.opening.proofs.roots.place_files.Goals as goal
+use Rattle.opening.proofs.roots.place_files.Goals.{In-Some}
+
+-- the pieces of this file and of those behind it
+left : (c : In-Some) → c.listed.first_piece + (pieces_of c.args.piece_length c.in-Some.file.length
+    + pieces_in c.args.piece_length (into_iter_items c.next.new.self)) ≡ pieces_in c.args.piece_length c.args.listed.items
+left c =
+    let rest = into_iter_items c.next.new.self in
+    ap (λ n. c.listed.first_piece + n) (sym (sum_by-cons (λ (f : ListedFile). pieces_of c.args.piece_length f.length) c.in-Some.file rest))
+    ∙ ap (λ xs. c.listed.first_piece + pieces_in c.args.piece_length xs) (sym c.in-Some.ensures.steps.0) ∙ c.listed.invariant.pieces
 
 -- what has no length has no items
 nil_of : {X : Type 0} (xs : List X) → length xs ≡ 0 → xs ≡ []
@@ -22,10 +31,7 @@ listed-preserved c =
     let ts = c.args.roots.now in
     let rest = into_iter_items c.next.new.self in
     let split = c.in-Some.ensures.steps.0 in
-    let total : c.listed.first_piece + pieces_in p (x ∷ rest) ≡ pieces_in p c.args.listed.items = ap (λ xs. c.listed.first_piece + pieces_in p xs) (sym split)
-    ∙ c.listed.invariant.pieces in
-    let sum : pieces_in p (x ∷ rest) ≡ pieces_of p x.length + pieces_in p rest = sum_by-cons (λ (f : ListedFile). pieces_of p f.length) x rest in
-    let next = c.listed.first_piece + pieces_of p x.length in
+    let total = left (goal.at.listed-preserved c).In-Some in
     let file = c.placed.result in
     let after : map file_entry c.push_reserved.new.self.items ≡ map file_entry c.listed.files.items ++ file_entry file ∷ [] =
     ap (map file_entry) c.push_reserved.ensures.items ∙ map-append file_entry c.listed.files.items (file ∷ []) in
@@ -36,20 +42,14 @@ listed-preserved c =
           (c.listed.first_piece + c.pieces-first_piece.result) x (file_entry file) (sym c.placed.ensures) counted
           (c.listed.invariant.entries ∙ ap (λ xs. map file_entry c.listed.files.items ++ entries_from p ts c.listed.first_piece xs) split)
           ∙ ap (λ es. es ++ entries_from p ts (c.listed.first_piece + c.pieces-first_piece.result) rest) (sym after);
-      pieces = omega (arith, total, sum, counted);
+      pieces = omega (arith, total, counted);
       count = omega (arith, ap length split, c.push_reserved.ensures.len, c.listed.invariant.count);
       room = c.push_reserved.ensures.capacity ∙ c.listed.invariant.room;
     }
 
 pub overflow_add-first_piece : goal.overflow_add-first_piece
 overflow_add-first_piece c =
-    let p = c.args.piece_length in
-    let x = c.in-Some.file in
-    let rest = into_iter_items c.next.new.self in
-    let total : c.listed.first_piece + pieces_in p (x ∷ rest) ≡ pieces_in p c.args.listed.items =
-    ap (λ xs. c.listed.first_piece + pieces_in p xs) (sym c.in-Some.ensures.steps.0) ∙ c.listed.invariant.pieces in
-    let sum : pieces_in p (x ∷ rest) ≡ pieces_of p x.length + pieces_in p rest = sum_by-cons (λ (f : ListedFile). pieces_of p f.length) x rest in
-    omega (arith, total, sum, c.requires, c.pieces-first_piece.ensures)
+    let total = left (goal.at.overflow_add-first_piece c).In-Some in omega (arith, total, c.requires, c.pieces-first_piece.ensures)
 
 pub listed-init : goal.listed-init
 listed-init c =

@@ -1,10 +1,10 @@
 use Rattle.std.proofs.Common.{sym, map, subst, ap, ◌∙◌}
-use Rattle.std.proofs.lemmas.Result.{err_from_is_err_and}
 use Rattle.benc.specs.View.{view}
 use Rattle.opening.specs.PieceLayers.{as_digests}
 use Rattle.opening.specs.Seen.{file_entry}
 use Rattle.opening.specs.Stream.{parts_in}
 use Rattle.opening.proofs.Streams.{Streamed, streamed, no_hybrid, stream_refused, cuts_refused, hybrid_read}
+use Rattle.opening.proofs.Handed.{handed_on}
 use Rattle.opening.proofs.version1.version1.Goals as goal
 
 pub returns-in_default : goal.returns-in_default
@@ -12,8 +12,8 @@ returns-in_default c = λ fs fits. no_hybrid c.args.piece_length (view c.args.in
 
 pub returns-in_err-total : goal.returns-in_err-total
 returns-in_err-total c =
-    let p = err_from_is_err_and c.from_residual.result c.from_residual.ensures.1 in
-    rw (p.1, p.2) (λ fs fits.
+    rw (handed_on c.from_residual.result _ c.from_residual.ensures.1)
+    (λ fs fits.
     let at = streamed c.args.piece_length fs (map file_entry c.args.files.now) (view c.args.info.now) c.args.name.now fits.some fits.names fits.short in
     stream_refused c.args.piece_length (view c.args.info.now) (view c.in-Some.pieces.now) c.args.name.now fs c.in_err-total.field-0.0
     (sym c.in-Some.ensures)

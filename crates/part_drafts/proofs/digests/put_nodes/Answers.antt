@@ -5,31 +5,33 @@ use Rattle.opening.specs.PieceLayers.{piece_layer}
 use Rattle.part_drafts.specs.Rows.{joined_hashes}
 use Rattle.part_drafts.proofs.Found.{nodes_of_many, nodes_of_one, put_ok}
 use Rattle.part_drafts.proofs.digests.put_nodes.Goals as goal
+use Rattle.part_drafts.proofs.digests.put_nodes.Goals.{After-height}
+
+-- the layer of the pieces, the height over what was found, and that there are several pieces
+heights : (c : After-height) → (c.height-layer.result ≡ piece_layer c.args.kind.now.piece_length)
+    × (c.height.result ≡ height (block_count c.args.found.now.length)) × (c.args.kind.now.piece_length < c.args.length)
+heights c = (search rules, search rules, search rules)
 
 pub returns-then-height-layer : goal.returns-then-height-layer
 returns-then-height-layer c =
-    let layer : c.height-layer.result ≡ piece_layer c.args.kind.now.piece_length = search rules in
-    let own : c.height.result ≡ height (block_count c.args.found.now.length) = search rules in
-    let over : c.args.kind.now.piece_length < c.args.length = search rules in
+    let given = heights (goal.at.returns-then-height-layer c).After-height in
     put_ok c.extend_from_slice-then-height-layer.result c.args.text.now.items c.extend_from_slice-then-height-layer.new.self.items c.lifted.result _
     c.extend_from_slice-then-height-layer.ensures.items
     (λ put row hashes.
     let len : length row ≡ c.args.found.now.length = sym hashes.length_is in
     let some : 0 < length row = omega (arith, len, c.requires.some) in
     let low : height (block_count (length row)) ≤ c.height-layer.result =
-    omega (arith, ap (λ n. height (block_count n)) len, own, c.if-height-layer.true) in
+    omega (arith, ap (λ n. height (block_count n)) len, given.1, c.if-height-layer.true) in
     put ∙ ap (λ l. c.args.text.now.items ++ l)
-    (nodes_of_one c.args.kind.now.piece_length c.args.length row c.height-layer.result c.lifted.result over layer some low
+    (nodes_of_one c.args.kind.now.piece_length c.args.length row c.height-layer.result c.lifted.result given.2 given.0 some low
     (c.lifted.ensures row len (hashes.root_is some))))
 
 pub returns : goal.returns
 returns c = λ row hashes.
-    let layer : c.height-layer.result ≡ piece_layer c.args.kind.now.piece_length = search rules in
-    let own : c.height.result ≡ height (block_count c.args.found.now.length) = search rules in
-    let over : c.args.kind.now.piece_length < c.args.length = search rules in
+    let given = heights (goal.at.returns c).After-height in
     let len : length row ≡ c.args.found.now.length = sym hashes.length_is in
     let low : c.height-layer.result ≤ height (block_count (length row)) =
-    omega (arith, ap (λ n. height (block_count n)) len, own, c.if-height-layer.false) in
+    omega (arith, ap (λ n. height (block_count n)) len, given.1, c.if-height-layer.false) in
     let all : c.nodes.text.items ≡ c.args.text.now.items ++ joined_hashes c.args.found.now.layer.items =
     c.nodes.invariant ∙ ap (λ l. c.args.text.now.items ++ joined_hashes l) (take_all c.nodes.node-index c.args.found.now.layer.items (omega (
       arith,
@@ -38,4 +40,4 @@ returns c = λ row hashes.
       ap length c.deref-node-items.ensures.value,
     ))) in
     all ∙ ap (λ l. c.args.text.now.items ++ l)
-    (nodes_of_many c.args.kind.now.piece_length c.args.length row c.height-layer.result c.args.found.now.layer.items over layer low hashes.layer_is)
+    (nodes_of_many c.args.kind.now.piece_length c.args.length row c.height-layer.result c.args.found.now.layer.items given.2 given.0 low hashes.layer_is)

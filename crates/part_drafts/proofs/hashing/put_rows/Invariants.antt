@@ -6,5 +6,5 @@ use Rattle.part_drafts.proofs.hashing.put_rows.Given as goal
 
 abbrev pub invariant-files : goal.invariant-files
 invariant-files g l =
-    SoFar g.S.Shelf g.S.SeekShelf.opens_at g.S.File.Source.seen l.kind.piece_length l.kind.hybrid (total_of (map listed l.files)) l.parts l.part l.fn.shelf
-    l.fn.text.items (take l.number (map listed l.files)) l.before l.text.items l.shelf
+    SoFar g.S.Shelf g.S.SeekShelf.opens_at g.S.File.Source.seen l.kind.piece_length l.kind.hybrid (total_of (map listed l.files)) l.which.parts l.which.part
+    l.fn.shelf l.fn.text.items (take l.number (map listed l.files)) l.before l.text.items l.shelf

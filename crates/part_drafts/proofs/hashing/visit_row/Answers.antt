@@ -12,7 +12,7 @@ returns-in_default-clause-found g c = record { touched = c.requires.touched; why
 pub returns-clause-found : goal.returns-clause-found
 returns-clause-found g c =
     let p = c.args.kind.now.piece_length in
-    let x = share (listed c.args.file.now) c.args.span in
+    let x = share (listed c.args.share.file.now) c.args.share.span in
     let path = ap (map (λ s. s.now)) c.deref-2.ensures.value ∙ c.in-Ok.ensures ∙ ap (map string_bytes) c.deref.ensures.value in
     subst (FindsShare g.S.Shelf g.S.SeekShelf.opens_at g.S.File.Source.seen p c.args.kind.now.hybrid c.args.shelf.now x c.visit_at.new.shelf)
     (sym c.found_of.ensures)

@@ -7,10 +7,10 @@ use Rattle.part_drafts.proofs.row.read_row.Goals as goal
 
 pub returns-in_err-take_exactly : goal.returns-in_err-take_exactly
 returns-in_err-take_exactly g c =
-    let seen = g.F.Source.seen in
     let e = err_from_is_err_and c.from_residual.result c.from_residual.ensures.1 in
-    faulted c.args.kind.now.piece_length c.args.kind.now.hybrid c.args.size c.args.ends (seen c.args.source.now) (seen c.take_exactly.new.source)
-    c.from_residual.result e.0 fault.Device e.1 e.2 (c.in_err-take_exactly.ensures.no_further, c.in_err-take_exactly.ensures.counts)
+    faulted c.args.kind.now.piece_length c.args.kind.now.hybrid c.args.size c.args.ends (g.F.Source.seen c.args.source.now)
+    (g.F.Source.seen c.take_exactly.new.source) c.from_residual.result e.0 fault.Device e.1 e.2
+    (c.in_err-take_exactly.ensures.no_further, c.in_err-take_exactly.ensures.counts)
 
 pub returns-then-not-branch : goal.returns-then-not-branch
 returns-then-not-branch g c = (
@@ -21,12 +21,11 @@ returns-then-not-branch g c = (
 
 pub returns-in_err-is_over : goal.returns-in_err-is_over
 returns-in_err-is_over g c =
-    let seen = g.F.Source.seen in
     let e = err_from_is_err_and c.from_residual-in_err-is_over.result c.from_residual-in_err-is_over.ensures.1 in
-    faulted c.args.kind.now.piece_length c.args.kind.now.hybrid c.args.size c.args.ends (seen c.args.source.now) (seen c.is_over.new.source)
-    c.from_residual-in_err-is_over.result e.0 fault.Device e.1 e.2 (
-      within c.args.size c.args.ends (seen c.args.source.now) (seen c.take_exactly.new.source) (seen c.is_over.new.source) _ _ _ c.if-not-branch.false
-          c.in_ok-take_exactly.ensures.read c.in_err-is_over.ensures.blamed,
+    faulted c.args.kind.now.piece_length c.args.kind.now.hybrid c.args.size c.args.ends (g.F.Source.seen c.args.source.now)
+    (g.F.Source.seen c.is_over.new.source) c.from_residual-in_err-is_over.result e.0 fault.Device e.1 e.2 (
+      within c.args.size c.args.ends (g.F.Source.seen c.args.source.now) (g.F.Source.seen c.take_exactly.new.source)
+          (g.F.Source.seen c.is_over.new.source) _ _ _ c.if-not-branch.false c.in_ok-take_exactly.ensures.read c.in_err-is_over.ensures.blamed,
       c.in_err-is_over.ensures.counts ∙ ap one_more c.in_ok-take_exactly.ensures.counts,
     )
 
@@ -48,12 +47,12 @@ returns-then-size-eq0 g c = (
 
 pub returns-in_err-finish : goal.returns-in_err-finish
 returns-in_err-finish g c =
-    let seen = g.F.Source.seen in
     let e = err_from_is_err_and c.from_residual-in_err-finish.result c.from_residual-in_err-finish.ensures.1 in
-    let t = gave_row c.args.size c.args.ends (seen c.args.source.now) (seen c.take_exactly.new.source) (seen c.is_over.new.source) _ _ _ _
-    c.if-not-branch.false c.in_ok-take_exactly.ensures.read c.if-not-branch-2.false c.in_ok-is_over.ensures.over in
-    faulted c.args.kind.now.piece_length c.args.kind.now.hybrid c.args.size c.args.ends (seen c.args.source.now) (seen c.is_over.new.source)
-    c.from_residual-in_err-finish.result e.0 fault.NoMemory e.1 e.2
+    let t = gave_row c.args.size c.args.ends (g.F.Source.seen c.args.source.now) (g.F.Source.seen c.take_exactly.new.source)
+    (g.F.Source.seen c.is_over.new.source) _ _ _ _ c.if-not-branch.false c.in_ok-take_exactly.ensures.read c.if-not-branch-2.false
+    c.in_ok-is_over.ensures.over in
+    faulted c.args.kind.now.piece_length c.args.kind.now.hybrid c.args.size c.args.ends (g.F.Source.seen c.args.source.now)
+    (g.F.Source.seen c.is_over.new.source) c.from_residual-in_err-finish.result e.0 fault.NoMemory e.1 e.2
     ((t.0.bytes, t.1), c.in_ok-is_over.ensures.counts ∙ c.in_ok-take_exactly.ensures.counts)
 
 pub returns : goal.returns

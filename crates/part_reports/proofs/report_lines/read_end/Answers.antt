@@ -1,8 +1,7 @@
 use Rattle.std.proofs.Common.{◌≡◌, ◌-◌, ◌++◌, ◌&&◌, ℕ, List, refl, sym, ap, subst, ◌∙◌, arith}
-use Rattle.folders.specs.Printed.{stream_words}
 use Rattle.folders.specs.Verdicts.{is_good, stream_is_good}
-use Rattle.parts.specs.PartLines.{answer_line}
 use Rattle.parts.specs.Parts.{place_count}
+use Rattle.part_reports.specs.ReadLines.{answer_line, stream_words}
 use Rattle.part_reports.specs.Lines.{SaysEnd}
 use Rattle.part_reports.proofs.Said.{same_said_v1}
 use Rattle.part_reports.proofs.SameLines.{same_rest}

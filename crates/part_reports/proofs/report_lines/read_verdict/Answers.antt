@@ -1,8 +1,9 @@
 use Rattle.std.proofs.Common.{◌≡◌, ◌++◌, false, sym, ap, ◌∙◌}
 use Rattle.opening.specs.Seen.{file_entry}
 use Rattle.folders.specs.declared.report.FileVerdict.TheVariants.{Good}
-use Rattle.parts.specs.PartLines.{has_place, held_line}
+use Rattle.parts.specs.PartLines.{has_place}
 use Rattle.parts.proofs.PlaceTests.{place_test}
+use Rattle.part_reports.specs.ReadLines.{held_line}
 use Rattle.part_reports.proofs.report_lines.read_verdict.Goals as goal
 
 pub returns-else-touches : goal.returns-else-touches

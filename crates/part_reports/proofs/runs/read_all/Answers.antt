@@ -1,7 +1,9 @@
 use Rattle.std.proofs.Common.{◌≡◌, inl, inr, ◌+◌, ◌-◌, ◌++◌, ◌∷◌, ℕ, List, [], refl, sym, ap, ◌∙◌, subst, append_assoc, arith}
+use Rattle.lines.specs.Texts.{text_of}
 use Rattle.opening.specs.Seen.{file_entry}
-use Rattle.parts.specs.Runs.{Run, run_text, runs_text}
+use Rattle.parts.specs.Runs.{Run}
 use Rattle.parts.proofs.Runs.{text_push}
+use Rattle.part_reports.specs.ReadLines.{run_text, runs_text}
 use Rattle.part_reports.specs.Marks.{IsInRuns}
 use Rattle.part_reports.specs.RunLines.{HasOneRun, IsRunWithin}
 use Rattle.part_reports.proofs.RunLines.{greedy, next_push, stopped, within_push}
@@ -30,7 +32,7 @@ runs-preserved c =
       next ∙ sym (next_push c.args.from runs r),
       c.runs.invariant.3 ∙ ap (λ x. runs_text t f runs ++ x) read.2
           ∙ sym (append_assoc (runs_text t f runs) (run_text t f r) behind)
-          ∙ ap (λ x. x ++ behind) (sym (text_push run_text t f runs r)),
+          ∙ ap (λ x. x ++ behind) (sym (text_push text_of t f runs r)),
       marks_both (IsInRuns f runs) (IsBetween (f.first_piece + first) (f.first_piece + end)) (IsInRuns f more) c.args.bad.now c.runs.bad c.mark.new.self
           c.runs.invariant.4 c.mark.ensures
           (λ q is. elim (in_more f runs r q is) [

@@ -1,6 +1,7 @@
 use Rattle.std.proofs.Common.{◌≡◌, ◌+◌, ◌-◌, ◌++◌, List}
 use Rattle.opening.specs.Seen.{file_entry}
-use Rattle.parts.specs.Runs.{Run, runs_text}
+use Rattle.parts.specs.Runs.{Run}
+use Rattle.part_reports.specs.ReadLines.{runs_text}
 use Rattle.part_reports.specs.Marks.{AreRunsWithin, IsInRuns, MarksMore}
 use Rattle.part_reports.proofs.RunLines.{next_piece}
 use Rattle.part_reports.proofs.runs.read_all.Given as goal

@@ -1,9 +1,12 @@
 use Rattle.std.proofs.Common.{◌≡◌, ◌+◌, ◌-◌, ◌++◌, ℕ, sym, ap, ap₂, ◌∙◌, arith}
 use Rattle.opening.specs.Seen.{file_entry}
-use Rattle.parts.specs.Runs.{Run, run_text}
+use Rattle.parts.specs.Runs.{Run}
+use Rattle.part_reports.specs.ReadLines.{run_text}
+use Rattle.part_reports.specs.RunLines.{HasOneRun}
 use Rattle.part_reports.proofs.RunLines.{no_numbers, numbers_are}
 use Rattle.part_reports.proofs.runs.read_run.Goals.{then-from-at-via-then-from-at, then-from-at-via-else-from-at+then-end-from}
 use Rattle.part_reports.proofs.runs.read_run.Goals.{then-from-at-via-else-from-at+else-end-from+then-to-end}
+use Rattle.part_reports.proofs.runs.read_run.Goals.{In_ok-first}
 use Rattle.part_reports.proofs.runs.read_run.Goals as goal
 
 pub returns-in_err-first : goal.returns-in_err-first
@@ -11,29 +14,32 @@ returns-in_err-first c = rw c.from_residual.ensures (λ has.
     no_numbers c.args.torrent.now (file_entry c.args.file.now) c.args.at c.args.to c.args.text.now c.recall_sound.ensures c.requires.file c.requires.inside
     c.in_err-first.ensures has)
 
+-- the numbers that were read are those of a run that stands there
+are : (c : In_ok-first) → (has : HasOneRun c.args.torrent.now (file_entry c.args.file.now) c.args.at c.args.to c.args.text.now)
+    → (c.in_ok-first.first ≡ (file_entry c.args.file.now).first_piece + has.0.first)
+    × (c.in_ok-first.last ≡ (file_entry c.args.file.now).first_piece + has.0.last)
+are c has = numbers_are c.args.torrent.now (file_entry c.args.file.now) c.args.at c.args.to c.args.text.now c.in_ok-first.first c.in_ok-first.last
+    c.recall_sound.ensures c.requires.file c.requires.inside c.in_ok-first.ensures has
+
 pub returns-in_err-from : goal.returns-in_err-from
 returns-in_err-from c = rw c.from_residual-in_err-from.ensures (λ has.
-    let are = numbers_are c.args.torrent.now (file_entry c.args.file.now) c.args.at c.args.to c.args.text.now c.in_ok-first.first c.in_ok-first.last
-    c.recall_sound.ensures c.requires.file c.requires.inside c.in_ok-first.ensures has in
+    let are = are (goal.at.returns-in_err-from c).In_ok-first has in
     c.in_err-from.ensures (omega (arith, are.0)))
 
 pub returns-in_err-checked_sub : goal.returns-in_err-checked_sub
 returns-in_err-checked_sub c = rw c.from_residual-in_err-checked_sub.ensures (λ has.
-    let are = numbers_are c.args.torrent.now (file_entry c.args.file.now) c.args.at c.args.to c.args.text.now c.in_ok-first.first c.in_ok-first.last
-    c.recall_sound.ensures c.requires.file c.requires.inside c.in_ok-first.ensures has in
+    let are = are (goal.at.returns-in_err-checked_sub c).In_ok-first has in
     c.in_err-checked_sub.ensures (omega (arith, are.1)))
 
 pub returns-in_err-end : goal.returns-in_err-end
 returns-in_err-end c = rw c.from_residual-in_err-end.ensures (λ has.
-    let are = numbers_are c.args.torrent.now (file_entry c.args.file.now) c.args.at c.args.to c.args.text.now c.in_ok-first.first c.in_ok-first.last
-    c.recall_sound.ensures c.requires.file c.requires.inside c.in_ok-first.ensures has in
+    let are = are (goal.at.returns-in_err-end c).In_ok-first has in
     c.in_err-end.ensures (omega (arith, c.in_ok-checked_sub.ensures.1, are.1, has.1.inside, c.ranges.to.fits)))
 
 pub returns-then-from-at : goal.returns-then-from-at
 returns-then-from-at c = λ has.
     let r = has.0 in
-    let are = numbers_are c.args.torrent.now (file_entry c.args.file.now) c.args.at c.args.to c.args.text.now c.in_ok-first.first c.in_ok-first.last
-    c.recall_sound.ensures c.requires.file c.requires.inside c.in_ok-first.ensures has in
+    let are = are (goal.at.returns-then-from-at c).In_ok-first has in
     let first : c.in_ok-from.from ≡ r.first = omega (arith, are.0, c.in_ok-from.ensures.1) in
     let last : c.in_ok-end.end ≡ r.last + 1 = omega (arith, are.1, c.in_ok-checked_sub.ensures.1, c.in_ok-end.ensures.1) in
     elim c.then-from-at.branch [
@@ -47,8 +53,7 @@ returns-in_err-rest c = rw c.from_residual-in_err-rest.ensures (λ has.
     let t = c.args.torrent.now in
     let f = file_entry c.args.file.now in
     let r = has.0 in
-    let are = numbers_are t f c.args.at c.args.to c.args.text.now c.in_ok-first.first c.in_ok-first.last
-    c.recall_sound.ensures c.requires.file c.requires.inside c.in_ok-first.ensures has in
+    let are = are (goal.at.returns-in_err-rest c).In_ok-first has in
     let first : c.in_ok-from.from ≡ r.first = omega (arith, are.0, c.in_ok-from.ensures.1) in
     let last : c.in_ok-end.end - 1 ≡ r.last = omega (arith, are.1, c.in_ok-checked_sub.ensures.1, c.in_ok-end.ensures.1) in
     let run : ℕ → ℕ → Run = λ a b. record { first = a; last = b } in

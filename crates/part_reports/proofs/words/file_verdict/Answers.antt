@@ -1,7 +1,7 @@
 use Rattle.std.proofs.Common.{◌≡◌, ◌++◌, Option, Some, None}
 use Rattle.std.specs.Option.{MatchOption}
 use Rattle.opening.specs.Seen.{file_entry}
-use Rattle.folders.specs.Printed.{file_verdict_text}
+use Rattle.part_reports.specs.ReadLines.{file_verdict_text}
 use Rattle.part_reports.specs.Lines.{IsSmall}
 use Rattle.part_reports.proofs.Tried.{are_small, none_there}
 use Rattle.part_reports.proofs.words.file_verdict.Goals as goal

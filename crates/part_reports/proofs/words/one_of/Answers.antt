@@ -3,8 +3,8 @@ use Rattle.std.proofs.lemmas.Option.{get_or_from_slice_get, slice_get-get_or, sl
 use Rattle.chains.proofs.Cases.{last_or_before}
 use Rattle.lines.specs.Reading.{BeginsWith}
 use Rattle.opening.specs.Seen.{file_entry}
-use Rattle.folders.specs.Printed.{file_verdict_text}
 use Rattle.folders.specs.declared.report.FileVerdict.TheVariants.{Good}
+use Rattle.part_reports.specs.ReadLines.{file_verdict_text}
 use Rattle.part_reports.proofs.words.one_of.Goals as goal
 
 pub verdicts-preserved : goal.verdicts-preserved

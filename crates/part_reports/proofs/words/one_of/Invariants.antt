@@ -1,8 +1,8 @@
 use Rattle.std.proofs.Common.{◌≡◌, ◌<◌, ℕ, Some, slice_get}
 use Rattle.lines.specs.Reading.{BeginsWith}
 use Rattle.opening.specs.Seen.{file_entry}
-use Rattle.folders.specs.Printed.{file_verdict_text}
 use Rattle.folders.specs.declared.report.FileVerdict.{FileVerdict}
+use Rattle.part_reports.specs.ReadLines.{file_verdict_text}
 use Rattle.part_reports.proofs.words.one_of.Given as goal
 
 -- the lines of the verdicts before do not stand there

@@ -7,7 +7,7 @@ use Rattle.opening.specs.Seen.{file_entry}
 use Rattle.opening.proofs.Placing.{file_there}
 use Rattle.parts.specs.Batches.{left}
 use Rattle.parts.specs.Held.{IsFileJudged}
-use Rattle.parts.specs.declared.held.Held.TheVariants as held
+use Rattle.parts.specs.declared.held.HeldVisit.TheVariants as held
 use Rattle.parts.specs.declared.batch.Kept.{Kept}
 use Rattle.parts.proofs.batch.judge_files.Goals as goal
 

@@ -1,17 +1,40 @@
-use Rattle.std.proofs.Common.{◌≡◌, ◌∙◌, ◌*◌, map, ℕ, Some, None, Ok, Err, Vec, ap, sym, subst, arith}
+use Rattle.std.proofs.Common.{◌≡◌, ◌∙◌, ◌*◌, ℕ, List, map, Option, Some, None, Result, Ok, Err, Vec, ap, sym, subst, arith}
 use Rattle.std.specs.Global.{Global}
+use Rattle.benc.specs.declared.device.DeviceFault.{DeviceFault}
 use Rattle.hashtree.specs.Bits.{AreClear}
 use Rattle.opening.specs.Seen.{file_entry}
 use Rattle.folders.proofs.Places.{pieces_are_positive}
-use Rattle.folders.specs.SeekVisits.{VisitsForAt}
+use Rattle.folders.specs.SeekVisits.{ReadsFoundAt, VisitsForAt}
 use Rattle.parts.specs.Parts.{IsPartVerdict}
 use Rattle.parts.specs.PieceReads.{ReadsPieces}
-use Rattle.parts.specs.Spans.{first_in}
 use Rattle.parts.proofs.FoundFiles.{finds_unreadable, small_pieces}
 use Rattle.parts.proofs.HeldPieces.{span_shape}
 use Rattle.parts.proofs.SoFar.{begins, begins_within}
 use Rattle.parts.proofs.Visited.{found_at, part_finds_it, part_opens_it}
+use Rattle.parts.proofs.part.visit_span.Given.{Over}
 use Rattle.parts.proofs.part.visit_span.Goals as goal
+use Rattle.parts.proofs.part.visit_span.Goals.{In-Ok-Some}
+
+-- a file was found, and read so
+read_there : (g : Over) (c : In-Ok-Some g) → ReadsFoundAt g.S.Shelf g.S.SeekShelf.opens_at g.S.File.Source.seen
+    (ReadsPieces c.args.torrent.now (file_entry c.args.file.now) c.args.span c.taken.result c.visit_at-visited.new.reader.bits) c.args.shelf.now
+    (file_entry c.args.file.now).path (c.args.torrent.now.piece_length * c.args.span.from) c.in-Ok-Some.found c.visit_at-visited.new.shelf
+read_there g c =
+    let path = ap (map (λ s. s.now)) c.deref.ensures.0 ∙ c.parts.ensures in
+    let some : c.in-Ok-Some.field-0 ≡ Some c.in-Ok-Some.found = rw c.in-Ok-Some.is at c.in-Ok-Some.field-0-is in
+    found_at g.S.Shelf g.S.SeekShelf.opens_at g.S.File.Source.seen
+    (ReadsPieces c.args.torrent.now (file_entry c.args.file.now) c.args.span c.taken.result c.visit_at-visited.new.reader.bits)
+    c.args.shelf.now c.visit_at-visited.new.shelf _ (file_entry c.args.file.now).path c.first_byte-offset.result
+    (c.args.torrent.now.piece_length * c.args.span.from) c.visit_at-visited.result c.in-Ok-Some.found c.visit_at-visited.ensures.visits path
+    c.first_byte-offset.ensures (c.in-Ok-Some.is ∙ ap Ok some)
+
+-- it was opened where its pieces begin
+opened_there : {S F : Type 0} (opens_at : S → List (List ℕ) → ℕ → Result (Option F) DeviceFault → S → Type 0) (s s' : S) (path own : List (List ℕ))
+    (offset length from first : ℕ) (answer : Result (Option F) DeviceFault) → path ≡ own → offset ≡ length * from → from ≡ first
+    → opens_at s path offset answer s' → opens_at s own (length * first) answer s'
+opened_there opens_at s s' path own offset length from first answer is at begins opened =
+    subst (λ p. opens_at s p (length * first) answer s') is
+    (subst (λ n. opens_at s path n answer s') (at ∙ ap (λ k. length * k) begins) opened)
 
 pub first_byte-offset-requires : goal.first_byte-offset-requires
 first_byte-offset-requires g c =
@@ -31,60 +54,33 @@ visit_at-visited-requires-clause-ready g c = record {
 
 pub of_found-requires : goal.of_found-requires
 of_found-requires g c =
-    let t = c.args.torrent.now in
-    let s = c.args.span in
-    let f = file_entry c.args.file.now in
-    let file = c.requires.file in
-    let path = ap (map (λ s. s.now)) c.deref.ensures.0 ∙ c.parts.ensures in
-    let some : c.in-Ok-Some.field-0 ≡ Some c.in-Ok-Some.found = rw c.in-Ok-Some.is at c.in-Ok-Some.field-0-is in
-    let v = found_at g.S.Shelf g.S.SeekShelf.opens_at g.S.File.Source.seen (ReadsPieces t f s c.taken.result c.visit_at-visited.new.reader.bits)
-    c.args.shelf.now c.visit_at-visited.new.shelf _ f.path c.first_byte-offset.result (t.piece_length * s.from) c.visit_at-visited.result c.in-Ok-Some.found
-    c.visit_at-visited.ensures.visits path c.first_byte-offset.ensures (c.in-Ok-Some.is ∙ ap Ok some) in
-    small_pieces t file.0 f s c.in-Ok-Some.found c.recall_sound.ensures file.1 (span_shape t c.args._places f s c.requires.span) v.handed.reading.inside
+    let there = read_there g (goal.at.of_found-requires g c).In-Ok-Some in
+    let span = span_shape c.args.torrent.now c.args._places (file_entry c.args.file.now) c.args.span c.requires.span in
+    small_pieces _ c.requires.file.0 _ _ c.in-Ok-Some.found c.recall_sound.ensures c.requires.file.1 span there.handed.reading.inside
 
 pub returns-in-Ok-Some-clause-found : goal.returns-in-Ok-Some-clause-found
 returns-in-Ok-Some-clause-found g c =
-    let t = c.args.torrent.now in
-    let s = c.args.span in
-    let f = file_entry c.args.file.now in
-    let path = ap (map (λ s. s.now)) c.deref.ensures.0 ∙ c.parts.ensures in
-    let some : c.in-Ok-Some.field-0 ≡ Some c.in-Ok-Some.found = rw c.in-Ok-Some.is at c.in-Ok-Some.field-0-is in
-    let v = found_at g.S.Shelf g.S.SeekShelf.opens_at g.S.File.Source.seen (ReadsPieces t f s c.taken.result c.visit_at-visited.new.reader.bits)
-    c.args.shelf.now c.visit_at-visited.new.shelf _ f.path c.first_byte-offset.result (t.piece_length * s.from) c.visit_at-visited.result c.in-Ok-Some.found
-    c.visit_at-visited.ensures.visits path c.first_byte-offset.ensures (c.in-Ok-Some.is ∙ ap Ok some) in
-    part_finds_it g.S.Shelf g.S.SeekShelf.opens_at g.S.File.Source.seen t c.args._places f s c.requires.span c.taken.result
-    c.visit_at-visited.new.reader.bits c.args.shelf.now c.visit_at-visited.new.shelf c.in-Ok-Some.found c.of_found.result c.of_found.ensures v
+    part_finds_it g.S.Shelf g.S.SeekShelf.opens_at g.S.File.Source.seen c.args.torrent.now c.args._places (file_entry c.args.file.now) c.args.span
+    c.requires.span c.taken.result c.visit_at-visited.new.reader.bits c.args.shelf.now c.visit_at-visited.new.shelf c.in-Ok-Some.found c.of_found.result
+    c.of_found.ensures (read_there g (goal.at.returns-in-Ok-Some-clause-found g c).In-Ok-Some)
 
 pub returns-in-Ok-Some-clause-visits : goal.returns-in-Ok-Some-clause-visits
 returns-in-Ok-Some-clause-visits g c =
-    let t = c.args.torrent.now in
-    let s = c.args.span in
-    let f = file_entry c.args.file.now in
-    let path = ap (map (λ s. s.now)) c.deref.ensures.0 ∙ c.parts.ensures in
-    let some : c.in-Ok-Some.field-0 ≡ Some c.in-Ok-Some.found = rw c.in-Ok-Some.is at c.in-Ok-Some.field-0-is in
-    let v = found_at g.S.Shelf g.S.SeekShelf.opens_at g.S.File.Source.seen (ReadsPieces t f s c.taken.result c.visit_at-visited.new.reader.bits)
-    c.args.shelf.now c.visit_at-visited.new.shelf _ f.path c.first_byte-offset.result (t.piece_length * s.from) c.visit_at-visited.result c.in-Ok-Some.found
-    c.visit_at-visited.ensures.visits path c.first_byte-offset.ensures (c.in-Ok-Some.is ∙ ap Ok some) in
-    part_opens_it g.S.Shelf g.S.SeekShelf.opens_at g.S.File.Source.seen t c.args._places f s c.requires.span c.taken.result
-    c.visit_at-visited.new.reader.bits c.args.shelf.now c.visit_at-visited.new.shelf c.in-Ok-Some.found c.of_found.result c.of_found.ensures v
+    part_opens_it g.S.Shelf g.S.SeekShelf.opens_at g.S.File.Source.seen c.args.torrent.now c.args._places (file_entry c.args.file.now) c.args.span
+    c.requires.span c.taken.result c.visit_at-visited.new.reader.bits c.args.shelf.now c.visit_at-visited.new.shelf c.in-Ok-Some.found c.of_found.result
+    c.of_found.ensures (read_there g (goal.at.returns-in-Ok-Some-clause-visits g c).In-Ok-Some)
 
 pub returns-in-Ok-None-clause-visits : goal.returns-in-Ok-None-clause-visits
 returns-in-Ok-None-clause-visits g c =
-    let t = c.args.torrent.now in
-    let r = c.args._places in
-    let s = c.args.span in
-    let f = file_entry c.args.file.now in
     let path = ap (map (λ s. s.now)) c.deref.ensures.0 ∙ c.parts.ensures in
     let none : c.in-Ok-None.field-0 ≡ None = rw c.in-Ok-None.is at c.in-Ok-None.field-0-is in
-    let at : c.first_byte-offset.result ≡ t.piece_length * first_in r f =
-    c.first_byte-offset.ensures ∙ ap (λ k. t.piece_length * k) c.requires.span.from_is in
     let v = subst (λ x. VisitsForAt g.S.Shelf g.S.SeekShelf.opens_at g.S.File.Source.seen
-    (ReadsPieces t f s c.taken.result c.visit_at-visited.new.reader.bits) c.args.shelf.now (map (λ s. s.now) c.deref.result.now)
-    c.first_byte-offset.result x c.visit_at-visited.new.shelf) (c.in-Ok-None.is ∙ ap Ok none) c.visit_at-visited.ensures.visits in
+    (ReadsPieces c.args.torrent.now (file_entry c.args.file.now) c.args.span c.taken.result c.visit_at-visited.new.reader.bits) c.args.shelf.now
+    (map (λ s. s.now) c.deref.result.now) c.first_byte-offset.result x c.visit_at-visited.new.shelf) (c.in-Ok-None.is ∙ ap Ok none)
+    c.visit_at-visited.ensures.visits in
     record {
       answer = Ok None;
-      opened = subst (λ p. g.S.SeekShelf.opens_at c.args.shelf.now p (t.piece_length * first_in r f) (Ok None) c.visit_at-visited.new.shelf) path
-          (subst (λ o. g.S.SeekShelf.opens_at c.args.shelf.now (map (λ s. s.now) c.deref.result.now) o (Ok None) c.visit_at-visited.new.shelf) at v.0);
+      opened = opened_there g.S.SeekShelf.opens_at _ _ _ _ _ _ _ _ (Ok None) path c.first_byte-offset.ensures c.requires.span.from_is v.0;
       follows = c.not_whole.ensures.file;
     }
 
@@ -96,20 +92,12 @@ returns-in-Err-clause-found g c =
 
 pub returns-in-Err-clause-visits : goal.returns-in-Err-clause-visits
 returns-in-Err-clause-visits g c =
-    let t = c.args.torrent.now in
-    let r = c.args._places in
-    let s = c.args.span in
-    let f = file_entry c.args.file.now in
-    let path = ap (map (λ s. s.now)) c.deref.ensures.0 ∙ c.parts.ensures in
-    let at : c.first_byte-offset.result ≡ t.piece_length * first_in r f =
-    c.first_byte-offset.ensures ∙ ap (λ k. t.piece_length * k) c.requires.span.from_is in
     let v = subst (λ x. VisitsForAt g.S.Shelf g.S.SeekShelf.opens_at g.S.File.Source.seen
-    (ReadsPieces t f s c.taken.result c.visit_at-visited.new.reader.bits) c.args.shelf.now (map (λ s. s.now) c.deref.result.now)
-    c.first_byte-offset.result x c.visit_at-visited.new.shelf) c.in-Err.is c.visit_at-visited.ensures.visits in
+    (ReadsPieces c.args.torrent.now (file_entry c.args.file.now) c.args.span c.taken.result c.visit_at-visited.new.reader.bits) c.args.shelf.now
+    (map (λ s. s.now) c.deref.result.now) c.first_byte-offset.result x c.visit_at-visited.new.shelf) c.in-Err.is c.visit_at-visited.ensures.visits in
     record {
       answer = Err c.in-Err.field-0;
-      opened = subst (λ p. g.S.SeekShelf.opens_at c.args.shelf.now p (t.piece_length * first_in r f) (Err c.in-Err.field-0) c.visit_at-visited.new.shelf) path
-          (subst (λ o. g.S.SeekShelf.opens_at c.args.shelf.now (map (λ s. s.now) c.deref.result.now) o (Err c.in-Err.field-0) c.visit_at-visited.new.shelf) at
-          v.0);
+      opened = opened_there g.S.SeekShelf.opens_at _ _ _ _ _ _ _ _ (Err c.in-Err.field-0)
+          (ap (map (λ s. s.now)) c.deref.ensures.0 ∙ c.parts.ensures) c.first_byte-offset.ensures c.requires.span.from_is v.0;
       follows = c.not_whole-in-Err.ensures.file;
     }

@@ -1,12 +1,12 @@
-use Rattle.std.proofs.Common.{◌≡◌, ◌+◌, ◌-◌, ◌∷◌, ◌++◌, ◌≤◌, ℕ, [], sym, subst, refl, arith}
+use Rattle.std.proofs.Common.{◌+◌, ◌-◌, ◌∷◌, ◌++◌, ◌≤◌, ℕ, [], sym, subst, refl, arith}
 use Rattle.std.proofs.lemmas.Result.{err_from_is_err_and}
 use Rattle.benc.proofs.Known.{Appends_nothing}
 use Rattle.benc.proofs.Out.{Broke-append, Sent-append}
 use Rattle.benc.specs.Device.{Broke, Sent}
+use Rattle.lines.specs.Rows.{spell}
 use Rattle.opening.specs.Seen.{file_entry}
 use Rattle.parts.specs.Parts.{piece_count}
-use Rattle.parts.specs.Runs.{IsSetIfIn, Run, WritesRuns, runs_as}
-use Rattle.parts.specs.Words.{words_as}
+use Rattle.parts.specs.Runs.{IsSetIfIn, Run, WritesRuns, run_row, runs_rows}
 use Rattle.parts.proofs.RowRuns.{clear_next}
 use Rattle.parts.proofs.Runs.{all_runs, no_runs, one_run, text_push}
 use Rattle.parts.proofs.telling.say_runs.Goals as goal
@@ -22,7 +22,7 @@ runs-init g c =
 
 pub runs-preserved : goal.runs-preserved
 runs-preserved g c =
-    let line_of = (words_as g.L.LineSink.spelled).run in
+    let spelled = g.L.LineSink.spelled in
     let t = c.args.torrent.now in
     let f = file_entry c.args.file.now in
     let from = c.args.from in
@@ -37,14 +37,14 @@ runs-preserved g c =
     let next = clear_next count from to c.runs.at c.in-Some.first c.in-Some.end bits c.requires.order c.requires.inside c.in-Some.ensures.run in (
       so_far.0 ++ r ∷ [],
       one_run (IsSetIfIn from to bits) count (from + c.runs.at) first end so_far.0 next so_far.1,
-      subst (Sent (seen c.args.out.now) (seen c.say_run.new.out)) (sym (text_push line_of t f so_far.0 r))
-          (Sent-append (seen c.args.out.now) (seen c.runs.out) (seen c.say_run.new.out) (runs_as line_of t f so_far.0) (line_of t f r) so_far.2
-          c.in_ok-say_run.ensures),
+      subst (Sent (seen c.args.out.now) (seen c.say_run.new.out)) (sym (text_push spelled t f so_far.0 r))
+          (Sent-append (seen c.args.out.now) (seen c.runs.out) (seen c.say_run.new.out) (spell spelled (runs_rows t f so_far.0))
+          (spelled (run_row t f r)) so_far.2 c.in_ok-say_run.ensures),
     )
 
 pub returns-in_err-say_run : goal.returns-in_err-say_run
 returns-in_err-say_run g c =
-    let line_of = (words_as g.L.LineSink.spelled).run in
+    let spelled = g.L.LineSink.spelled in
     let t = c.args.torrent.now in
     let f = file_entry c.args.file.now in
     let from = c.args.from in
@@ -59,14 +59,14 @@ returns-in_err-say_run g c =
     let next = clear_next count from to c.runs.at c.in-Some.first c.in-Some.end bits c.requires.order c.requires.inside c.in-Some.ensures.run in
     let p = err_from_is_err_and c.from_residual.result c.from_residual.ensures.1 in
     let more = one_run (IsSetIfIn from to bits) count (from + c.runs.at) first end so_far.0 next so_far.1 in
-    subst (WritesRuns line_of t f from to bits (seen c.args.out.now) (seen c.say_run.new.out)) (sym p.1) (
+    subst (WritesRuns spelled t f from to bits (seen c.args.out.now) (seen c.say_run.new.out)) (sym p.1) (
       so_far.0 ++ r ∷ [],
       end,
       more.inside,
       more.done,
-      subst (Broke (seen c.args.out.now) (seen c.say_run.new.out)) (sym (text_push line_of t f so_far.0 r))
-          (Broke-append (seen c.args.out.now) (seen c.runs.out) (seen c.say_run.new.out) (runs_as line_of t f so_far.0) (line_of t f r) so_far.2
-          c.in_err-say_run.ensures),
+      subst (Broke (seen c.args.out.now) (seen c.say_run.new.out)) (sym (text_push spelled t f so_far.0 r))
+          (Broke-append (seen c.args.out.now) (seen c.runs.out) (seen c.say_run.new.out) (spell spelled (runs_rows t f so_far.0))
+          (spelled (run_row t f r)) so_far.2 c.in_err-say_run.ensures),
     )
 
 pub returns : goal.returns

@@ -1,9 +1,9 @@
 use Rattle.std.proofs.Common.{List, ◌+◌, ◌-◌}
 use Rattle.benc.specs.Device.{Sent}
+use Rattle.lines.specs.Rows.{spell}
 use Rattle.opening.specs.Seen.{file_entry}
 use Rattle.parts.specs.Parts.{piece_count}
-use Rattle.parts.specs.Runs.{IsSetIfIn, Run, runs_as}
-use Rattle.parts.specs.Words.{words_as}
+use Rattle.parts.specs.Runs.{IsSetIfIn, Run, runs_rows}
 use Rattle.parts.proofs.Runs.{RunsUpTo}
 use Rattle.parts.proofs.telling.say_runs.Given as goal
 
@@ -11,7 +11,7 @@ abbrev pub invariant-runs : goal.invariant-runs
 invariant-runs g l = (runs : List Run)
     × RunsUpTo (IsSetIfIn l.from l.to l.bits) (piece_count l.torrent (file_entry l.file)) (l.from + l.at) runs
     × Sent (g.L.LineSink.seen l.fn.out) (g.L.LineSink.seen l.out)
-    (runs_as (words_as g.L.LineSink.spelled).run l.torrent (file_entry l.file) runs)
+    (spell g.L.LineSink.spelled (runs_rows l.torrent (file_entry l.file) runs))
 
 abbrev pub decreases-runs : goal.decreases-runs
 decreases-runs g l = l.count - l.at

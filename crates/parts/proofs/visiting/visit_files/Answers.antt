@@ -9,7 +9,6 @@ use Rattle.parts.specs.Checking.{shelf_and_sink}
 use Rattle.parts.specs.Visiting.{EndsVisits, VisitsFile}
 use Rattle.benc.specs.Device.{Broke, Sent}
 use Rattle.parts.specs.Telling.{HasBits, Tells, TellsFirst, Told}
-use Rattle.parts.specs.Words.{words_as}
 use Rattle.parts.specs.Worse.{worse_v1}
 use Rattle.parts.proofs.ToldFirst.{IsToldFirst, length-told, stops_at, told_all, told_none, told_one}
 use Rattle.parts.proofs.visiting.visit_files.Goals as goal
@@ -46,11 +45,11 @@ files-init g c =
       );
       bits = c.requires.room.bits;
       checked = subst
-          (λ xs. IsToldFirst V (words_as g.L.LineSink.spelled) c.args.torrent.now c.args.telling
+          (λ xs. IsToldFirst V g.L.LineSink.spelled c.args.torrent.now c.args.telling
           (shelf_and_sink c.args.shelf.now (g.L.LineSink.seen c.args.out.now)) 0 xs
           _ (shelf_and_sink c.args.shelf.now (g.L.LineSink.seen c.args.out.now)))
           (sym c.requires.room.none)
-          (told_none V (words_as g.L.LineSink.spelled) c.args.torrent.now c.args.telling (shelf_and_sink c.args.shelf.now (g.L.LineSink.seen c.args.out.now)));
+          (told_none V g.L.LineSink.spelled c.args.torrent.now c.args.telling (shelf_and_sink c.args.shelf.now (g.L.LineSink.seen c.args.out.now)));
     }
 
 pub files-preserved : goal.files-preserved
@@ -71,17 +70,17 @@ files-preserved g c =
       stays = found.ensures.stays;
     } in
     let told = subst (λ b. Told (λ content. Tells
-    (words_as g.L.LineSink.spelled) t c.args.telling f content found.result.file) t c.args.telling f found.result.file b
+    g.L.LineSink.spelled t c.args.telling f content found.result.file) t c.args.telling f found.result.file b
     (Sent mid.1 (g.L.LineSink.seen c.tell.new.out)))
     c.deref.ensures.value c.in_ok-tell.ensures.tells in
-    let checked = told_one V (words_as g.L.LineSink.spelled) t c.args.telling old mid n c.files.files.items c.files.v1 f found.result found.new.bits.items
+    let checked = told_one V g.L.LineSink.spelled t c.args.telling old mid n c.files.files.items c.files.v1 f found.result found.new.bits.items
     found.new.shelf (g.L.LineSink.seen c.tell.new.out) c.requires.own there next told c.files.invariant.checked in
     record {
       room = omega (arith, c.files.invariant.room, c.push_reserved.ensures.capacity);
       bits = subst (λ k. HasBits t c.args.telling k) (sym found.ensures.capacity) c.files.invariant.bits;
-      checked = subst (λ v. IsToldFirst V (words_as g.L.LineSink.spelled) t c.args.telling old (n + 1) c.push_reserved.new.self.items v new)
+      checked = subst (λ v. IsToldFirst V g.L.LineSink.spelled t c.args.telling old (n + 1) c.push_reserved.new.self.items v new)
           (sym c.worse_v1-v1.ensures)
-          (subst (λ xs. IsToldFirst V (words_as g.L.LineSink.spelled) t c.args.telling old (n + 1) xs (worse_v1 c.files.v1 found.result.v1) new)
+          (subst (λ xs. IsToldFirst V g.L.LineSink.spelled t c.args.telling old (n + 1) xs (worse_v1 c.files.v1 found.result.v1) new)
           (sym c.push_reserved.ensures.items) checked);
     }
 
@@ -106,12 +105,12 @@ returns-in_err-tell-clause-ends g c =
     ∙ so_far.count in
     let few : length c.files.files.items < 2 ^ 64 - 1 = omega (arith, long, c.files-test.true, c.files.invariant.room, c.files.files.small) in
     let p = err_from_is_err_and c.from_residual.result c.from_residual.ensures.1 in
-    let told = subst (λ b. Told (λ content. TellsFirst (words_as g.L.LineSink.spelled) t c.args.telling f content found.result.file) t c.args.telling f
+    let told = subst (λ b. Told (λ content. TellsFirst g.L.LineSink.spelled t c.args.telling f content found.result.file) t c.args.telling f
     found.result.file b
     (Broke mid.1 (g.L.LineSink.seen c.tell.new.out))) c.deref.ensures.value c.in_err-tell.ensures.tells in
-    let stops = stops_at V (words_as g.L.LineSink.spelled) t c.args.telling old mid n c.files.files.items c.files.v1 f found.result found.new.bits.items
+    let stops = stops_at V g.L.LineSink.spelled t c.args.telling old mid n c.files.files.items c.files.v1 f found.result found.new.bits.items
     found.new.shelf (g.L.LineSink.seen c.tell.new.out) few c.in_err-tell.ensures.some c.requires.own there next told so_far in
-    subst (λ r. EndsVisits V (words_as g.L.LineSink.spelled) t c.args.telling old (shelf_and_sink found.new.shelf (g.L.LineSink.seen c.tell.new.out)) r)
+    subst (λ r. EndsVisits V g.L.LineSink.spelled t c.args.telling old (shelf_and_sink found.new.shelf (g.L.LineSink.seen c.tell.new.out)) r)
     (sym p.1) stops
 
 pub returns-clause-ends : goal.returns-clause-ends
@@ -131,7 +130,7 @@ returns-clause-ends g c =
       c.files.invariant.room,
       c.files.files.small,
     ) in
-    told_all V (words_as g.L.LineSink.spelled) t c.args.telling (shelf_and_sink c.args.shelf.now (g.L.LineSink.seen c.args.out.now))
+    told_all V g.L.LineSink.spelled t c.args.telling (shelf_and_sink c.args.shelf.now (g.L.LineSink.seen c.args.out.now))
     (shelf_and_sink c.files.shelf (g.L.LineSink.seen c.files.out)) c.files.file-index c.files.files.items c.files.v1 c.match-v1.v1 c.recall_sound.ensures all
     few
     (elim c.match-v1.branch [

@@ -1,4 +1,4 @@
-use Rattle.std.proofs.Common.{rules, ◌≡◌, ◌∙◌, ℕ, Option, Some, refl}
+use Rattle.std.proofs.Common.{◌≡◌, ◌∙◌, ℕ, Option, Some, refl}
 use Rattle.std.proofs.lemmas.Result.{err_from_is_err_and}
 use Rattle.folders.specs.declared.taking.ReadFault.TheVariants as fault
 use Rattle.opening.specs.Seen.{tree_entry}
@@ -33,43 +33,10 @@ returns-in_err-finish-clause-memory g c =
     c.in_err-finish.ensures.no_memory in
     at_err _ c.from_residual-in_err-finish.result (λ why is. fits)
 
-pub returns-in_err-take_all-clause-read : goal.returns-in_err-take_all-clause-read
-returns-in_err-take_all-clause-read g c = search rules
-
-pub returns-in_err-take_all-clause-length : goal.returns-in_err-take_all-clause-length
-returns-in_err-take_all-clause-length g c = search rules
-
-pub returns-in_err-take_all-clause-memory : goal.returns-in_err-take_all-clause-memory
-returns-in_err-take_all-clause-memory g c = search rules
-
-pub returns-in_err-take_all-clause-counts : goal.returns-in_err-take_all-clause-counts
-returns-in_err-take_all-clause-counts g c = search rules
-
 pub returns-in_err-take_all-clause-no_further : goal.returns-in_err-take_all-clause-no_further
 returns-in_err-take_all-clause-no_further g c =
     let p = err_from_is_err_and c.from_residual.result c.from_residual.ensures.1 in
     read_stopped c.args.tree.now.length _ _ _ p.0 fault.Device p.1 p.2 c.take_all.ensures.no_further
-
-pub returns-then-ne-clause-length : goal.returns-then-ne-clause-length
-returns-then-ne-clause-length g c = search rules
-
-pub returns-then-ne-clause-memory : goal.returns-then-ne-clause-memory
-returns-then-ne-clause-memory g c = search rules
-
-pub returns-then-ne-clause-counts : goal.returns-then-ne-clause-counts
-returns-then-ne-clause-counts g c = search rules
-
-pub returns-then-ne-clause-no_further : goal.returns-then-ne-clause-no_further
-returns-then-ne-clause-no_further g c = search rules
-
-pub returns-in_err-finish-clause-read : goal.returns-in_err-finish-clause-read
-returns-in_err-finish-clause-read g c = search rules
-
-pub returns-in_err-finish-clause-length : goal.returns-in_err-finish-clause-length
-returns-in_err-finish-clause-length g c = search rules
-
-pub returns-in_err-finish-clause-counts : goal.returns-in_err-finish-clause-counts
-returns-in_err-finish-clause-counts g c = search rules
 
 pub returns-in_err-finish-clause-no_further : goal.returns-in_err-finish-clause-no_further
 returns-in_err-finish-clause-no_further g c =
@@ -78,15 +45,6 @@ returns-in_err-finish-clause-no_further g c =
     read_stopped c.args.tree.now.length _ _ _ p.0 fault.NoMemory p.1 p.2
     (read_to_end Pushes _ _ _ _ c.args.tree.now.length one
     (read_whole Pushes _ _ _ _ _ _ _ c.if-ne.false c.ne.ensures c.in_ok-take_all.ensures.read))
-
-pub returns-clause-length : goal.returns-clause-length
-returns-clause-length g c = search rules
-
-pub returns-clause-memory : goal.returns-clause-memory
-returns-clause-memory g c = search rules
-
-pub returns-clause-counts : goal.returns-clause-counts
-returns-clause-counts g c = search rules
 
 pub returns-clause-no_further : goal.returns-clause-no_further
 returns-clause-no_further g c =

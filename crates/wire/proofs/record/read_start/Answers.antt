@@ -1,67 +1,48 @@
-use Rattle.std.proofs.Common.{◌≡◌, ◌≤◌, ◌-◌, ◌∷◌, length, take, drop, slice_index_or, arith, subst}
+use Rattle.std.proofs.Common.{◌≡◌, ◌≢◌, ◌+◌, ◌-◌, ◌∷◌, length, take, drop, get_or, arith, subst}
 use Rattle.std.proofs.lemmas.List.{length-take, length-drop}
-use Rattle.std.proofs.lemmas.Result.{err_from_is_err_and}
 use Rattle.std.proofs.lemmas.Grind.{common_steps}
 use Rattle.wire.specs.Reading.{GaveFaultless}
 use Rattle.wire.proofs.Giving.{Faultless-take}
-use Rattle.wire.proofs.RecordParts.{first_byte, stops_at_other, stops_in_start}
-use Rattle.wire.proofs.Stopping.{device}
+use Rattle.wire.proofs.RecordParts.{start_gave, stops_at_other, stops_in_start}
+use Rattle.wire.proofs.Stopping.{device, handed_on}
+use Rattle.wire.proofs.record.read_start.Given.{Over}
 use Rattle.wire.proofs.record.read_start.Goals as goal
+use Rattle.wire.proofs.record.read_start.Goals.{In_ok-count}
+
+-- what the first read gave: a byte, and what is behind it
+begun : (g : Over) (c : In_ok-count g) → c.in_ok-count.count ≢ 0
+    → GaveFaultless (g.R.Source.seen c.args.source.now) (g.R.Source.seen c.read.new.self)
+    (get_or c.read.new.buf 0 0 ∷ take (c.in_ok-count.count - 1) (drop 1 c.read.new.buf))
+    × (length (take (c.in_ok-count.count - 1) (drop 1 c.read.new.buf)) + 1 ≡ c.in_ok-count.count)
+begun g c some = let e = c.in_ok-count.ensures in start_gave _ _ _ _ c.read.auto.buf e.bound some e.bytes.0 e.falls e.counts
 
 pub returns-then-count-eq0-clause-bytes : goal.returns-then-count-eq0-clause-bytes
 returns-then-count-eq0-clause-bytes g c =
-    let S = g.R.Source in
     let e = c.in_ok-count.ensures in
-    let a = S.seen c.args.source.now in
-    let b = S.seen c.read.new.self in
-    let buf = c.read.new.buf in
     let none = c.if-count-eq0.true in (
-      subst (λ n. GaveFaultless a b (take n buf)) none (Faultless-take a b c.in_ok-count.count buf e.bound e.bytes.0 e.falls e.counts),
+      subst (λ n. GaveFaultless (g.R.Source.seen c.args.source.now) (g.R.Source.seen c.read.new.self) (take n c.read.new.buf)) none
+          (Faultless-take _ _ c.in_ok-count.count c.read.new.buf e.bound e.bytes.0 e.falls e.counts),
       e.bytes.1 none (omega (arith, c.read.auto.buf)),
     )
 
 pub returns-in_default-clause-bytes : goal.returns-in_default-clause-bytes
 returns-in_default-clause-bytes g c =
-    let S = g.R.Source in
-    let count = c.in_ok-count.count in
-    let e = c.in_ok-count.ensures in
-    let buf = c.read.new.buf in
-    let a = S.seen c.args.source.now in
-    let b = S.seen c.read.new.self in
-    let behind = take (count - 1) (drop 1 buf) in
-    let fits : count ≤ length buf = e.bound in
-    let few : length behind ≤ 4 = omega (arith, length-take (count - 1) (drop 1 buf), length-drop 1 buf, c.read.auto.buf) in
-    stops_at_other (slice_index_or buf 0 0) behind a b c.in_default.ensures.0 c.in_default.ensures.1 few
-    (subst (GaveFaultless a b) (first_byte count buf fits c.if-count-eq0.false) (Faultless-take a b count buf fits e.bytes.0 e.falls e.counts))
+    let start = begun g (goal.at.returns-in_default-clause-bytes g c).In_ok-count c.if-count-eq0.false in
+    stops_at_other _ _ _ _ c.in_default.ensures.0 c.in_default.ensures.1 (omega (arith, start.1, c.in_ok-count.ensures.bound, c.read.auto.buf)) start.0
 
 pub returns-in_err-read_exact-clause-bytes : goal.returns-in_err-read_exact-clause-bytes
 returns-in_err-read_exact-clause-bytes g c =
-    let S = g.R.Source in
     let count = c.in_ok-count.count in
-    let e = c.in_ok-count.ensures in
-    let buf = c.read.new.buf in
-    let a = S.seen c.args.source.now in
-    let b = S.seen c.read.new.self in
-    let behind = take (count - 1) (drop 1 buf) in
-    let fits : count ≤ length buf = e.bound in
-    let five : length buf ≡ 5 = c.read.auto.buf in
-    let left = drop count buf in
-    let p = err_from_is_err_and c.from_residual-in_err-read_exact.result c.from_residual-in_err-read_exact.ensures.1 in
-    let first : GaveFaultless a b (slice_index_or buf 0 0 ∷ behind) = subst (GaveFaultless a b) (first_byte count buf fits c.if-count-eq0.false)
-    (Faultless-take a b count buf fits e.bytes.0 e.falls e.counts) in
-    rw (p.1, p.2) (stops_in_start c.in-Some.direction behind (length (take (5 - count) left)) a b (S.seen c.read_exact.new.source) _
-    (omega (
-      arith,
-      five,
-      fits,
-      c.if-count-eq0.false,
-      length-take (count - 1) (drop 1 buf),
-      length-drop 1 buf,
-      length-take (5 - count) left,
-      length-drop count buf,
-    ))
+    let left = drop count c.read.new.buf in
+    let start = begun g (goal.at.returns-in_err-read_exact-clause-bytes g c).In_ok-count c.if-count-eq0.false in
+    let bound = c.in_ok-count.ensures.bound in
+    rw (handed_on c.from_residual-in_err-read_exact.result _ c.from_residual-in_err-read_exact.ensures.1)
+    (stops_in_start c.in-Some.direction _ (length (take (5 - count) left)) _ _ _ _
+    (omega (arith, start.1, bound, c.read.auto.buf, length-take (5 - count) left, length-drop count c.read.new.buf))
     (device _ c.in_err-read_exact.ensures.no_memory)
-    (subst (λ n. GaveFaultless a b (n ∷ behind)) c.in-Some.ensures first) c.in_err-read_exact.ensures.bytes)
+    (subst (λ n. GaveFaultless (g.R.Source.seen c.args.source.now) (g.R.Source.seen c.read.new.self) (n ∷ take (count - 1) (drop 1 c.read.new.buf)))
+    c.in-Some.ensures start.0)
+    c.in_err-read_exact.ensures.bytes)
 
 pub slice_bounds-number_at-end : goal.slice_bounds-number_at-end
 slice_bounds-number_at-end g c = grind (arith, common_steps)

@@ -11,12 +11,11 @@ use Rattle.drafts.specs.Outline.{IsOutline, Outline}
 use Rattle.drafts.specs.Written.{value_of}
 use Rattle.drafts.specs.declared.draft.DraftFile.{DraftFile}
 use Rattle.drafts.proofs.draft.Draft.finish.Goals as goal
+use Rattle.drafts.proofs.draft.Draft.finish.Goals.{After-is_small, After-write}
+use Rattle.drafts.proofs.draft.Draft.finish.Given.{Over}
 
 not_more : (m n : ℕ) → n ≤ m → m < n → ⊥
 not_more m n le lt = omega arith
-
-none_left : (d : Outline) → d.files ≢ [] → length (spelling (value_of d)) ≤ max_torrent → NoneHolds (finish_rows d)
-none_left d some small = (some, (not_more max_torrent (length (spelling (value_of d))) small, tt))
 
 some_drafted : (fs : List DraftFile) (n : ℕ) (b : Bool) → n ≡ length fs → b ≡ (n == 0) → b ≡ false → map outline_file fs ≢ []
 some_drafted [] n b is test not = λ e. let yes : b ≡ true = test ∙ ap (λ m. m == 0) is in let never : true ≡ false = sym yes ∙ not in cc
@@ -32,6 +31,16 @@ too_large b n small fails = elim (cases_lt max_torrent n) [
   | inr most ↦ absurd (false≢true (sym fails ∙ small most))
 ]
 
+-- the draft has files, and its text is not too large
+some : (g : Over) (c : After-is_small g) → c.args.self.now.files ≢ []
+some g c = subst (λ (o : Outline). o.files ≢ []) c.self.view_is
+    (some_drafted c.self.inside.files.items _ c.is_empty.result (omega (arith, c.self.inside.files.ok.0)) c.is_empty.ensures c.if-is_empty.false)
+
+none : (g : Over) (c : After-write g) → NoneHolds (finish_rows c.args.self.now)
+none g c =
+    let small = c.is_small.ensures.answer.0 c.if-not-is_small.false in
+    (some g (goal.at.After-write g c).After-is_small, (not_more max_torrent (length (spelling (value_of c.args.self.now))) small, tt))
+
 pub returns-then-is_empty-clause-refused : goal.returns-then-is_empty-clause-refused
 returns-then-is_empty-clause-refused g c = λ _.
     let fs = c.self.inside.files in
@@ -44,44 +53,29 @@ returns-then-is_empty-clause-broke g c = λ is. absurd cc
 
 pub returns-then-not-is_small-clause-refused : goal.returns-then-not-is_small-clause-refused
 returns-then-not-is_small-clause-refused g c = λ _.
-    let d = c.args.self.now in
-    let fs = c.self.inside.files in
-    let some : d.files ≢ [] = subst (λ (o : Outline). o.files ≢ []) c.self.view_is
-    (some_drafted fs.items _ c.is_empty.result (omega (arith, fs.ok.0)) c.is_empty.ensures c.if-is_empty.false) in
-    let large = too_large c.is_small.result (length (spelling (value_of d))) c.is_small.ensures.answer.1 c.if-not-is_small.true in
-    (inr (some, inl (large, refl)), c.is_small.ensures.unchanged)
+    let large = too_large c.is_small.result (length (spelling (value_of c.args.self.now))) c.is_small.ensures.answer.1 c.if-not-is_small.true in
+    (inr (some g (goal.at.returns-then-not-is_small-clause-refused g c).After-is_small, inl (large, refl)), c.is_small.ensures.unchanged)
 
 pub returns-then-not-is_small-clause-broke : goal.returns-then-not-is_small-clause-broke
 returns-then-not-is_small-clause-broke g c = λ is. absurd cc
 
 pub returns-in-Ok-clause-opens : goal.returns-in-Ok-clause-opens
 returns-in-Ok-clause-opens g c =
-    let d = c.args.self.now in
-    let fs = c.self.inside.files in
-    let some : d.files ≢ [] = subst (λ (o : Outline). o.files ≢ []) c.self.view_is
-    (some_drafted fs.items _ c.is_empty.result (omega (arith, fs.ok.0)) c.is_empty.ensures c.if-is_empty.false) in
     let kept = subst (λ (o : Outline). IsOutline o) c.self.view_is c.self.invariant.0.outline_is in
-    c.draft_describes.ensures d kept some (c.is_small.ensures.answer.0 c.if-not-is_small.false)
+    c.draft_describes.ensures c.args.self.now kept (some g (goal.at.returns-in-Ok-clause-opens g c).After-is_small)
+    (c.is_small.ensures.answer.0 c.if-not-is_small.false)
 
 pub returns-in-Err-clause-refused : goal.returns-in-Err-clause-refused
 returns-in-Err-clause-refused g c = λ other. absurd (other refl)
 
 pub returns-in-Ok-clause-written : goal.returns-in-Ok-clause-written
-returns-in-Ok-clause-written g c =
-    let d = c.args.self.now in
-    let fs = c.self.inside.files in
-    let some : d.files ≢ [] = subst (λ (o : Outline). o.files ≢ []) c.self.view_is
-    (some_drafted fs.items _ c.is_empty.result (omega (arith, fs.ok.0)) c.is_empty.ensures c.if-is_empty.false) in (
-      none_left d some (c.is_small.ensures.answer.0 c.if-not-is_small.false),
-      subst (λ s. SentAndFlushed s (g.W.Sink.seen c.write.new.w) (spelling (value_of d))) c.is_small.ensures.unchanged c.in-Ok.ensures,
-    )
+returns-in-Ok-clause-written g c = (
+  none g (goal.at.returns-in-Ok-clause-written g c).After-write,
+  subst (λ s. SentAndFlushed s (g.W.Sink.seen c.write.new.w) (spelling (value_of c.args.self.now))) c.is_small.ensures.unchanged c.in-Ok.ensures,
+)
 
 pub returns-in-Err-clause-broke : goal.returns-in-Err-clause-broke
-returns-in-Err-clause-broke g c =
-    let d = c.args.self.now in
-    let fs = c.self.inside.files in
-    let some : d.files ≢ [] = subst (λ (o : Outline). o.files ≢ []) c.self.view_is
-    (some_drafted fs.items _ c.is_empty.result (omega (arith, fs.ok.0)) c.is_empty.ensures c.if-is_empty.false) in λ _. (
-      none_left d some (c.is_small.ensures.answer.0 c.if-not-is_small.false),
-      subst (λ s. BrokeOrUnflushed s (g.W.Sink.seen c.write.new.w) (spelling (value_of d))) c.is_small.ensures.unchanged c.in-Err.ensures,
-    )
+returns-in-Err-clause-broke g c = λ _. (
+  none g (goal.at.returns-in-Err-clause-broke g c).After-write,
+  subst (λ s. BrokeOrUnflushed s (g.W.Sink.seen c.write.new.w) (spelling (value_of c.args.self.now))) c.is_small.ensures.unchanged c.in-Err.ensures,
+)

@@ -1,6 +1,6 @@
 use Rattle.std.proofs.Common.{◌≡◌, sym, ◌∙◌, subst}
 use Rattle.std.specs.FinMap.{len}
-use Rattle.fixed_maps.specs.FixedMaps.{FixedMapSeen, map_of, map_room}
+use Rattle.fixed_maps.specs.FixedMaps.{FixedMapSeen, map_of}
 use Rattle.fixed_maps.proofs.Kept.{map-len}
 use Rattle.fixed_maps.proofs.fixed_map.FixedMap.len.Goals as goal
 

@@ -1,6 +1,5 @@
-use Rattle.std.proofs.Common.{◌≡◌, ap, ◌∙◌}
-use Rattle.std.specs.FinMap.{from_sorted, empty, same_entries_map, entries-from_sorted}
-use Rattle.node_maps.specs.Known.{place_cmp}
+use Rattle.std.proofs.Common.{ap, ◌∙◌}
+use Rattle.std.specs.FinMap.{from_sorted}
 use Rattle.fixed_maps.proofs.Kept.{none-kept}
 use Rattle.fixed_maps.proofs.fixed_map.FixedMap.new.Goals as goal
 

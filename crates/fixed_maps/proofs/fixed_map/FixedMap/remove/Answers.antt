@@ -1,89 +1,58 @@
-use Rattle.std.proofs.Common.{◌≡◌, ℕ, ◌+◌, ◌-◌, ◌≤◌, ◌<◌, ◌++◌, List, Some, None, true, false, length, sym, ap, ◌∙◌, subst, arith}
-use Rattle.std.specs.Ordering.{eq_by_cmp, is_eq}
+use Rattle.std.proofs.Common.{◌≡◌, ◌-◌, ◌++◌, length, take, drop, sym, ap, ◌∙◌, subst, arith}
+use Rattle.std.specs.Ordering.{is_eq}
 use Rattle.std.specs.Vec.{vec_capacity}
 use Rattle.std.specs.FinMap.{from_sorted, remove}
-use Rattle.node_maps.specs.Known.{place_cmp}
-use Rattle.fixed_maps.specs.Tiers.{Entry, TierSeen, IsSpotOf, flat, room_of, before_spot, after_spot_but_one}
-use Rattle.fixed_maps.specs.FixedMaps.{FixedMapSeen, map_of, map_room, IsFixedMap}
-use Rattle.fixed_maps.proofs.Kept.{refilled, heads-read, removed-rising, removed-map, removed-count, absent-end, absent-other}
+use Rattle.fixed_maps.specs.Tiers.{IsSpotOf, flat, room_of, before_spot, after_spot_but_one}
+use Rattle.fixed_maps.specs.FixedMaps.{FixedMapSeen, map_of, IsFixedMap}
+use Rattle.fixed_maps.proofs.Kept.{IsReadAt, HasOneLess, refilled, read-at, one-removed, absent-end, absent-other, still-fixed}
 use Rattle.fixed_maps.proofs.fixed_map.FixedMap.remove.Goals as goal
+use Rattle.fixed_maps.proofs.fixed_map.FixedMap.remove.Goals.{After-entry, After-take_at}
+
+read : (c : After-entry) → IsReadAt c.args.key c.self.inside.tiers.items c.spot_of-spot.result.tier c.spot_of-spot.result.place c.entry.result
+read c = read-at (subst (λ ts. IsSpotOf c.args.key ts c.spot_of-spot.result.tier c.spot_of-spot.result.place) c.deref.ensures.value c.spot_of-spot.ensures)
+    c.self.invariant.rising c.index-tier.result.now c.index-tier.ensures c.entry.result c.entry.ensures
+
+-- the entry at the spot of the key was its own, and was taken out
+taken : (c : After-take_at) → HasOneLess c.self.inside.tiers.items c.take_at.new.tiers c.args.key
+taken c =
+    let r = c.spot_of-spot.result in
+    one-removed (subst (IsReadAt c.args.key c.self.inside.tiers.items r.tier r.place) c.in-Some.is (read (goal.at.After-take_at c).After-entry))
+    (sym (ap is_eq c.cmp.ensures) ∙ sym c.is_eq.ensures ∙ c.if-is_eq.true) c.take_at.new.tiers
+    (subst (λ ts. flat c.take_at.new.tiers ≡ before_spot ts r.tier r.place ++ after_spot_but_one ts r.tier r.place) c.deref_mut.ensures.value
+    c.take_at.ensures.entries)
+
+-- the tiers are written back whole
+kept : (c : After-take_at) → take c.self.inside.tiers.len (c.take_at.new.tiers ++ drop (length c.take_at.new.tiers) c.self.inside.tiers.items)
+    ≡ c.take_at.new.tiers
+kept c = refilled c.self.inside.tiers.len c.take_at.new.tiers c.self.inside.tiers.items (omega (arith, c.take_at.auto.tiers, c.deref_mut.ensures.len))
 
 pub returns-in_default-clause-map : goal.returns-in_default-clause-map
 returns-in_default-clause-map c =
-    let ts = c.self.inside.tiers.items in
-    let a = c.spot_of-spot.result.tier in
-    let b = c.spot_of-spot.result.place in
-    let spot = subst (λ vs. IsSpotOf c.args.key vs a b) c.deref.ensures.value c.spot_of-spot.ensures in
+    let r = c.spot_of-spot.result in
     subst (λ (m : FixedMapSeen). map_of m ≡ remove (map_of m) c.args.key) c.self.view_is
-    (absent-end ts c.args.key a b spot c.self.invariant.rising
-    (heads-read ts c.args.key a b spot c.index-tier.result.now None c.index-tier.ensures (sym c.in_default.is ∙ c.entry.ensures)))
+    (absent-end (subst (IsReadAt c.args.key c.self.inside.tiers.items r.tier r.place) c.in_default.is
+    (read (goal.at.returns-in_default-clause-map c).After-entry)))
 
 pub overflow_sub-self : goal.overflow_sub-self
-overflow_sub-self c =
-    let ts = c.self.inside.tiers.items in
-    let a = c.spot_of-spot.result.tier in
-    let b = c.spot_of-spot.result.place in
-    let spot = subst (λ vs. IsSpotOf c.args.key vs a b) c.deref.ensures.value c.spot_of-spot.ensures in
-    let e : Entry = (c.in-Some.found, c.in-Some.field-0-1) in
-    let at = heads-read ts c.args.key a b spot c.index-tier.result.now (Some e) c.index-tier.ensures (sym c.in-Some.is ∙ c.entry.ensures) in
-    let own : eq_by_cmp place_cmp c.args.key e.0 ≡ true = sym (ap is_eq c.cmp.ensures) ∙ sym c.is_eq.ensures ∙ c.if-is_eq.true in
-    let us = c.take_at.new.tiers in
-    let out : flat us ≡ before_spot ts a b ++ after_spot_but_one ts a b =
-    subst (λ vs. flat us ≡ before_spot vs a b ++ after_spot_but_one vs a b) c.deref_mut.ensures.value c.take_at.ensures.entries in
-    let less = removed-count ts c.args.key a b spot c.self.invariant.rising us e at own out in
-    let count = c.self.invariant.count_is in
-    omega (arith, less, count)
+overflow_sub-self c = let less = taken (goal.at.overflow_sub-self c).After-take_at in omega (arith, less.count, c.self.invariant.count_is)
 
 pub invariant_of-self : goal.invariant_of-self
 invariant_of-self c =
-    let ts = c.self.inside.tiers.items in
-    let a = c.spot_of-spot.result.tier in
-    let b = c.spot_of-spot.result.place in
-    let spot = subst (λ vs. IsSpotOf c.args.key vs a b) c.deref.ensures.value c.spot_of-spot.ensures in
-    let e : Entry = (c.in-Some.found, c.in-Some.field-0-1) in
-    let at = heads-read ts c.args.key a b spot c.index-tier.result.now (Some e) c.index-tier.ensures (sym c.in-Some.is ∙ c.entry.ensures) in
-    let own : eq_by_cmp place_cmp c.args.key e.0 ≡ true = sym (ap is_eq c.cmp.ensures) ∙ sym c.is_eq.ensures ∙ c.if-is_eq.true in
+    let t = c.self.inside.tiers in
     let us = c.take_at.new.tiers in
-    let out : flat us ≡ before_spot ts a b ++ after_spot_but_one ts a b =
-    subst (λ vs. flat us ≡ before_spot vs a b ++ after_spot_but_one vs a b) c.deref_mut.ensures.value c.take_at.ensures.entries in
-    let long : length us ≡ c.self.inside.tiers.len = omega (arith, c.take_at.auto.tiers, c.deref_mut.ensures.len) in
-    let less = removed-count ts c.args.key a b spot c.self.invariant.rising us e at own out in
-    let count = c.self.invariant.count_is in
-    let room = c.take_at.ensures.room ∙ ap room_of c.deref_mut.ensures.value in
-    subst (λ vs. IsFixedMap vs (c.self.inside.len - 1) (vec_capacity c.self.inside.tiers)) (sym (refilled c.self.inside.tiers.len us ts long))
-    (record {
-      some = let some = c.self.invariant.some in let size = c.self.inside.tiers.ok.0 in omega (arith, long, some, size);
-      rising = removed-rising ts c.args.key a b spot c.self.invariant.rising us e at own out;
-      count_is = omega (arith, less, count);
-      low = let most = c.self.invariant.low in omega (arith, room, most);
-      exact = let was = c.self.invariant.exact in let size = c.self.inside.tiers.ok.0 in omega (arith, was, long, size);
-    })
+    let less = taken (goal.at.invariant_of-self c).After-take_at in
+    subst (λ vs. IsFixedMap vs (c.self.inside.len - 1) (vec_capacity t)) (sym (kept (goal.at.invariant_of-self c).After-take_at))
+    (still-fixed t.items us _ (c.self.inside.len - 1) _ c.self.invariant less.rising (omega (arith, less.count, c.self.invariant.count_is))
+    (omega (arith, c.take_at.auto.tiers, c.deref_mut.ensures.len, t.ok.0)) (c.take_at.ensures.room ∙ ap room_of c.deref_mut.ensures.value))
 
 pub returns-then-is_eq-clause-map : goal.returns-then-is_eq-clause-map
 returns-then-is_eq-clause-map c =
-    let ts = c.self.inside.tiers.items in
-    let a = c.spot_of-spot.result.tier in
-    let b = c.spot_of-spot.result.place in
-    let spot = subst (λ vs. IsSpotOf c.args.key vs a b) c.deref.ensures.value c.spot_of-spot.ensures in
-    let e : Entry = (c.in-Some.found, c.in-Some.field-0-1) in
-    let at = heads-read ts c.args.key a b spot c.index-tier.result.now (Some e) c.index-tier.ensures (sym c.in-Some.is ∙ c.entry.ensures) in
-    let own : eq_by_cmp place_cmp c.args.key e.0 ≡ true = sym (ap is_eq c.cmp.ensures) ∙ sym c.is_eq.ensures ∙ c.if-is_eq.true in
-    let us = c.take_at.new.tiers in
-    let out : flat us ≡ before_spot ts a b ++ after_spot_but_one ts a b =
-    subst (λ vs. flat us ≡ before_spot vs a b ++ after_spot_but_one vs a b) c.deref_mut.ensures.value c.take_at.ensures.entries in
-    let long : length us ≡ c.self.inside.tiers.len = omega (arith, c.take_at.auto.tiers, c.deref_mut.ensures.len) in
-    ap (λ vs. from_sorted (flat vs)) (refilled c.self.inside.tiers.len us ts long)
-    ∙ removed-map ts c.args.key a b spot c.self.invariant.rising us e at own out
-    ∙ ap (λ (m : FixedMapSeen). remove (map_of m) c.args.key) c.self.view_is
+    let after = (goal.at.returns-then-is_eq-clause-map c).After-take_at in
+    ap (λ vs. from_sorted (flat vs)) (kept after) ∙ (taken after).map_is ∙ ap (λ (m : FixedMapSeen). remove (map_of m) c.args.key) c.self.view_is
 
 pub returns-else-is_eq-clause-map : goal.returns-else-is_eq-clause-map
 returns-else-is_eq-clause-map c =
-    let ts = c.self.inside.tiers.items in
-    let a = c.spot_of-spot.result.tier in
-    let b = c.spot_of-spot.result.place in
-    let spot = subst (λ vs. IsSpotOf c.args.key vs a b) c.deref.ensures.value c.spot_of-spot.ensures in
-    let e : Entry = (c.in-Some.found, c.in-Some.field-0-1) in
-    let at = heads-read ts c.args.key a b spot c.index-tier.result.now (Some e) c.index-tier.ensures (sym c.in-Some.is ∙ c.entry.ensures) in
-    let other : eq_by_cmp place_cmp c.args.key e.0 ≡ false = sym (ap is_eq c.cmp.ensures) ∙ sym c.is_eq.ensures ∙ c.if-is_eq.false in
+    let r = c.spot_of-spot.result in
     subst (λ (m : FixedMapSeen). map_of m ≡ remove (map_of m) c.args.key) c.self.view_is
-    (absent-other ts c.args.key a b spot c.self.invariant.rising e at other)
+    (absent-other (subst (IsReadAt c.args.key c.self.inside.tiers.items r.tier r.place) c.in-Some.is
+    (read (goal.at.returns-else-is_eq-clause-map c).After-entry)) (sym (ap is_eq c.cmp.ensures) ∙ sym c.is_eq.ensures ∙ c.if-is_eq.false))

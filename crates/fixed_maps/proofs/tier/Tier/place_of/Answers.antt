@@ -1,4 +1,4 @@
-use Rattle.std.proofs.Common.{◌≡◌, ◌∙◌, ◌<◌, ◌≤◌, length, take, drop, sym, ap, subst, refl, arith}
+use Rattle.std.proofs.Common.{◌∙◌, ◌<◌, take, drop, sym, ap, subst, refl}
 use Rattle.std.specs.Ordering.{is_lt}
 use Rattle.node_maps.specs.Known.{place_cmp}
 use Rattle.fixed_maps.specs.Tiers.{TierSeen, AreRising, IsPlaceOfKey}

@@ -1,33 +1,35 @@
-use Rattle.std.proofs.Common.{ℕ, List, Some, is_some, set, refl, sym, ap, ◌∙◌, subst}
+use Rattle.std.proofs.Common.{Some, is_some, set, refl, sym, ap, ◌∙◌, subst}
 use Rattle.std.proofs.lemmas.Bool.{false≢true}
-use Rattle.node_maps.specs.declared.page.Page.{Page}
+use Rattle.node_maps.specs.Pages.{IsChanged}
+use Rattle.node_maps.specs.PageIndexes.{on_list}
 use Rattle.node_maps.specs.Rising.{IsNumberAt, IsGapFor, page_numbered}
-use Rattle.node_maps.proofs.Rising.{stands, set-found, found_gap}
+use Rattle.node_maps.proofs.Rising.{HasItemAt, stands, set-found, found_gap}
 use Rattle.node_maps.proofs.Pages.{put-changed, changed-self}
 use Rattle.node_maps.proofs.page_index.PageListPageIndex.put.Goals as goal
+use Rattle.node_maps.proofs.page_index.PageListPageIndex.put.Goals.{In-Ok, After-put}
+
+found : (c : In-Ok) → HasItemAt c.args.self.now.numbers.items c.args.self.now.pages.items c.args.number c.in-Ok.at
+found c = record {
+  rising = c.args.self.now.rising;
+  beside = c.args.self.now.beside;
+  is = subst (λ ns. IsNumberAt ns c.args.number c.in-Ok.at) c.deref.ensures.value c.in-Ok.ensures.at;
+}
+
+written : (c : After-put) → IsChanged c.args.number (Some c.put.new.self) (on_list c.args.self.now)
+    (page_numbered c.args.self.now.numbers.items (set c.args.self.now.pages.items c.in-Ok.at c.put.new.self))
+written c = set-found (found (goal.at.After-put c).In-Ok) c.put.new.self
 
 pub returns-in-Ok-clause-here : goal.returns-in-Ok-clause-here
 returns-in-Ok-clause-here c =
-    let s = c.args.self.now in
-    let ns : List ℕ = s.numbers.items in
-    let ps : List Page = s.pages.items in
-    let is = subst (λ xs. IsNumberAt xs c.args.number c.in-Ok.at) c.deref.ensures.value c.in-Ok.ensures.at in
-    let p : Page = c.index_mut-page.result.now in
-    let w : Page = c.put.new.self in
-    put-changed c.args.place c.args.hash c.args.mark c.args.number (page_numbered ns ps) (page_numbered ns (set ps c.in-Ok.at w)) p w
-    (stands ns ps s.rising s.beside c.args.number c.in-Ok.at is p c.index_mut-page.ensures.value)
-    (set-found ns ps s.rising s.beside c.args.number c.in-Ok.at is w)
+    let x = found (goal.at.returns-in-Ok-clause-here c).In-Ok in
+    let p = c.index_mut-page.result.now in
+    put-changed c.args.place c.args.hash c.args.mark c.args.number (on_list c.args.self.now) _ p c.put.new.self (stands x p c.index_mut-page.ensures.value)
+    (written (goal.at.returns-in-Ok-clause-here c).After-put)
     (record { there = refl; here = c.put.ensures.here; others = c.put.ensures.others })
 
 pub returns-in-Ok-clause-others : goal.returns-in-Ok-clause-others
 returns-in-Ok-clause-others c =
-    let s = c.args.self.now in
-    let ns : List ℕ = s.numbers.items in
-    let ps : List Page = s.pages.items in
-    let is = subst (λ xs. IsNumberAt xs c.args.number c.in-Ok.at) c.deref.ensures.value c.in-Ok.ensures.at in
-    let w : Page = c.put.new.self in
-    changed-self c.args.number (Some w) (page_numbered ns ps) (page_numbered ns (set ps c.in-Ok.at w))
-    (set-found ns ps s.rising s.beside c.args.number c.in-Ok.at is w)
+    changed-self c.args.number (Some c.put.new.self) (on_list c.args.self.now) _ (written (goal.at.returns-in-Ok-clause-others c).After-put)
 
 pub returns-in_default-clause-here : goal.returns-in_default-clause-here
 returns-in_default-clause-here c =

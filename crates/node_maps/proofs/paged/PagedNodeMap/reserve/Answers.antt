@@ -1,11 +1,12 @@
 use Rattle.std.proofs.Common.{◌≡◌, ◌⊎◌, ◌+◌, ◌≤◌, ◌*◌, ◌/◌, ◌%◌, ℕ, ◌∙◌, IsSome, ap, inl, inr, sym, subst, vec_len, arith}
 use Rattle.std.proofs.lemmas.Bool.{cases_lt}
-use Rattle.node_maps.specs.Paged.{page_at}
+use Rattle.node_maps.specs.Paged.{AreSamePagedCells, page_at}
 use Rattle.node_maps.specs.Pages.{cell_of}
 use Rattle.std.proofs.lemmas.Result.{on_ok_weaker, on_err_weaker}
 use Rattle.chains.proofs.Cases.{on_err}
 use Rattle.node_maps.proofs.Paging.{same-in_tree, held-same, held-more, page_span-some}
 use Rattle.node_maps.proofs.paged.PagedNodeMap.reserve.Goals as goal
+use Rattle.node_maps.proofs.paged.PagedNodeMap.reserve.Goals.{After-add_rows}
 
 pub returns-in_err-add_rows-clause-refused : goal.returns-in_err-add_rows-clause-refused
 returns-in_err-add_rows-clause-refused c = on_err c.from_residual.result (held-same c.args.self.now.rows.items c.add_rows.new.rows.items
@@ -39,29 +40,33 @@ rows_few : (old new layer height : ℕ) → layer ≤ height → old ≤ height 
 rows_few old new layer height low few (inl most) = omega arith
 rows_few old new layer height low few (inr same) = omega arith
 
+-- rows were added, and no page
+module _ (c : After-add_rows) where
+  few : vec_len c.add_rows.new.rows ≤ c.args.self.now.height + 1
+  few = rows_few (vec_len c.args.self.now.rows) (vec_len c.add_rows.new.rows) c.args.layer c.args.self.now.height
+      (subst (λ h. c.args.layer ≤ h) (sym c.args.self.now.is_height) c.requires.layer) c.args.self.now.few c.add_rows.ensures.most
+
+  same_cells : AreSamePagedCells c.args.self.now.rows.items c.add_rows.new.rows.items
+  same_cells l i = ap (λ o. cell_of o (i % 512)) (c.add_rows.ensures.pages l (i / 512))
+
 pub invariant_of-self : goal.invariant_of-self
 invariant_of-self c =
-    let map = c.args.self.now in
-    let low : c.args.layer ≤ map.height = subst (λ h. c.args.layer ≤ h) (sym map.is_height) c.requires.layer in
-    let rows = c.add_rows.new.rows in
+    let r = (goal.at.invariant_of-self c).After-add_rows in
+    let old = c.args.self.now in
     record {
-      is_height = map.is_height;
-      low = map.low;
-      few = rows_few (vec_len map.rows) (vec_len rows) c.args.layer map.height low map.few c.add_rows.ensures.most;
-      in_tree = same-in_tree map.height map.rows.items rows.items
-          (λ l i. ap (λ o. cell_of o (i % 512)) (c.add_rows.ensures.pages l (i / 512))) map.in_tree;
+      is_height = old.is_height;
+      low = old.low;
+      few = few r;
+      in_tree = same-in_tree old.height old.rows.items c.add_rows.new.rows.items (same_cells r) old.in_tree;
     }
 
 pub invariant_of-self-2 : goal.invariant_of-self-2
 invariant_of-self-2 c =
+    let r = (goal.at.invariant_of-self-2 c).After-add_rows in
     let map = c.args.self.now in
-    let low : c.args.layer ≤ map.height = subst (λ h. c.args.layer ≤ h) (sym map.is_height) c.requires.layer in
-    let rows = c.add_pages.new.rows in
-    let most = rows_few (vec_len map.rows) (vec_len c.add_rows.new.rows) c.args.layer map.height low map.few c.add_rows.ensures.most in
     record {
       is_height = map.is_height;
       low = map.low;
-      few = omega (arith, most, c.add_pages.ensures.len);
-      in_tree = same-in_tree map.height map.rows.items rows.items
-          (λ l i. c.add_pages.ensures.cells l i ∙ ap (λ o. cell_of o (i % 512)) (c.add_rows.ensures.pages l (i / 512))) map.in_tree;
+      few = omega (arith, few r, c.add_pages.ensures.len);
+      in_tree = same-in_tree map.height map.rows.items c.add_pages.new.rows.items (λ l i. c.add_pages.ensures.cells l i ∙ same_cells r l i) map.in_tree;
     }

@@ -1,21 +1,23 @@
-use Rattle.std.proofs.Common.{◌≡◌, ◌≤◌, ◌^◌, arith, rules, ◌∙◌}
+use Rattle.std.proofs.Common.{◌≡◌, ◌*◌, ◌≤◌, ◌^◌, arith, rules, ◌∙◌}
 use Rattle.std.proofs.Math.Nat.{mul-le-mul_left}
 use Rattle.pieces.proofs.Legal.{legal_bounds}
 use Rattle.opening.specs.Places.{place_of}
 use Rattle.opening.proofs.Placing.{place_found, place_is_only}
 use Rattle.opening.proofs.torrent.Torrent.place.Goals as goal
+use Rattle.opening.proofs.torrent.Torrent.place.Goals.{After-from}
+
+-- a piece length is at most 2 ^ 30
+product : (c : After-from) → c.from.result * c.piece_length-piece_length.result ≤ c.from.result * 2 ^ 30
+product c =
+    let bounds = legal_bounds c.args.self.now.piece_length c.recall_sound.ensures.legal in
+    let small : c.piece_length-piece_length.result ≤ 2 ^ 30 = omega (arith, bounds.1) in
+    mul-le-mul_left c.from.result small
 
 pub overflow_mul-address : goal.overflow_mul-address
-overflow_mul-address c =
-    let bounds = legal_bounds c.args.self.now.piece_length c.recall_sound.ensures.legal in
-    let small : c.piece_length-piece_length.result ≤ 2 ^ 30 = omega (arith, bounds.1) in
-    let product = mul-le-mul_left c.from.result small in omega (arith, product)
+overflow_mul-address c = let most = product (goal.at.overflow_mul-address c).After-from in omega (arith, most)
 
 pub overflow_add-address : goal.overflow_add-address
-overflow_add-address c =
-    let bounds = legal_bounds c.args.self.now.piece_length c.recall_sound.ensures.legal in
-    let small : c.piece_length-piece_length.result ≤ 2 ^ 30 = omega (arith, bounds.1) in
-    let product = mul-le-mul_left c.from.result small in omega (arith, product)
+overflow_add-address c = let most = product (goal.at.overflow_add-address c).After-from in omega (arith, most)
 
 pub place_at-requires-clause-some : goal.place_at-requires-clause-some
 place_at-requires-clause-some c = let bounds = legal_bounds c.args.self.now.piece_length c.recall_sound.ensures.legal in omega (arith, bounds.0)

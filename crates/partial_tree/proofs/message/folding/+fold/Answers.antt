@@ -1,9 +1,10 @@
-use Rattle.std.proofs.Common.{◌≡◌, ◌+◌, ◌-◌, ◌*◌, ◌^◌, ◌<◌, ◌≤◌, [], slice_index_or, ap, ◌∙◌, arith, mul-le-mul, pow_mono, subst}
+use Rattle.std.proofs.Common.{◌≡◌, ◌+◌, ◌-◌, ◌*◌, ◌^◌, ◌<◌, ◌≤◌, [], slice_index_or, ap, arith, pow_mono, subst}
 use Rattle.partial_tree.specs.Evidence.{claimed_by}
 use Rattle.partial_tree.specs.FoldedRows.{place_in_row}
 use Rattle.partial_tree.specs.Visits.{Visits, places_below}
 use Rattle.partial_tree.proofs.Tracing.{given_claimed}
-use Rattle.partial_tree.proofs.FoldedRows.{base-row, children-claimed, joined-row, joined-rows, left-claimed_row, right-claimed_row, row-low}
+use Rattle.partial_tree.proofs.FoldedRows.{base-row, children-claimed, first-low, joined-row, joined-rows}
+use Rattle.partial_tree.proofs.FoldedRows.{left-claimed_row, place-claimed, right-claimed_row, row-above, row-low}
 use Rattle.partial_tree.proofs.VisitedRows.{IsBegun, base-visited, children-visited, halves-visited, place-visited, row-begun, row-visited}
 use Rattle.partial_tree.proofs.Visits.{all-admitted, stopped-before, where-none}
 use Rattle.partial_tree.proofs.message.folding.+fold.Goals as goal
@@ -26,7 +27,7 @@ fold_below-returns-then-row-evidence-clause-visited g t c =
 
 pub fold_below-fold_row-requires : goal.fold_below-fold_row-requires
 fold_below-fold_row-requires g t c κs within =
-    let above : c.args.evidence.now.base < c.args.row.layer = omega (arith, c.requires.at.from_base, c.if-row-evidence.false) in
+    let above = row-above c.args.evidence.now c.args.row c.requires.at c.if-row-evidence.false in
     let few : c.args.row.depth < 3 = omega (arith, c.if-row-lt-EIGHT_DEPTH.true) in
     (omega (arith, above), (within, (children-claimed c.args.evidence.now c.args.row c.requires.at above few, c.requires.admits)))
 
@@ -38,8 +39,8 @@ fold_below-parents_of_row-requires g t c =
 
 pub fold_below-returns-then-row-lt-EIGHT_DEPTH-clause-value : goal.fold_below-returns-then-row-lt-EIGHT_DEPTH-clause-value
 fold_below-returns-then-row-lt-EIGHT_DEPTH-clause-value g t c =
-    let above : c.args.evidence.now.base < c.args.row.layer = omega (arith, c.requires.at.from_base, c.if-row-evidence.false) in
-    joined-row c.args.evidence.now c.args.row c.in_ok-below.below c.parents_of_row.result c.requires.at above c.in_ok-below.ensures.value
+    joined-row c.args.evidence.now c.args.row c.in_ok-below.below c.parents_of_row.result c.requires.at
+    (row-above c.args.evidence.now c.args.row c.requires.at c.if-row-evidence.false) c.in_ok-below.ensures.value
     (λ j lt. c.parents_of_row.ensures j (omega (arith, lt, c.count.ensures.count)))
 
 pub fold_below-returns-then-row-lt-EIGHT_DEPTH-clause-visited : goal.fold_below-returns-then-row-lt-EIGHT_DEPTH-clause-visited
@@ -49,19 +50,19 @@ fold_below-returns-then-row-lt-EIGHT_DEPTH-clause-visited g t c =
 
 pub fold_below-fold_row-requires-2 : goal.fold_below-fold_row-requires-2
 fold_below-fold_row-requires-2 g t c κs within =
-    let above : c.args.evidence.now.base < c.args.row.layer = omega (arith, c.requires.at.from_base, c.if-row-evidence.false) in
-    let deep : 1 ≤ c.args.row.depth = omega (arith, c.if-row-lt-EIGHT_DEPTH.false) in
-    (omega (arith, above), (within, (left-claimed_row c.args.evidence.now c.args.row c.requires.at above deep, c.requires.admits)))
+    let left = left-claimed_row c.args.evidence.now c.args.row c.requires.at (row-above c.args.evidence.now c.args.row c.requires.at c.if-row-evidence.false)
+    (omega (arith, c.if-row-lt-EIGHT_DEPTH.false)) in
+    (omega (arith, c.requires.at.from_base, c.if-row-evidence.false), (within, (left, c.requires.admits)))
 
 pub fold_below-fold_row-requires-3 : goal.fold_below-fold_row-requires-3
 fold_below-fold_row-requires-3 g t c κs within =
-    let above : c.args.evidence.now.base < c.args.row.layer = omega (arith, c.requires.at.from_base, c.if-row-evidence.false) in
-    let deep : 1 ≤ c.args.row.depth = omega (arith, c.if-row-lt-EIGHT_DEPTH.false) in (
-      omega (arith, above),
+    let right = right-claimed_row c.args.evidence.now c.args.row c.requires.at (row-above c.args.evidence.now c.args.row c.requires.at c.if-row-evidence.false)
+    (let deep : 1 ≤ c.args.row.depth = omega (arith, c.if-row-lt-EIGHT_DEPTH.false) in deep) in (
+      omega (arith, c.requires.at.from_base, c.if-row-evidence.false),
       (
         within,
         (
-          right-claimed_row c.args.evidence.now c.args.row c.requires.at above deep,
+          right,
           all-admitted g.V.Visitor.visits (claimed_by c.args.evidence.now) _ _ _ _ c.in_ok-left.ensures.visited g.V.Visitor.admits
               g.met.V.Visitor.admits_after c.requires.admits,
         ),
@@ -70,9 +71,9 @@ fold_below-fold_row-requires-3 g t c κs within =
 
 pub fold_below-returns-clause-value : goal.fold_below-returns-clause-value
 fold_below-returns-clause-value g t c =
-    let above : c.args.evidence.now.base < c.args.row.layer = omega (arith, c.requires.at.from_base, c.if-row-evidence.false) in
     let three : c.args.row.depth ≡ 3 = omega (arith, c.requires.at.few, c.if-row-lt-EIGHT_DEPTH.false) in
-    joined-rows c.args.evidence.now c.args.row c.in_ok-left.left c.in_ok-right.right c.parents_of_rows.result c.requires.at above three
+    joined-rows c.args.evidence.now c.args.row c.in_ok-left.left c.in_ok-right.right c.parents_of_rows.result c.requires.at
+    (row-above c.args.evidence.now c.args.row c.requires.at c.if-row-evidence.false) three
     c.in_ok-left.ensures.value c.in_ok-right.ensures.value c.parents_of_rows.ensures.left c.parents_of_rows.ensures.right
 
 pub fold_below-returns-clause-visited : goal.fold_below-returns-clause-visited
@@ -115,18 +116,15 @@ fold_row-places-preserved g t c =
 
 pub fold_row-visit-requires : goal.fold_row-visit-requires
 fold_row-visit-requires g t c =
-    let row = c.args.row in
-    let low : c.places.j < 2 ^ row.depth = omega (arith, c.places-test.true, c.count-j-end.ensures.count) in
-    let at : row.node * c.count.result + c.places.j ≡ place_in_row row c.places.j = ap (λ k. row.node * k + c.places.j) c.count.ensures.count in
     all-admitted g.V.Visitor.visits (claimed_by c.args.evidence.now) _ _ _ _ c.places.invariant g.V.Visitor.admits g.met.V.Visitor.admits_after
-    c.requires.admits _ (ap (claimed_by c.args.evidence.now row.layer) at ∙ c.in_ok-hashes.ensures.value c.places.j low)
+    c.requires.admits _ (place-claimed c.args.evidence.now c.args.row c.in_ok-hashes.hashes c.count.result c.places.j c.count.ensures.count
+    (omega (arith, c.places-test.true, c.count-j-end.ensures.count, c.count.ensures.count)) c.in_ok-hashes.ensures.value)
 
 pub fold_row-returns-in_err-visit-clause-stopped : goal.fold_row-returns-in_err-visit-clause-stopped
 fold_row-returns-in_err-visit-clause-stopped g t c =
-    let row = c.args.row in
-    let low : c.places.j < 2 ^ row.depth = omega (arith, c.places-test.true, c.count-j-end.ensures.count) in
-    let at : row.node * c.count.result + c.places.j ≡ place_in_row row c.places.j = ap (λ k. row.node * k + c.places.j) c.count.ensures.count in
-    let is = ap (claimed_by c.args.evidence.now row.layer) at ∙ c.in_ok-hashes.ensures.value c.places.j low in
+    let low : c.places.j < c.count.result = omega (arith, c.places-test.true, c.count-j-end.ensures.count, c.count.ensures.count) in
+    let is = place-claimed c.args.evidence.now c.args.row c.in_ok-hashes.hashes c.count.result c.places.j c.count.ensures.count low
+    c.in_ok-hashes.ensures.value in
     where-none c.from_residual-in_err-visit.result _ (stopped-before g.V.Visitor.visits (claimed_by c.args.evidence.now) _ _ _ _ c.places.invariant
     g.V.Visitor.stops g.met.V.Visitor.stops_before (_, is, c.in_err-visit.ensures.stops))
 
@@ -138,15 +136,11 @@ fold_row-returns-clause-visited g t c =
     c.places.visitor) all c.places.invariant)
 
 pub fold_row-overflow_mul-first : goal.fold_row-overflow_mul-first
-fold_row-overflow_mul-first g t c =
-    let most : c.args.row.node * c.count.result ≤ 2 ^ 32 * 8 =
-    mul-le-mul {n₂ = 2 ^ 32} (omega (arith, row-low c.args.evidence.now c.args.row c.requires.at)) c.count.ensures.few in
-    omega (arith, most)
+fold_row-overflow_mul-first g t c = omega (arith, first-low c.args.evidence.now c.args.row c.count.result c.requires.at c.count.ensures.few)
 
 pub fold_row-overflow_add-index : goal.fold_row-overflow_add-index
 fold_row-overflow_add-index g t c =
-    let most : c.args.row.node * c.count.result ≤ 2 ^ 32 * 8 =
-    mul-le-mul {n₂ = 2 ^ 32} (omega (arith, row-low c.args.evidence.now c.args.row c.requires.at)) c.count.ensures.few in
+    let most = first-low c.args.evidence.now c.args.row c.count.result c.requires.at c.count.ensures.few in
     omega (arith, most, c.places-test.true, c.count-j-end.ensures.few)
 
 pub fold_row-bounds-hashes-j : goal.fold_row-bounds-hashes-j

@@ -1,15 +1,12 @@
 use Rattle.std.proofs.Common.{◌≡◌, ◌+◌, ◌-◌, ◌*◌, ◌/◌, ◌^◌, ◌≤◌, ap, ◌∙◌, sym, subst, arith}
-use Rattle.partial_tree.specs.Evidence.{claimed_by, node_over_base}
-use Rattle.partial_tree.specs.FoldedRows.{IsClaimedRow}
+use Rattle.partial_tree.specs.Evidence.{claimed_by}
 use Rattle.partial_tree.specs.Visits.{VisitsRow}
-use Rattle.partial_tree.proofs.Uncles.{all-visited, cover-row, over-cover, pair-visited, row_over, under-uncle}
+use Rattle.partial_tree.proofs.Uncles.{all-visited, cover-row, over-cover, pair-visited, under-uncle}
 use Rattle.partial_tree.proofs.Visits.{all-admitted, stopped-before, where-none}
 use Rattle.partial_tree.proofs.message.folding.fold.Goals as goal
 
 pub fold_row-requires-clause-at : goal.fold_row-requires-clause-at
-fold_row-requires-clause-at g c =
-    let e = c.args.evidence.now in
-    subst (λ n. IsClaimedRow e (record { layer = e.base + e.span; depth = 0; node = n })) (over-cover e) (cover-row e c.args.layer c.requires.leads)
+fold_row-requires-clause-at g c = cover-row c.args.evidence.now c.args.layer c.requires.leads
 
 pub fold_uncle-requires-clause-at : goal.fold_uncle-requires-clause-at
 fold_uncle-requires-clause-at g c =
@@ -48,8 +45,6 @@ uncles-preserved g c =
 
 pub returns-clause-visited : goal.returns-clause-visited
 returns-clause-visited g c =
-    let e = c.args.evidence.now in
-    let covers : e.base + e.span ≤ c.args.layer = c.requires.leads.leads.is_over.covers in
-    let all : c.uncles.below ≡ c.args.layer = omega (arith, c.uncles-test.false, c.uncles.auto.below-end covers) in
-    all-visited e c.args.layer c.requires.leads g.V.Visitor.visits c.args.visitor.now c.uncles.visitor
-    (subst (λ l. VisitsRow g.V.Visitor.visits (claimed_by e) (row_over e l) c.args.visitor.now c.uncles.visitor) all c.uncles.invariant.visited)
+    let covers : c.args.evidence.now.base + c.args.evidence.now.span ≤ c.args.layer = c.requires.leads.leads.is_over.covers in
+    all-visited c.args.evidence.now c.args.layer c.requires.leads g.V.Visitor.visits c.uncles.below c.args.visitor.now c.uncles.visitor
+    (omega (arith, c.uncles-test.false, c.uncles.auto.below-end covers)) c.uncles.invariant.visited

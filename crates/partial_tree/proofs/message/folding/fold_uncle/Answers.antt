@@ -1,5 +1,4 @@
 use Rattle.std.proofs.Common.{◌≡◌, ◌+◌, ◌/◌, Some, sym, ap, ◌∙◌, subst}
-use Rattle.partial_tree.specs.Claims.{sibling}
 use Rattle.partial_tree.specs.Evidence.{claimed_by, node_over_base}
 use Rattle.partial_tree.proofs.Tracing.{given_claimed}
 use Rattle.partial_tree.proofs.Uncles.{half-over, parent-claimed, uncle-and-parent}
@@ -14,8 +13,7 @@ uncle g c = given_claimed c.args.evidence.now c.args.layer c.sibling-index.resul
 above : (g : Over) (c : After-parent_of-hash g)
     → claimed_by c.args.evidence.now (c.args.layer + 1) (node_over_base c.args.evidence.now (c.args.layer + 1)) ≡ Some c.parent_of-hash.result
 above g c = parent-claimed c.args.evidence.now c.args.layer c.args.hash.now c.requires.at _ c.parent_of-hash.result
-    (ap (claimed_by c.args.evidence.now c.args.layer) (sym c.sibling-index.ensures)
-    ∙ given_claimed c.args.evidence.now c.args.layer c.sibling-index.result _ (sym c.given.ensures ∙ c.unwrap-uncle.ensures))
+    (ap (claimed_by c.args.evidence.now c.args.layer) (sym c.sibling-index.ensures) ∙ uncle g (goal.at.After-parent_of-hash g c).After-unwrap-uncle)
     c.parent_of-hash.ensures.left c.parent_of-hash.ensures.right
 
 parent : (g : Over) (c : After-parent_of-hash g)

@@ -22,20 +22,18 @@ parents-requires c =
 
 pub returns-clause-left : goal.returns-clause-left
 returns-clause-left c = λ j lt.
-    let left = c.args.left.now in
-    let right = c.args.right.now in
-    let first : length left ≡ 8 = omega arith in
     c.parents.ensures j (omega (arith, lt))
     ∙ ap₂ join
-    (ap (λ xs. slice_index_or xs (2 * j) []) c.as_flattened.ensures.value ∙ in_first left right (2 * j) first (omega (arith, lt)))
-    (ap (λ xs. slice_index_or xs (2 * j + 1) []) c.as_flattened.ensures.value ∙ in_first left right (2 * j + 1) first (omega (arith, lt)))
+    (ap (λ xs. slice_index_or xs (2 * j) []) c.as_flattened.ensures.value
+    ∙ in_first c.args.left.now c.args.right.now (2 * j) (omega arith) (omega (arith, lt)))
+    (ap (λ xs. slice_index_or xs (2 * j + 1) []) c.as_flattened.ensures.value
+    ∙ in_first c.args.left.now c.args.right.now (2 * j + 1) (omega arith) (omega (arith, lt)))
 
 pub returns-clause-right : goal.returns-clause-right
 returns-clause-right c = λ j lt.
-    let left = c.args.left.now in
-    let right = c.args.right.now in
-    let first : length left ≡ 8 = omega arith in
     c.parents.ensures (4 + j) (omega (arith, lt))
     ∙ ap₂ join
-    (ap (λ xs. slice_index_or xs (2 * (4 + j)) []) c.as_flattened.ensures.value ∙ in_second left right (2 * (4 + j)) (2 * j) first (omega arith))
-    (ap (λ xs. slice_index_or xs (2 * (4 + j) + 1) []) c.as_flattened.ensures.value ∙ in_second left right (2 * (4 + j) + 1) (2 * j + 1) first (omega arith))
+    (ap (λ xs. slice_index_or xs (2 * (4 + j)) []) c.as_flattened.ensures.value
+    ∙ in_second c.args.left.now c.args.right.now (2 * (4 + j)) (2 * j) (omega arith) (omega arith))
+    (ap (λ xs. slice_index_or xs (2 * (4 + j) + 1) []) c.as_flattened.ensures.value
+    ∙ in_second c.args.left.now c.args.right.now (2 * (4 + j) + 1) (2 * j + 1) (omega arith) (omega arith))

@@ -1,16 +1,13 @@
-use Rattle.std.proofs.Common.{suc, ◌+◌, ◌^◌, ◌<◌, ◌≤◌, sym, ap₂, subst, arith}
-use Rattle.std.specs.FinMap.{len}
+use Rattle.std.proofs.Common.{sym, ap₂, subst, arith}
 use Rattle.chains.proofs.Cases.{on_err}
 use Rattle.partial_tree.specs.TreeRoot.{TreeRoot}
-use Rattle.node_maps.specs.Places.{tree_height}
 use Rattle.partial_tree.specs.Fill.{fill_claims, IsFillAccepted}
 use Rattle.node_maps.specs.Known.{look}
 use Rattle.partial_tree.specs.Kept.{KeptTree, kept, IsGoodTree, TreeJoins}
-use Rattle.partial_tree.proofs.Ranges.{pow_more}
 use Rattle.partial_tree.proofs.Layers.{filled-len}
 use Rattle.partial_tree.specs.Claims.{HasNew}
 use Rattle.partial_tree.proofs.Planted.{closed-upward}
-use Rattle.partial_tree.proofs.Counting.{counted_more, counted_same}
+use Rattle.partial_tree.proofs.Counting.{counted_more, counted_same, known_fits}
 use Rattle.partial_tree.proofs.tree.Tree.plant.Goals as goal
 
 pub invariant_of-self : goal.invariant_of-self
@@ -26,12 +23,9 @@ overflow_add-self g c =
     let good : IsGoodTree now = subst IsGoodTree (sym c.self.view_is) c.requires.good in
     let accepted : IsFillAccepted old.nodes.length (look old.nodes.known) c.args.layer c.args.hashes.now =
     subst (λ (v : KeptTree). IsFillAccepted v.length (look v.state.known) c.args.layer c.args.hashes.now) (sym c.self.view_is) c.requires.accepted in
-    let fewer : len old.nodes.known + c.in_ok-gained.gained < 2 ^ suc (tree_height old.nodes.length) =
-    filled-len t old.nodes.known c.plant.new.self.known c.args.layer c.args.hashes.now c.in_ok-gained.gained
+    let fewer = filled-len t old.nodes.known c.plant.new.self.known c.args.layer c.args.hashes.now c.in_ok-gained.gained
     good.closed c.recall_hashes.ensures accepted (c.in_ok-gained.ensures.planted) in
-    let low : suc (tree_height old.nodes.length) ≤ 33 = omega (arith, c.self.invariant.low) in
-    let wide : 2 ^ suc (tree_height old.nodes.length) ≤ 2 ^ 33 = pow_more (suc (tree_height old.nodes.length)) 33 low in
-    omega (arith, fewer, wide, c.self.invariant.known_is)
+    omega (arith, known_fits old.known old.marked c.in_ok-gained.gained old.nodes c.self.invariant fewer)
 
 pub invariant_of-self-2 : goal.invariant_of-self-2
 invariant_of-self-2 g c =

@@ -1,11 +1,8 @@
-use Rattle.std.proofs.Common.{suc, ◌+◌, ◌^◌, ◌<◌, ◌≤◌, sym, ap₂, subst, arith}
-use Rattle.std.specs.FinMap.{len}
+use Rattle.std.proofs.Common.{sym, ap₂, subst, arith}
 use Rattle.partial_tree.specs.TreeRoot.{TreeRoot}
-use Rattle.node_maps.specs.Places.{tree_height}
 use Rattle.partial_tree.specs.Kept.{KeptTree, kept, IsGoodTree, TreeTakesHashes}
-use Rattle.partial_tree.proofs.Ranges.{pow_more}
 use Rattle.partial_tree.proofs.Messages.{joined-len}
-use Rattle.partial_tree.proofs.Counting.{counted_more, counted_same}
+use Rattle.partial_tree.proofs.Counting.{counted_more, counted_same, known_fits}
 use Rattle.partial_tree.proofs.tree.Tree.take.Goals as goal
 
 pub invariant_of-self : goal.invariant_of-self
@@ -20,12 +17,9 @@ overflow_add-self g c =
     let now : KeptTree = kept old.root old.nodes.length old.nodes.known old.nodes.marked in
     let good : IsGoodTree now = subst IsGoodTree (sym c.self.view_is) c.requires in
     let taken = c.in_ok-gained.ensures.taken in
-    let fewer : len old.nodes.known + c.in_ok-gained.gained < 2 ^ suc (tree_height old.nodes.length) =
-    joined-len t old.nodes.known c.take.new.self.known c.args.ask.now c.args.hashes.now c.in_ok-gained.gained
+    let fewer = joined-len t old.nodes.known c.take.new.self.known c.args.ask.now c.args.hashes.now c.in_ok-gained.gained
     good.closed c.recall_hashes.ensures taken.0 taken.1 in
-    let low : suc (tree_height old.nodes.length) ≤ 33 = omega (arith, c.self.invariant.low) in
-    let wide : 2 ^ suc (tree_height old.nodes.length) ≤ 2 ^ 33 = pow_more (suc (tree_height old.nodes.length)) 33 low in
-    omega (arith, fewer, wide, c.self.invariant.known_is)
+    omega (arith, known_fits old.known old.marked c.in_ok-gained.gained old.nodes c.self.invariant fewer)
 
 pub invariant_of-self-2 : goal.invariant_of-self-2
 invariant_of-self-2 g c =

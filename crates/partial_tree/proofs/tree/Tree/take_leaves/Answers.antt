@@ -1,14 +1,11 @@
-use Rattle.std.proofs.Common.{suc, length, ◌+◌, ◌^◌, ◌<◌, ◌≤◌, sym, ap₂, subst, arith}
-use Rattle.std.specs.FinMap.{len}
+use Rattle.std.proofs.Common.{length, sym, ap₂, subst, arith}
 use Rattle.partial_tree.specs.TreeRoot.{TreeRoot}
-use Rattle.node_maps.specs.Places.{tree_height}
 use Rattle.partial_tree.specs.Kept.{KeptTree, kept, IsGoodTree}
 use Rattle.partial_tree.specs.LeafRows.{TreeTakesRow, IsLeafRow}
-use Rattle.partial_tree.proofs.Ranges.{pow_more}
 use Rattle.node_maps.specs.Known.{look}
 use Rattle.partial_tree.proofs.EndPads.{pads-agree}
 use Rattle.partial_tree.proofs.TakenRows.{row-len, good_row}
-use Rattle.partial_tree.proofs.Counting.{counted_more, counted_same}
+use Rattle.partial_tree.proofs.Counting.{counted_more, counted_same, known_fits}
 use Rattle.partial_tree.proofs.tree.Tree.take_leaves.Goals as goal
 
 pub take_leaves-requires-clause-pads : goal.take_leaves-requires-clause-pads
@@ -31,12 +28,9 @@ overflow_add-self g c =
     let row : IsLeafRow old.nodes.length c.args.first c.args.span (length c.args.hashes.now) =
     subst (λ (v : KeptTree). IsLeafRow v.length c.args.first c.args.span (length c.args.hashes.now)) (sym c.self.view_is) c.requires.row in
     let taken = c.in_ok-gained.ensures.taken in
-    let fewer : len old.nodes.known + c.in_ok-gained.gained < 2 ^ suc (tree_height old.nodes.length) =
-    row-len t old.nodes.known c.take_leaves.new.self.known c.args.first c.args.span c.args.hashes c.in_ok-gained.gained row
+    let fewer = row-len t old.nodes.known c.take_leaves.new.self.known c.args.first c.args.span c.args.hashes c.in_ok-gained.gained row
     good.closed c.recall_hashes.ensures taken.0 taken.1 in
-    let low : suc (tree_height old.nodes.length) ≤ 33 = omega (arith, c.self.invariant.low) in
-    let wide : 2 ^ suc (tree_height old.nodes.length) ≤ 2 ^ 33 = pow_more (suc (tree_height old.nodes.length)) 33 low in
-    omega (arith, fewer, wide, c.self.invariant.known_is)
+    omega (arith, known_fits old.known old.marked c.in_ok-gained.gained old.nodes c.self.invariant fewer)
 
 pub invariant_of-self-2 : goal.invariant_of-self-2
 invariant_of-self-2 g c =
@@ -54,10 +48,5 @@ returns-clause-taken g c =
 
 pub returns-clause-good : goal.returns-clause-good
 returns-clause-good g c =
-    let old = c.self.inside in
-    let after = c.take_leaves.new.self.known in
-    let new : KeptTree = kept old.root c.take_leaves.new.self.length after c.take_leaves.new.self.marked in
-    let taken : TreeTakesRow c.args.self.now c.args.first c.args.span c.args.hashes.now c.in_ok-gained.gained new =
-    subst (λ v. TreeTakesRow v c.args.first c.args.span c.args.hashes.now c.in_ok-gained.gained new) c.self.view_is
-    (c.in_ok-gained.ensures.taken, ap₂ (λ n m. kept old.root n after m) c.take_leaves.ensures.stays.length c.take_leaves.ensures.stays.marked) in
-    good_row c.args.self.now new c.args.first c.args.span c.args.hashes c.in_ok-gained.gained c.requires.row c.requires.good c.recall_hashes.ensures taken
+    good_row c.args.self.now _ c.args.first c.args.span c.args.hashes c.in_ok-gained.gained c.requires.row c.requires.good c.recall_hashes.ensures
+    (returns-clause-taken g c)

@@ -16,35 +16,56 @@ use Rattle.node_maps.specs.Places.{IsKnown}
 use Rattle.node_maps.specs.Runs.{AreKnown}
 use Rattle.partial_tree.proofs.Ranges.{pow_more}
 use Rattle.partial_tree.proofs.LeafPieces.{piece-small, piece-new, piece-row, length-leaves}
+use Rattle.partial_tree.proofs.tree.Tree.take_piece.Given.{Over}
 use Rattle.partial_tree.proofs.tree.Tree.take_piece.Goals as goal
-use Rattle.partial_tree.proofs.tree.Tree.take_piece.Goals.{else-knows_leaves-via-then-knows_leaves+else-has_row_pads, else-knows_leaves-via-else-knows_leaves}
+use Rattle.partial_tree.proofs.tree.Tree.take_piece.Goals.{After-self, After-deref, After-len, else-knows_leaves-via-else-knows_leaves}
+use Rattle.partial_tree.proofs.tree.Tree.take_piece.Goals.{else-knows_leaves-via-then-knows_leaves+else-has_row_pads}
 
-pub take_leaves-requires-clause-row : goal.take_leaves-requires-clause-row
-take_leaves-requires-clause-row g c =
+low : (g : Over) (c : After-self g) → tree_height c.args.self.now.length ≤ 32
+low g c = subst (λ (v : KeptTree). tree_height v.length ≤ 32) c.self.view_is c.self.invariant.low
+
+-- how many leaves the node is over, as it is computed
+width : (g : Over) (c : After-self g) → 1 * 2 ^ c.args.span % 2 ^ 64 ≡ 2 ^ c.args.span
+width g c = let few = low g c in one_shl c.args.span 64 (omega (arith, few, c.requires.row.span_inside))
+
+-- and they end within the leaves that there can be
+ends : (g : Over) (c : After-self g) → c.args.first + 2 ^ c.args.span ≤ 2 ^ 33
+ends g c =
+    let small = piece-small c.args.self.now.length c.args.first c.args.span c.args.bytes.now c.requires.row (low g c) in
+    let few = low g c in
+    let most : 2 ^ c.args.span ≤ 2 ^ 32 = pow_more c.args.span 32 (omega (arith, few, c.requires.row.span_inside)) in
+    omega (arith, small, most)
+
+row : (g : Over) (c : After-deref g) → IsLeafRow c.args.self.now.length c.args.first c.args.span (length c.deref.result.now)
+row g c =
     subst (λ (hs : List Hash). IsLeafRow c.args.self.now.length c.args.first c.args.span (length hs)) (sym (c.deref.ensures.value ∙ c.in-Ok.ensures.leaves))
     (piece-row c.args.self.now.length c.args.first c.args.span c.args.bytes.now c.requires.row)
 
+items : (g : Over) (c : After-len g) → c.len.result ≡ length c.in-Ok.leaves.items
+items g c = omega (arith, c.len.ensures, c.in-Ok.leaves.ok)
+
+pub take_leaves-requires-clause-row : goal.take_leaves-requires-clause-row
+take_leaves-requires-clause-row g c = row g (goal.at.take_leaves-requires-clause-row g c).After-deref
+
 pub mark_leaves-requires-clause-range : goal.mark_leaves-requires-clause-range
 mark_leaves-requires-clause-range g c =
-    let low : tree_height c.args.self.now.length ≤ 32 = subst (λ (v : KeptTree). tree_height v.length ≤ 32) c.self.view_is c.self.invariant.low in
     let small = row-small c.args.self.now.length c.args.first c.args.span (leaves_in c.args.bytes.now)
-    (piece-row c.args.self.now.length c.args.first c.args.span c.args.bytes.now c.requires.row) low in
+    (piece-row c.args.self.now.length c.args.first c.args.span c.args.bytes.now c.requires.row)
+    (low g (goal.at.mark_leaves-requires-clause-range g c).After-self) in
     omega (arith, small, c.len.ensures, ap length c.in-Ok.ensures.leaves)
 
 pub mark_leaves-requires-clause-known : goal.mark_leaves-requires-clause-known
 mark_leaves-requires-clause-known g c = λ j low.
-    let row : IsLeafRow c.args.self.now.length c.args.first c.args.span (length c.deref.result.now) =
-    subst (λ (hs : List Hash). IsLeafRow c.args.self.now.length c.args.first c.args.span (length hs)) (sym (c.deref.ensures.value ∙ c.in-Ok.ensures.leaves))
-    (piece-row c.args.self.now.length c.args.first c.args.span c.args.bytes.now c.requires.row) in
-    let items : c.len.result ≡ length c.in-Ok.leaves.items = omega (arith, c.len.ensures, c.in-Ok.leaves.ok) in
-    let same : c.len.result ≡ length c.deref.result.now = items ∙ ap length (sym c.deref.ensures.value) in
-    row-knows (info_of c.args.self.now) c.args.first c.args.span c.deref.result row c.args.self.now.state.known c.take_leaves.new.self.state.known
-    c.in-Ok-take_leaves.field-0 c.in-Ok-take_leaves.ensures.taken.0 j (omega (arith, low, same, row.count_is))
+    let leaves = row g (goal.at.mark_leaves-requires-clause-known g c).After-deref in
+    let same : c.len.result ≡ length c.deref.result.now =
+    items g (goal.at.mark_leaves-requires-clause-known g c).After-len ∙ ap length (sym c.deref.ensures.value) in
+    row-knows (info_of c.args.self.now) c.args.first c.args.span c.deref.result leaves c.args.self.now.state.known c.take_leaves.new.self.state.known
+    c.in-Ok-take_leaves.field-0 c.in-Ok-take_leaves.ensures.taken.0 j (omega (arith, low, same, leaves.count_is))
 
 pub returns-in-Ok-take_leaves-clause-taken : goal.returns-in-Ok-take_leaves-clause-taken
 returns-in-Ok-take_leaves-clause-taken g c =
-    let items : c.len.result ≡ length c.in-Ok.leaves.items = omega (arith, c.len.ensures, c.in-Ok.leaves.ok) in
-    let count : c.len.result ≡ block_count (length c.args.bytes.now) = items ∙ ap length c.in-Ok.ensures.leaves ∙ length-leaves c.args.bytes.now in
+    let count : c.len.result ≡ block_count (length c.args.bytes.now) =
+    items g (goal.at.returns-in-Ok-take_leaves-clause-taken g c).After-len ∙ ap length c.in-Ok.ensures.leaves ∙ length-leaves c.args.bytes.now in
     record {
       count = c.in-Ok-take_leaves.field-0;
       between = c.take_leaves.new.self;
@@ -58,25 +79,18 @@ returns-in-Ok-take_leaves-clause-good g c = c.mark_leaves.ensures.good
 
 pub knows_leaves-requires : goal.knows_leaves-requires
 knows_leaves-requires g c =
-    let low : tree_height c.args.self.now.length ≤ 32 = subst (λ (v : KeptTree). tree_height v.length ≤ 32) c.self.view_is c.self.invariant.low in
-    let width : 1 * 2 ^ c.args.span % 2 ^ 64 ≡ 2 ^ c.args.span = one_shl c.args.span 64 (omega (arith, low, c.requires.row.span_inside)) in
-    let small = piece-small c.args.self.now.length c.args.first c.args.span c.args.bytes.now c.requires.row low in
-    let span : 2 ^ c.args.span ≤ 2 ^ 32 = pow_more c.args.span 32 (omega (arith, low, c.requires.row.span_inside)) in
-    subst (λ w. c.args.first + w < 2 ^ 64) (sym width) (omega (arith, small, span))
+    let r = (goal.at.knows_leaves-requires g c).After-self in
+    let end = ends g r in
+    subst (λ w. c.args.first + w < 2 ^ 64) (sym (width g r)) (omega (arith, end))
 
 pub has_row_pads-requires-clause-range : goal.has_row_pads-requires-clause-range
-has_row_pads-requires-clause-range g c =
-    let low : tree_height c.args.self.now.length ≤ 32 = subst (λ (v : KeptTree). tree_height v.length ≤ 32) c.self.view_is c.self.invariant.low in
-    let small = piece-small c.args.self.now.length c.args.first c.args.span c.args.bytes.now c.requires.row low in
-    let span : 2 ^ c.args.span ≤ 2 ^ 32 = pow_more c.args.span 32 (omega (arith, low, c.requires.row.span_inside)) in
-    omega (arith, small, span)
+has_row_pads-requires-clause-range g c = let end = ends g (goal.at.has_row_pads-requires-clause-range g c).After-self in omega (arith, end)
 
 pub returns-in_default-clause-refused : goal.returns-in_default-clause-refused
 returns-in_default-clause-refused g c =
     let m = c.args.self.now.state.known in
     let len = c.args.self.now.length in
-    let low : tree_height c.args.self.now.length ≤ 32 = subst (λ (v : KeptTree). tree_height v.length ≤ 32) c.self.view_is c.self.invariant.low in
-    let width : 1 * 2 ^ c.args.span % 2 ^ 64 ≡ 2 ^ c.args.span = one_shl c.args.span 64 (omega (arith, low, c.requires.row.span_inside)) in
+    let wide = width g (goal.at.returns-in_default-clause-refused g c).After-self in
     let v = some_of c.hash.result (c.is_none.ensures ∙ ap not c.if-is_none.false) in
     let top : IsKnown (look m) c.args.span (c.args.first / 2 ^ c.args.span) = (v.0, sym c.hash.ensures ∙ v.1) in
     let new : HasNew (look m) (row_joins len c.args.first c.args.span (leaves_in c.args.bytes.now)) = elim c.else-knows_leaves.branch [
@@ -85,6 +99,6 @@ returns-in_default-clause-refused g c =
           w.if-has_row_pads.ensures.new
       | else-knows_leaves-via-else-knows_leaves w ↦
           piece-new (info_of c.args.self.now) (look m) c.args.first c.args.span c.args.bytes.now c.requires.row (λ known.
-          false≢true (sym w.if-knows_leaves.false ∙ c.knows_leaves.ensures.1 (subst (AreKnown (look m 0) c.args.first) (sym width) known)))
+          false≢true (sym w.if-knows_leaves.false ∙ c.knows_leaves.ensures.1 (subst (AreKnown (look m 0) c.args.first) (sym wide) known)))
     ] in
     ((top, new), refl)

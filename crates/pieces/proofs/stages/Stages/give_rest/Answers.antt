@@ -5,6 +5,10 @@ use Rattle.pieces.specs.Cutting.{IsCutting}
 use Rattle.pieces.specs.Stored.{slot_bytes}
 use Rattle.pieces.proofs.Rest.{rest_given, stretch_given}
 use Rattle.pieces.proofs.stages.Stages.give_rest.Goals as goal
+use Rattle.pieces.proofs.stages.Stages.give_rest.Goals.{After-slot_of-2}
+
+end : (c : After-slot_of-2) → c.stretches.stretch ≡ c.args.self.now.stretch
+end c = omega (arith, c.stretches-test.false, c.stretches.auto.stretch-end)
 
 pub stretches-init : goal.stretches-init
 stretches-init c = record {
@@ -44,25 +48,17 @@ stretches-preserved c =
 pub returns-clause-filled : goal.returns-clause-filled
 returns-clause-filled c =
     let s = c.args.self.now in
-    let end : c.stretches.stretch ≡ s.stretch = omega (arith, c.stretches-test.false, c.stretches.auto.stretch-end) in
-    let filled : c.stretches.cutter.filled ≤ s.store.size * s.stretch =
-    subst (λ n. c.stretches.cutter.filled ≤ s.store.size * n) end c.stretches.invariant.filled in
-    omega (
-      arith,
-      filled,
-      c.take-2.ensures.filled,
-      c.take-2.ensures.taken,
-      ap length c.front-2.ensures,
-      length-take s.filled
-          (slot_bytes s.store c.slot_of-2.result),
-    )
+    let filled = subst (λ n. c.stretches.cutter.filled ≤ s.store.size * n) (end (goal.at.returns-clause-filled c).After-slot_of-2)
+    c.stretches.invariant.filled in
+    let long = length-take s.filled (slot_bytes s.store c.slot_of-2.result) in
+    omega (arith, filled, c.take-2.ensures.filled, c.take-2.ensures.taken, ap length c.front-2.ensures, long)
 
 pub returns-clause-running : goal.returns-clause-running
 returns-clause-running c = λ step n content draining same cutting.
     let s = c.args.self.now in
-    let end : c.stretches.stretch ≡ s.stretch = omega (arith, c.stretches-test.false, c.stretches.auto.stretch-end) in
     rest_given s step n c.take-2.result content c.front-2.result.now c.stretches.cutter c.take-2.new.self draining
     (c.front-2.ensures ∙ ap (λ k. take s.filled (slot_bytes s.store k)) c.slot_of-2.ensures.slot)
     (c.stretches.invariant.piece_length ∙ same) (record { taken_is = c.take-2.ensures.taken; running = c.take-2.ensures.running })
-    (subst (λ k. IsCutting c.stretches.cutter (take (s.store.size * k) (drop (s.store.size * (LANES * s.piece)) content))) end
+    (subst (λ k. IsCutting c.stretches.cutter (take (s.store.size * k) (drop (s.store.size * (LANES * s.piece)) content)))
+    (end (goal.at.returns-clause-running c).After-slot_of-2)
     (c.stretches.invariant.running step n content draining same cutting))

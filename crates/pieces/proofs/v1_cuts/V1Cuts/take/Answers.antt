@@ -10,17 +10,14 @@ take-taken-requires-clause-fits c = told_small c.args.self.now (c.args.self.now.
 
 pub returns-in_default-clause-on : goal.returns-in_default-clause-on
 returns-in_default-clause-on c =
-    let f = c.args.self.now in
-    let part : List ℕ = take c.take-taken.result.0 c.args.bytes.now in
-    goes_told f _ part None (subst (λ o. TellsCut f.stream part o c.take-taken.new.self) c.in_default.is c.take-taken.ensures.tells)
-    (sym (append-nil f.cuts.items)) (omega arith) (omega arith)
+    goes_told c.args.self.now _ _ None (subst (λ o. TellsCut c.args.self.now.stream (take c.take-taken.result.0 c.args.bytes.now) o c.take-taken.new.self)
+    c.in_default.is c.take-taken.ensures.tells) (sym (append-nil c.args.self.now.cuts.items)) (omega arith) (omega arith)
 
 pub returns-then-is_err-clause-memory : goal.returns-then-is_err-clause-memory
 returns-then-is_err-clause-memory c =
-    let f = c.args.self.now in
     let some : IsSome c.take-taken.result.1 = search rules in
-    let full : vec_capacity f.cuts ≤ vec_len f.cuts = search rules in
-    told_takes_memory f _ (c.take-taken.ensures.after some) full
+    let full : vec_capacity c.args.self.now.cuts ≤ vec_len c.args.self.now.cuts = search rules in
+    told_takes_memory c.args.self.now _ (c.take-taken.ensures.after some) full
 
 pub returns-clause-on : goal.returns-clause-on
 returns-clause-on c =

@@ -9,18 +9,9 @@ use Rattle.pieces.proofs.v1_feed.V1Feed.push.Goals as goal
 
 pub take-start-requires-clause-room : goal.take-start-requires-clause-room
 take-start-requires-clause-room c =
-    let bytes = c.args.bytes.now in
-    let start = c.parts.start in
-    let feeds = c.parts.invariant.feeds in
-    omega (
-      arith,
-      c.requires,
-      feeds.given_is,
-      feeds.same_total,
-      c.parts.invariant.within,
-      length-take-le start bytes c.parts.invariant.within,
-      rest_long bytes start,
-    )
+    let before = c.parts.invariant in
+    let rest = rest_long c.args.bytes.now c.parts.start in
+    omega (arith, c.requires, before.feeds.given_is, before.feeds.same_total, length-take-le c.parts.start c.args.bytes.now before.within, rest)
 
 pub take-start-requires-clause-next : goal.take-start-requires-clause-next
 take-start-requires-clause-next c = λ alone.

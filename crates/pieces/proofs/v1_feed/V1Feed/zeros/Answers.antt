@@ -3,6 +3,10 @@ use Rattle.std.proofs.lemmas.List.{length-replicate}
 use Rattle.pieces.specs.Feeding.{FeedsStream}
 use Rattle.pieces.proofs.Fed.{feeds_both, feeds_nothing, length-zeros, zeros_more, zeros_rest}
 use Rattle.pieces.proofs.v1_feed.V1Feed.zeros.Goals as goal
+use Rattle.pieces.proofs.v1_feed.V1Feed.zeros.Goals.{After-min-part}
+
+small : (c : After-min-part) → c.min-part.result ≤ 4096
+small c = omega (arith, c.min-part.ensures)
 
 pub parts-init : goal.parts-init
 parts-init c = record { within = omega arith; feeds = feeds_nothing c.args.self.now }
@@ -14,19 +18,17 @@ skip-requires-clause-room c =
 
 pub push-requires : goal.push-requires
 push-requires c =
-    let feeds = c.parts.invariant.feeds in
-    let part = c.min-part.result in
-    let bound : part ≤ 4096 = omega (arith, c.min-part.ensures) in
-    omega (arith, c.requires, c.min-part.ensures, feeds.given_is, feeds.same_total, length-replicate {A = ℕ} c.parts.done 0, length-zeros part 4096 bound)
+    let before = c.parts.invariant.feeds in
+    let long = length-zeros c.min-part.result 4096 (small (goal.at.push-requires c).After-min-part) in
+    omega (arith, c.requires, c.min-part.ensures, before.given_is, before.same_total, length-replicate {A = ℕ} c.parts.done 0, long)
 
 pub parts-preserved : goal.parts-preserved
 parts-preserved c =
-    let done = c.parts.done in
     let part = c.min-part.result in
-    let bound : part ≤ 4096 = omega (arith, c.min-part.ensures) in
+    let more = zeros_more c.parts.done part 4096 (small (goal.at.parts-preserved c).After-min-part) in
     record {
       within = omega (arith, c.min-part.ensures);
-      feeds = feeds_both c.args.self.now c.parts.self c.push.new.self (replicate done 0) (take part (replicate 4096 0)) _ (zeros_more done part 4096 bound)
+      feeds = feeds_both c.args.self.now c.parts.self c.push.new.self (replicate c.parts.done 0) (take part (replicate 4096 0)) _ more
           c.parts.invariant.feeds c.push.ensures;
     }
 

@@ -1,4 +1,4 @@
-use Rattle.std.proofs.Common.{rules, ◌∙◌, ◌++◌, sym, ap, append-nil, true≢false}
+use Rattle.std.proofs.Common.{◌∙◌, ◌++◌, sym, ap, append-nil, true≢false}
 use Rattle.std.specs.Option.{option_to_list}
 use Rattle.partial_tree.specs.Grown.{GrownTree}
 use Rattle.seeding.proofs.FedLeaves.{last-fits, all-there}
@@ -29,33 +29,3 @@ finish-requires g c =
           ∙ ap (λ o. c.args.self.tree.leaves ++ option_to_list o) (sym w.in_default.is))
           (ap (λ (t : GrownTree). t.length) w.tree-is)
     ]
-
-pub returns-then-ne-clause-ends : goal.returns-then-ne-clause-ends
-returns-then-ne-clause-ends g c = search rules
-
-pub returns-then-ne-clause-no_memory : goal.returns-then-ne-clause-no_memory
-returns-then-ne-clause-no_memory g c = search rules
-
-pub returns-then-self-clause-ends : goal.returns-then-self-clause-ends
-returns-then-self-clause-ends g c = search rules
-
-pub returns-then-self-clause-no_memory : goal.returns-then-self-clause-no_memory
-returns-then-self-clause-no_memory g c = search rules
-
-pub returns-in_err-push-clause-ends : goal.returns-in_err-push-clause-ends
-returns-in_err-push-clause-ends g c = search rules
-
-pub returns-in_err-push-clause-no_memory : goal.returns-in_err-push-clause-no_memory
-returns-in_err-push-clause-no_memory g c = search rules
-
-pub returns-in_err-finish-clause-ends : goal.returns-in_err-finish-clause-ends
-returns-in_err-finish-clause-ends g c = search rules
-
-pub returns-in_err-finish-clause-no_memory : goal.returns-in_err-finish-clause-no_memory
-returns-in_err-finish-clause-no_memory g c = search rules
-
-pub returns-clause-ends : goal.returns-clause-ends
-returns-clause-ends g c = search rules
-
-pub returns-clause-no_memory : goal.returns-clause-no_memory
-returns-clause-no_memory g c = search rules

@@ -1,4 +1,4 @@
-use Rattle.std.proofs.Common.{rules, ◌≡◌, ◌++◌, length, ap, arith}
+use Rattle.std.proofs.Common.{◌≡◌, ◌++◌, length, ap, arith}
 use Rattle.std.proofs.lemmas.List.{length-append}
 use Rattle.hashtree.specs.RootBuilder.{byte_count}
 use Rattle.hashtree.specs.Parts.{rest_of}
@@ -54,9 +54,6 @@ parts-preserved g c =
     (pushed_both c.args.self.now c.parts.self c.keep.new.self) c.parts.invariant part.bytes_are
     (keeps-part c.parts.self c.keep.new.self c.take_part-leaf.new.self part.part c.take_part-leaf.result part.feeds part.completes
     c.keep.ensures.builder c.keep.ensures.length c.keep.ensures.kept)
-
-pub returns : goal.returns
-returns g c = search rules
 
 pub parts-smaller : goal.parts-smaller
 parts-smaller g c =

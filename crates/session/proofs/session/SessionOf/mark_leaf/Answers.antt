@@ -1,36 +1,26 @@
-use Rattle.std.proofs.Common.{◌<◌, length, sym, subst, arith}
-use Rattle.session.specs.Layouts.{SessionSeen}
+use Rattle.session.proofs.KeptTrees.{IsKeptTree, tree_of_number}
 use Rattle.session.proofs.MarkedLeaves.{TriesLeaf, tried-kept, tried-marked, tried-other, tried-stays, mark-keeps}
-use Rattle.session.proofs.Sessions.{found_at, good_at}
-use Rattle.session.proofs.SessionCalls.{inside_kept}
 use Rattle.session.proofs.session.SessionOf.mark_leaf.Given.{Over}
 use Rattle.session.proofs.session.SessionOf.mark_leaf.Goals as goal
-use Rattle.session.proofs.session.SessionOf.mark_leaf.Goals.{After-self, After-mark_leaf}
+use Rattle.session.proofs.session.SessionOf.mark_leaf.Goals.{After-index_mut, After-mark_leaf}
 
-inside : (g : Over) (c : After-self g) → c.args.tree < length c.self.inside.trees.items
-inside g c = inside_kept (g.T.HoldsTorrent.described c.self.inside.torrent) c.self.inside.trees.items c.self.invariant c.args.tree
-    (subst (λ (v : SessionSeen). c.args.tree < length v.torrent.trees) (sym c.self.view_is) c.requires)
+here : (g : Over) (c : After-index_mut g) → IsKeptTree (g.T.HoldsTorrent.described c.self.inside.torrent) c.self.inside.trees.items c.self.inside.asks
+    c.args.self.now c.args.tree c.index_mut.result.now
+here g c =
+    tree_of_number c.self.inside.asks _ _ c.self.invariant _ c.self.view_is c.args.tree c.requires c.index_mut.result.now c.index_mut.ensures.value
 
 tried : (g : Over) (c : After-mark_leaf g) → TriesLeaf (g.T.HoldsTorrent.described c.self.inside.torrent) c.self.inside.trees.items c.self.inside.asks
     c.args.tree c.index_mut.result.now c.mark_leaf.new.self c.args.block c.args.digest.now c.mark_leaf.result c.args.self.now
 tried g c = record {
-  kept = c.self.invariant;
-  is = c.self.view_is;
-  at = found_at c.self.inside.trees.items c.args.tree c.index_mut.result.now (inside g (goal.at.After-mark_leaf g c).After-self) c.index_mut.ensures.value;
+  before = here g (goal.at.After-mark_leaf g c).After-index_mut;
   marked = c.mark_leaf.ensures.marked;
   known = c.mark_leaf.ensures.known;
   stays = c.mark_leaf.ensures.stays;
   good = c.mark_leaf.ensures.good;
 }
 
-pub index_mut-requires : goal.index_mut-requires
-index_mut-requires g c = let low = inside g (goal.at.index_mut-requires g c).After-self in omega (arith, low, c.self.inside.trees.ok)
-
 pub mark_leaf-requires : goal.mark_leaf-requires
-mark_leaf-requires g c =
-    let at = found_at c.self.inside.trees.items c.args.tree c.index_mut.result.now (inside g (goal.at.mark_leaf-requires g c).After-self)
-    c.index_mut.ensures.value in
-    record { good = good_at (g.T.HoldsTorrent.described c.self.inside.torrent) c.self.inside.trees.items c.self.invariant c.args.tree _ at }
+mark_leaf-requires g c = record { good = (here g (goal.at.mark_leaf-requires g c).After-index_mut).good }
 
 pub invariant_of-self : goal.invariant_of-self
 invariant_of-self g c = tried-kept (tried g (goal.at.invariant_of-self g c).After-mark_leaf)

@@ -1,4 +1,0 @@
-use Rattle.lines.proofs.line.say.Goals as goal
-
-pub returns-in-Skipped : goal.returns-in-Skipped
-returns-in-Skipped g c = rw c.in-Skipped.is c.say_of-in-Skipped.ensures
