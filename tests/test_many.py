@@ -36,11 +36,12 @@ shift
 exec env -i HOME="$HOME" PATH="$PATH" sh -c "$*"
 """
 
-# In the place of the program: takes a while, and notes each torrent that it checks. While there is a file `halt`, no run
-# goes on once six have ended, so that what is stopped then is in the middle of its work however slow the machine is.
+# In the place of the program: takes a while, and notes each torrent that it is run for. While there is a file `halt`, no
+# run goes on once six have ended, so that what is stopped then is in the middle of its work however slow the machine is. A
+# look at a torrent goes on even then: another run at the same place has to come as far as the lock.
 SLOW = """#!/bin/sh
 echo "$2" >> {place}/checked
-while [ -e {place}/halt ] && [ "$(wc -l < {place}/ended)" -ge 6 ]; do sleep 0.05; done
+while [ "$1" != show ] && [ -e {place}/halt ] && [ "$(wc -l < {place}/ended)" -ge 6 ]; do sleep 0.05; done
 sleep 0.05
 {program} "$@"
 status=$?

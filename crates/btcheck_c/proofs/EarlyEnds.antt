@@ -10,7 +10,7 @@ use Rattle.short_pushes.specs.RowChecks as rows
 use Rattle.btcheck_c.specs.FileChecks.{IsShortFile, check_bytes_left}
 use Rattle.btcheck_c.specs.declared.file_check.FileCheck.{FileCheck}
 use Rattle.btcheck_c.proofs.FilePieces.{one_node}
-use Rattle.piece_marks.specs.Marks.{AreMarkedWhole}
+use Rattle.pieces.specs.Marks.{AreMarkedWhole}
 
 -- bits of which none is set are clear, and so are those past the end
 clear_of : (bits : List ℕ) → ((k : ℕ) → k < 8 * length bits → bit_of bits k ≡ 1 → ⊥) → AreClear bits

@@ -8,7 +8,7 @@ use Rattle.hashtree.specs.Pieces.{piece_nodes}
 use Rattle.hashtree.specs.Tree.{layer_of, root_of}
 use Rattle.opening.specs.Description.{TreeEntry}
 use Rattle.opening.specs.PieceLayers.{piece_layer}
-use Rattle.piece_marks.specs.Marks.{AreMarkedWhole}
+use Rattle.pieces.specs.Marks.{AreMarkedWhole}
 use Rattle.pieces.specs.Pieces.{pieces_of}
 use Rattle.short_pushes.specs.RowChecks as rows
 use Rattle.btcheck_c.specs.declared.file_check.FileCheck.{FileCheck}

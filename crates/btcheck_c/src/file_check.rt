@@ -10,8 +10,7 @@ use crate::rows::{numbered, only_root, row_hashes, row_length};
 use c_layouts::bits::set_bit;
 use hashtree::{Hash, NoMemory, Shape};
 use opening::TreeInfo;
-use piece_marks::ends_with_piece;
-use pieces::PieceLength;
+use pieces::{PieceLength, ends_with_piece};
 use short_pushes::RowCheck;
 use std::alloc::Global;
 

@@ -5,7 +5,7 @@ use Rattle.std.specs.List.{flat_map}
 use Rattle.std.proofs.lemmas.List.{append-nil, drop-drop, drop_more, length-drop}
 use Rattle.std.proofs.Math.Seq.{drop-append-add, take-append_seam}
 use Rattle.filetree.specs.FileTree.{slash}
-use Rattle.filetree.proofs.Folders.{texts}
+use Rattle.filetree.proofs.Texts.{texts}
 use Rattle.c_layouts.specs.Paths.{joined_path_text}
 
 -- the components after the first one

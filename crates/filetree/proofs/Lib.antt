@@ -11,5 +11,6 @@ pub mod Rooms
 pub mod Safe
 pub mod Shaping
 pub mod Tables
+pub mod Texts
 pub mod Views
 pub mod Walking

@@ -1,10 +1,10 @@
 //! The folders on the way to a file.
 
-ghost use Rattle.std.specs.Prelude.{◌≡◌, ◌+◌, ◌≤◌, ◌++◌, ◌∷◌, [], length, map, IfOk};
+ghost use Rattle.std.specs.Prelude.{◌≡◌, ◌+◌, ◌≤◌, ◌++◌, ◌∷◌, [], length, IfOk};
 ghost use Rattle.filetree.specs.Folders.{names_to, names_of};
 
 use crate::folder_name::FolderName;
-use crate::path::PathParts;
+use crate::path_parts::PathParts;
 use std::alloc::{AllocError, Global};
 use std::marker::Model;
 use std::sync::Arc;
@@ -60,8 +60,8 @@ impl Folders {
 
     /// Puts their names at the end.
     pub(crate) fn put<'p>(&'p self, parts: &mut PathParts<'p>)
-        requires { length parts.old.items + length self.now ≤ 128 }
-        ensures { map (λ s. s.now) parts.new.items ≡ map (λ s. s.now) parts.old.items ++ self.now }
+        requires { length parts.old + length self.now ≤ 128 }
+        ensures { parts.new ≡ parts.old ++ self.now }
     {
         if let Some(last) = &self.last {
             put(last, parts);
@@ -81,9 +81,8 @@ fn shared(last: &Option<Arc<TreeFolder>>) -> Result<Option<Arc<TreeFolder>>, All
 
 // Puts the names down to this folder at the end.
 fn put<'p>(last: &'p TreeFolder, parts: &mut PathParts<'p>)
-    requires { length parts.old.items + length (names_to last.now) ≤ 128 }
-    ensures { map (λ s. s.now) parts.new.items
-        ≡ map (λ s. s.now) parts.old.items ++ names_to last.now }
+    requires { length parts.old + length (names_to last.now) ≤ 128 }
+    ensures { parts.new ≡ parts.old ++ names_to last.now }
 {
     if let Some(above) = &last.above {
         put(above, parts);

@@ -9,6 +9,7 @@ mod folder;
 mod folder_name;
 pub mod laws;
 mod path;
+mod path_parts;
 mod reading;
 mod refusal;
 mod shape;
@@ -16,6 +17,7 @@ mod walk;
 
 pub use component::is_bad_component;
 pub use files::{ListedFile, has_attribute, length};
-pub use path::{Path, PathParts};
+pub use path::Path;
+pub use path_parts::PathParts;
 pub use reading::read_tree;
 pub use refusal::{Key, Refusal};

@@ -1,17 +1,10 @@
 //! The path of a file: its components.
 
-ghost use Rattle.std.specs.Prelude.{◌≡◌, ◌<◌, ◌++◌, ◌∷◌, [], length, map};
+ghost use Rattle.std.specs.Prelude.{◌≡◌, ◌<◌, ◌++◌, ◌∷◌, [], length};
 
 use crate::folder::Folders;
-use arrayvec::ArrayVec;
+use crate::path_parts::PathParts;
 use std::marker::Model;
-
-/// Room for the components of a path: more than the 124 that a path may have, one for each open
-/// dictionary.
-pub(crate) const ROOM_OF_PARTS: usize = 128;
-
-/// The components of a path, from the torrent's root down.
-pub type PathParts<'p> = ArrayVec<&'p str, ROOM_OF_PARTS>;
 
 /// A file's path below the torrent's root. Contracts see it as the list of its components.
 #[derive(Debug, Drop)]
@@ -41,7 +34,7 @@ impl<'a> Path<'a> {
 
     /// The components. It takes no memory from the allocator.
     pub fn parts(&self) -> PathParts<'_>
-        ensures { map (λ s. s.now) result.items ≡ self.now }
+        ensures { result ≡ self.now }
     {
         let mut parts = PathParts::new();
         self.folders.put(&mut parts);

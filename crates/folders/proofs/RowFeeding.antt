@@ -8,7 +8,7 @@ use Rattle.folders.specs.CutFeeds.{AreCutsJudged, IsCutVerdict, TakesCuts}
 use Rattle.hashtree.specs.Judging.{IsJudgedRow}
 use Rattle.hashtree.specs.PieceCheck.{IsFedRow, chosen_layer, given_hashes}
 use Rattle.hashtree.specs.Tree.{root_of}
-use Rattle.piece_marks.specs.Marks.{AreMarkedWhole}
+use Rattle.pieces.specs.Marks.{AreMarkedWhole}
 use Rattle.folders.specs.RowFeeds.{FeedsBits, IsFreshFeed}
 use Rattle.folders.specs.Rows.{EndsEarly, EndsRow}
 use Rattle.folders.specs.declared.row_feed.RowFeed.{RowFeed}

@@ -3,11 +3,9 @@ use Rattle.std.proofs.Common.{◌≡◌, List, ℕ, Option, Some, None, Result, 
 use Rattle.std.proofs.lemmas.Option.{same_Some}
 use Rattle.benc.specs.Device.{CountsFault, SourceSeen}
 use Rattle.benc.specs.declared.device.DeviceFault.{DeviceFault}
-use Rattle.folders.specs.Seeking.{from_offset}
-use Rattle.folders.specs.SeekVisits.{VisitsForAt}
 use Rattle.folders.specs.Shelf.{IsFound, more}
 use Rattle.folders.specs.Verdicts.{Agrees}
-use Rattle.folders.specs.Visits.{HandsBack, HandsOver, VisitsFor}
+use Rattle.folders.specs.Visits.{HandsBack, HandsOver, VisitsKnown}
 use Rattle.folders.specs.declared.shelf.Shelf.{Ghosts}
 
 same_content : (left : Option (List ℕ)) (bytes : List ℕ) (content : Option (List ℕ)) → Agrees left bytes → Some left ≡ option_map Some content
@@ -32,8 +30,8 @@ agrees_missing (Some content) found there is = none_of there (found ∙ ap (opti
 
 -- a file that was handed back was read in each way that its two sights show
 pub handed_as : {S F : Type 0} (shelf : Ghosts S F) (seen : F → SourceSeen) (IsRead IsReadToo : SourceSeen → SourceSeen → Type 0) (s : S)
-    (path : List (List ℕ)) (file : F) (s' : S) → (h : HandsBack shelf seen IsRead s path file s') → IsReadToo (seen file) (seen h.read)
-    → HandsBack shelf seen IsReadToo s path file s'
+    (path : List (List ℕ)) (file : F) (s' : S) → (h : HandsBack (shelf.opens s path) shelf.closes seen IsRead file s') → IsReadToo (seen file) (seen h.read)
+    → HandsBack (shelf.opens s path) shelf.closes seen IsReadToo file s'
 handed_as shelf seen IsRead IsReadToo s path file s' h how = record {
   between = h.between;
   opened = h.opened;
@@ -52,12 +50,13 @@ pub record WasOpened {S F : Type 0} (shelf : Ghosts S F) (seen : F → SourceSee
   pub counts : CountsFault (shelf.faults s) (shelf.faults between) opened
   pub opens : Opens opened between
 
-module _ {S F A : Type 0} (shelf : Ghosts S F) (seen : F → SourceSeen) (IsReadAs : A → SourceSeen → SourceSeen → Type 0) where
-  pub visited : (s between s' : S) (path : List (List ℕ)) (opened : Result (Option F) DeviceFault) (result : Result (Option A) DeviceFault)
-      → WasOpened shelf seen (shelf.opens s path) ((shelf.contents s).under path) s between opened
-      → HandsOver shelf seen IsReadAs between opened result s' → VisitsFor shelf seen IsReadAs s path result s'
-  visited s between s' path opened (Ok (Some answer)) was h =
-      let o = subst (WasOpened shelf seen (shelf.opens s path) ((shelf.contents s).under path) s between) h.is was in
+module _ {S F A : Type 0} (shelf : Ghosts S F) (seen : F → SourceSeen) (opens : Result (Option F) DeviceFault → S → Type 0)
+    (known : Option (Option (List ℕ))) (IsReadAs : A → SourceSeen → SourceSeen → Type 0) where
+  pub visited : (s between s' : S) (opened : Result (Option F) DeviceFault) (result : Result (Option A) DeviceFault)
+      → WasOpened shelf seen opens known s between opened → HandsOver shelf seen IsReadAs between opened result s'
+      → VisitsKnown shelf seen opens known IsReadAs s result s'
+  visited s between s' opened (Ok (Some answer)) was h =
+      let o = subst (WasOpened shelf seen opens known s between) h.is was in
       record {
         file = h.file;
         found = o.found;
@@ -65,30 +64,9 @@ module _ {S F A : Type 0} (shelf : Ghosts S F) (seen : F → SourceSeen) (IsRead
         handed = record { between = between; opened = o.opens; read = h.read; reading = h.reading; closed = h.closed };
         counted = h.counted ∙ ap (λ n. more n (seen h.read).faults) o.counts;
       }
-  visited s between s' path opened (Ok None) was h =
-      let o = subst (WasOpened shelf seen (shelf.opens s path) ((shelf.contents s).under path) s between) h.0 was in
-      (subst (shelf.opens s path (Ok None)) (sym h.1) o.opens, o.found, ap shelf.faults h.1 ∙ o.counts)
-  visited s between s' path opened (Err fault) was h =
-      let o = subst (WasOpened shelf seen (shelf.opens s path) ((shelf.contents s).under path) s between) h.0 was in
-      (subst (shelf.opens s path (Err fault)) (sym h.1) o.opens, ap shelf.faults h.1 ∙ o.counts)
-
-  module _ (opens_at : S → List (List ℕ) → ℕ → Result (Option F) DeviceFault → S → Type 0) where
-    pub visited_at : (s between s' : S) (path : List (List ℕ)) (offset : ℕ) (opened : Result (Option F) DeviceFault)
-        (result : Result (Option A) DeviceFault)
-        → WasOpened shelf seen (opens_at s path offset) (from_offset offset ((shelf.contents s).under path)) s between opened
-        → HandsOver shelf seen IsReadAs between opened result s' → VisitsForAt shelf opens_at seen IsReadAs s path offset result s'
-    visited_at s between s' path offset opened (Ok (Some answer)) was h =
-        let o = subst (WasOpened shelf seen (opens_at s path offset) (from_offset offset ((shelf.contents s).under path)) s between) h.is was in
-        record {
-          file = h.file;
-          found = o.found;
-          fresh = o.fresh;
-          handed = record { between = between; opened = o.opens; read = h.read; reading = h.reading; closed = h.closed };
-          counted = h.counted ∙ ap (λ n. more n (seen h.read).faults) o.counts;
-        }
-    visited_at s between s' path offset opened (Ok None) was h =
-        let o = subst (WasOpened shelf seen (opens_at s path offset) (from_offset offset ((shelf.contents s).under path)) s between) h.0 was in
-        (subst (opens_at s path offset (Ok None)) (sym h.1) o.opens, o.found, ap shelf.faults h.1 ∙ o.counts)
-    visited_at s between s' path offset opened (Err fault) was h =
-        let o = subst (WasOpened shelf seen (opens_at s path offset) (from_offset offset ((shelf.contents s).under path)) s between) h.0 was in
-        (subst (opens_at s path offset (Err fault)) (sym h.1) o.opens, ap shelf.faults h.1 ∙ o.counts)
+  visited s between s' opened (Ok None) was h =
+      let o = subst (WasOpened shelf seen opens known s between) h.0 was in
+      (subst (opens (Ok None)) (sym h.1) o.opens, o.found, ap shelf.faults h.1 ∙ o.counts)
+  visited s between s' opened (Err fault) was h =
+      let o = subst (WasOpened shelf seen opens known s between) h.0 was in
+      (subst (opens (Err fault)) (sym h.1) o.opens, ap shelf.faults h.1 ∙ o.counts)

@@ -8,7 +8,7 @@ use Rattle.hashtree.specs.Tree.{root_of}
 use Rattle.hashtree.specs.Bits.{AreClear}
 use Rattle.hashtree.specs.Judging.{IsJudgedRow}
 use Rattle.hashtree.specs.PieceCheck.{FeedsRow, IsFedRow, check_byte_count, chosen_layer, chosen_shape, given_hashes}
-use Rattle.piece_marks.specs.Marks.{AreMarkedWhole}
+use Rattle.pieces.specs.Marks.{AreMarkedWhole}
 use Rattle.folders.specs.CutFeeds.{AreCutsJudged, HasCutRoom, TakesCuts}
 use Rattle.folders.specs.declared.row_feed.RowFeed.{RowFeed}
 use Rattle.folders.specs.declared.row_feed.RowFound.{RowFound}

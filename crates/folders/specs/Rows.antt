@@ -4,7 +4,7 @@ use Rattle.hashtree.specs.Tree.{root_of}
 use Rattle.hashtree.specs.Judging.{IsJudgedRow}
 use Rattle.hashtree.specs.PieceCheck.{IsFedRow, chosen_layer, given_hashes}
 use Rattle.hashtree.specs.declared.piece_check.PieceCheck.{PieceCheck}
-use Rattle.piece_marks.specs.Marks.{AreMarkedWhole}
+use Rattle.pieces.specs.Marks.{AreMarkedWhole}
 
 -- the root and the first other place of whatever bytes the check was given, and their marks
 pub record EndsRow (c : PieceCheck) (marked root : List ℕ) (other : Option ℕ) (good : List ℕ)

@@ -10,8 +10,7 @@ ghost use Rattle.hashtree.specs.PieceCheck.{check_byte_count, chosen_layer, chos
 use crate::taking::{Consumer, take_exactly};
 use benc::{DeviceFault, Source};
 use hashtree::{Hash, PieceCheck};
-use piece_marks::ends_with_piece;
-use pieces::{V1, V1Feed};
+use pieces::{V1, V1Feed, ends_with_piece};
 use std::alloc::Global;
 use std::mem::replace;
 

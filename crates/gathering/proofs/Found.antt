@@ -1,32 +1,21 @@
--- What reading a source and visiting a path gave.
-use Rattle.std.proofs.Common.{◌≡◌, inr, ℕ, ◌+◌, ◌^◌, ◌<◌, ◌≤◌, Bool, List, ◌++◌, length, take, Some, None, Result, Ok, Err, refl, ◌∙◌, ap}
+-- What reading a source gave.
+use Rattle.std.proofs.Common.{◌≡◌, ℕ, ◌+◌, ◌^◌, ◌<◌, ◌≤◌, Bool, List, ◌++◌, length, take, Some, None, Ok, Err}
 use Rattle.std.proofs.Common.{arith}
 use Rattle.std.proofs.lemmas.List.{length-append, length-take}
 use Rattle.std.specs.Io.KnownBytes.{IsAtEnd}
-use Rattle.benc.specs.Device.{SourceSeen, one_more}
-use Rattle.folders.specs.Shelf.{more}
-use Rattle.folders.specs.TakeAll.{CountsReading, Fills, GaveMore, IsReadWithin, TookAll}
-use Rattle.folders.specs.Visits.{ReadsFound}
-use Rattle.folders.specs.declared.shelf.Shelf.{Ghosts}
-use Rattle.folders.specs.declared.taking.ReadFault.{ReadFault}
+use Rattle.benc.specs.Device.{SourceSeen}
+use Rattle.folders.specs.TakeAll.{Fills, GaveMore, IsReadWithin, TookAll}
 use Rattle.folders.specs.declared.taking.ReadFault.TheVariants as fault
 use Rattle.folders.proofs.Pieces.{all_given, longer_content}
-use Rattle.folders.proofs.Visiting.{agrees_opened, handed_as}
 use Rattle.wire.specs.Reading.{Gave}
 use Rattle.wire.proofs.Giving.{Gave-trans}
-use Rattle.gathering.specs.Batches.{ReadsFor, ReadsInto, VisitsInto, visit_of}
-use Rattle.gathering.specs.Gathering.{IsReadTo, Reads}
 use Rattle.gathering.specs.Hashing.{BeginsHashing, EndsWithHashes, Hashes, MayEndWithout}
 use Rattle.gathering.specs.HashingLaws.{hashed_both}
-use Rattle.gathering.specs.Reading.{FindsWholeContent, HasContent, ReadsFile}
-use Rattle.gathering.specs.declared.batch.FileBatch.{FileBatch}
+use Rattle.gathering.specs.Reading.{HasContent, ReadsFile}
 use Rattle.gathering.specs.declared.hashing.FileHashes.{FileHashes}
 use Rattle.gathering.specs.declared.hashing.Hashing.{Hashing}
-use Rattle.gathering.specs.declared.reading.FileRead.{FileRead}
-use Rattle.gathering.specs.declared.reading.FileRead.TheVariants as read
 use Rattle.gathering.specs.Collecting.{MayFinish}
 use Rattle.gathering.proofs.Digests.{found_whole, kept_digests, may_finish}
-use Rattle.std.specs.declared.alloc.AllocError.{AllocError}
 
 -- ---- a source
 
@@ -42,15 +31,6 @@ pub short_content : (old new : SourceSeen) (buffer : List ℕ) (count : ℕ) →
     → HasContent old new (take count buffer)
 short_content old new buffer count fills less most =
     given_whole old new (take count buffer) fills.gave (fills.ended less) (omega (arith, length-take count buffer, less, most))
-
--- what was found of a content that was read
-pub found_read : (piece_length : ℕ) (hybrid : Bool) (old new : SourceSeen) (content : List ℕ) (said : FileHashes) → HasContent old new content
-    → length content ≤ 2 ^ 46 → FindsWholeContent piece_length hybrid content (Ok said) → ReadsFile piece_length hybrid old new (Ok (Some said))
-found_read piece_length hybrid old new content said has short found = (content, has, short, found)
-
-pub kept_read : (piece_length : ℕ) (hybrid : Bool) (old new : SourceSeen) (content : List ℕ) (e : AllocError) → HasContent old new content
-    → length content ≤ 2 ^ 46 → FindsWholeContent piece_length hybrid content (Err e) → ReadsFile piece_length hybrid old new (Err fault.NoMemory)
-kept_read piece_length hybrid old new content e has short kept = (content, has, short, kept)
 
 module _ (piece_length : ℕ) (hybrid : Bool) (before mid new : SourceSeen) (first : List ℕ) (begun half after : Hashing) (bound : ℕ)
     (gave : Gave before mid first) (takes : Hashes begun first half) (whole : length first + bound ≡ 2 ^ 46) where
@@ -106,43 +86,3 @@ pub long_may_finish : (begun half after : Hashing) (first : List ℕ) → Hashes
 long_may_finish begun half after first takes some mid new bound count took =
     may_finish begun after (first ++ took.bytes) (hashed_both begun half after first took.bytes takes took.taken)
     (omega (arith, length-append first took.bytes, some))
-
--- ---- a shelf
-
-module _ {S F : Type 0} (shelf : Ghosts S F) (seen : F → SourceSeen) where
-  -- a file was read without a fault
-  reads : {A : Type 0} (IsReadAs : A → SourceSeen → SourceSeen → Type 0) (s : S) (path : List (List ℕ)) (answer : A) (s' : S) (content : List ℕ)
-      → (v : ReadsFound shelf seen IsReadAs s path answer s') → HasContent (seen v.file) (seen v.handed.read) content
-      → (seen v.handed.read).faults ≡ (seen v.file).faults → Reads shelf seen s path content s'
-  reads IsReadAs s path answer s' content v said quiet = record {
-    file = v.file;
-    handed = handed_as shelf seen (IsReadAs answer) (IsReadTo content) s path v.file s' v.handed said.read_to;
-    gave = said.agrees;
-    agrees = agrees_opened ((shelf.contents s).under path) (seen v.file).left content v.found said.agrees;
-    quiet = v.counted ∙ ap (more (shelf.faults s)) (quiet ∙ v.fresh);
-  }
-
-  read_so : (b b' : FileBatch) (s : S) (path : List (List ℕ)) (s' : S) (r : Result FileRead ReadFault)
-      → (v : ReadsFound shelf seen (ReadsInto b b') s path r s')
-      → ReadsFor b b' r (seen v.file) (seen v.handed.read) → CountsReading (seen v.file).faults (seen v.handed.read).faults r
-      → VisitsInto shelf seen b s path b' s' (visit_of r)
-  read_so b b' s path s' (Ok read.Held) v (content, is, holds) quiet =
-      (content, reads (ReadsInto b b') s path (Ok read.Held) s' content v is quiet, holds)
-  read_so b b' s path s' (Ok (read.Hashed (Some said))) v ((content, is, short, hashes), kept) quiet =
-      (content, reads (ReadsInto b b') s path (Ok (read.Hashed (Some said))) s' content v is quiet, (short, hashes), kept)
-  read_so b b' s path s' (Ok (read.Hashed None)) v ((content, is, long), kept) quiet =
-      (content, reads (ReadsInto b b') s path (Ok (read.Hashed None)) s' content v is quiet, (refl, long), kept)
-  read_so b b' s path s' (Err fault.Device) v (read_is, kept) counted = record {
-    counted = v.counted ∙ ap (more (shelf.faults s)) (counted ∙ ap one_more v.fresh);
-    failed = inr (
-      v.file,
-      handed_as shelf seen (ReadsInto b b' (Err fault.Device)) (IsReadWithin (2 ^ 46)) s path v.file s' v.handed read_is,
-    );
-  }
-  read_so b b' s path s' (Err fault.NoMemory) v ((content, is, short, digests), kept) quiet =
-      (content, reads (ReadsInto b b') s path (Err fault.NoMemory) s' content v is quiet, (short, digests), kept)
-
-  -- a file was read for this answer
-  pub visited : (b b' : FileBatch) (s : S) (path : List (List ℕ)) (s' : S) (r : Result FileRead ReadFault) → ReadsFound shelf seen (ReadsInto b b') s path r s'
-      → VisitsInto shelf seen b s path b' s' (visit_of r)
-  visited b b' s path s' r v = read_so b b' s path s' r v v.handed.reading.0 v.handed.reading.1

@@ -2,10 +2,10 @@
 pub mod Adding
 pub mod Digests
 pub mod Listed
+pub mod PassStops
+pub mod Passed
+pub mod ReadAlone
 pub mod Rows
-pub mod HeldFiles
-pub mod Added
-pub mod Batched
 pub mod Steps
 pub mod Stopped
 pub mod Found

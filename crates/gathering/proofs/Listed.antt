@@ -14,15 +14,14 @@ use Rattle.folders.specs.declared.shelf.Shelf.{Ghosts}
 use Rattle.benc.specs.Device.{SourceSeen}
 use Rattle.drafts.specs.Outline.{Outline}
 use Rattle.folders.specs.Shelf.{IsListed, Listing, ShelfContents, is_path, path_bytes}
-use Rattle.gathering.specs.Batches.{FaultsWith}
 use Rattle.gathering.specs.Gathering.{AreContentsUnder, FailsAt, FaultsAtPath, Gathers, GathersAll, HappensBefore, HasGathered, IsListedAs, IsSortedListing}
 use Rattle.gathering.specs.Gathering.{LacksMemoryAt, Misses, RefusesAt, StopsAtPath}
-use Rattle.gathering.specs.Steps.{AddsAll, DeclinesAt, StopsAdding, StopsVisiting}
+use Rattle.gathering.specs.Steps.{AddsAll, DeclinesAt, FaultsWith, StopsAdding, StopsVisiting}
 use Rattle.gathering.specs.Stopping.{at_path}
 use Rattle.gathering.specs.declared.file_fault.FileFault.{FileFault}
 use Rattle.gathering.specs.declared.file_fault.FileFault.TheVariants as why
 use Rattle.gathering.specs.declared.gather_fault.GatherFault.{GatherFault}
-use Rattle.gathering.specs.declared.all_files.StoppedAt.{StoppedAt}
+use Rattle.passes.specs.declared.stopped.Stopped.{Stopped}
 use Rattle.gathering.proofs.Steps.{item_of}
 use Rattle.pieces.specs.Pieces.{IsPieceLength}
 
@@ -116,7 +115,7 @@ module _ {S F : Type 0} (shelf : Ghosts S F) (seen : F → SourceSeen) (empty : 
       same_Some path (path_bytes v) (sym there ∙ item_of path_bytes sorted n v inside ∙ ap (λ w. Some (path_bytes w)) (sym is))
 
   -- a path was not added
-  added_at : (old base new : S) (sorted : Paths) (stop : StoppedAt) (v : Vec (String Global)) → IsPieceLength empty.piece_length
+  added_at : (old base new : S) (sorted : Paths) (stop : Stopped FileFault) (v : Vec (String Global)) → IsPieceLength empty.piece_length
       → IsListedAs shelf old (map path_bytes sorted) base → shelf.faults base ≡ shelf.faults old → shelf.contents base ≡ shelf.contents old
       → (stops : StopsAdding shelf seen empty base (map path_bytes sorted) new stop) → stops.path ≡ path_bytes v
       → (Why : Outline → S → List (List (List ℕ)) → Type 0) → Why stops.draft stops.mid (drop (stop.number + 1) (map path_bytes sorted))
@@ -134,7 +133,7 @@ module _ {S F : Type 0} (shelf : Ghosts S F) (seen : F → SourceSeen) (empty : 
     why = holds;
   }
 
-  not_added : (old base new : S) (sorted : Paths) (stop : StoppedAt) (v : Vec (String Global)) → IsPieceLength empty.piece_length
+  not_added : (old base new : S) (sorted : Paths) (stop : Stopped FileFault) (v : Vec (String Global)) → IsPieceLength empty.piece_length
       → IsListedAs shelf old (map path_bytes sorted) base → shelf.faults base ≡ shelf.faults old → shelf.contents base ≡ shelf.contents old
       → (stops : StopsAdding shelf seen empty base (map path_bytes sorted) new stop) → stops.path ≡ path_bytes v → (f : FileFault)
       → HappensBefore shelf seen (DeclinesAt shelf seen f stops.draft (path_bytes v) stops.mid) (drop (stop.number + 1) (map path_bytes sorted)) new
@@ -152,7 +151,7 @@ module _ {S F : Type 0} (shelf : Ghosts S F) (seen : F → SourceSeen) (empty : 
   not_added old base new sorted stop v legal listed quiet stays stops path why.Changed holds = absurd holds.why
 
   -- no file was read under a path
-  visited_at : (old base new : S) (sorted : Paths) (stop : StoppedAt) (v : Vec (String Global)) → IsPieceLength empty.piece_length
+  visited_at : (old base new : S) (sorted : Paths) (stop : Stopped FileFault) (v : Vec (String Global)) → IsPieceLength empty.piece_length
       → IsListedAs shelf old (map path_bytes sorted) base → shelf.faults base ≡ shelf.faults old → shelf.contents base ≡ shelf.contents old
       → (stops : StopsVisiting shelf seen empty base (map path_bytes sorted) new stop) → stops.path ≡ path_bytes v
       → (Why : S → Type 0) → Why stops.mid → FaultsAtPath shelf seen empty old (path_bytes v) Why
@@ -173,7 +172,7 @@ module _ {S F : Type 0} (shelf : Ghosts S F) (seen : F → SourceSeen) (empty : 
     why = holds;
   }
 
-  not_read : (old base new : S) (sorted : Paths) (stop : StoppedAt) (v : Vec (String Global)) → IsPieceLength empty.piece_length
+  not_read : (old base new : S) (sorted : Paths) (stop : Stopped FileFault) (v : Vec (String Global)) → IsPieceLength empty.piece_length
       → IsListedAs shelf old (map path_bytes sorted) base → shelf.faults base ≡ shelf.faults old → shelf.contents base ≡ shelf.contents old
       → (stops : StopsVisiting shelf seen empty base (map path_bytes sorted) new stop) → stops.path ≡ path_bytes v → (f : FileFault)
       → FaultsWith shelf seen f stops.mid (path_bytes v) new → Gathers shelf seen empty old new (Err (at_path f v))
@@ -184,25 +183,26 @@ module _ {S F : Type 0} (shelf : Ghosts S F) (seen : F → SourceSeen) (empty : 
   not_read old base new sorted stop v legal listed quiet stays stops path why.Changed holds =
       visited_at old base new sorted stop v legal listed quiet stays stops path (λ mid. Misses shelf seen mid (path_bytes v) new) holds
 
-  pub stopped_at : (old base new : S) (sorted : Paths) (stop : StoppedAt) (v : Vec (String Global)) (d : Outline) (said : GatherFault)
+  pub stopped_at : (old base new : S) (sorted : Paths) (stop : Stopped FileFault) (v : Vec (String Global)) (d : Outline) (said : GatherFault)
       → IsPieceLength empty.piece_length → IsListedAs shelf old (map path_bytes sorted) base → shelf.faults base ≡ shelf.faults old
       → shelf.contents base ≡ shelf.contents old → AddsAll shelf seen empty base (map path_bytes sorted) d new (Err stop) → v ≡ get_or sorted stop.number v
-      → said ≡ at_path stop.fault v → Gathers shelf seen empty old new (Err said)
+      → said ≡ at_path stop.stop v → Gathers shelf seen empty old new (Err said)
   stopped_at old base new sorted stop v d said legal listed quiet stays how is answer =
       subst (λ f. Gathers shelf seen empty old new (Err f)) (sym answer) (elim how [
         | inl stops ↦
             let path : stops.path ≡ path_bytes v = taken sorted stop.number stops.path v stops.there is in
-            not_added old base new sorted stop v legal listed quiet stays stops path stop.fault
-            (subst (λ p. HappensBefore shelf seen (DeclinesAt shelf seen stop.fault stops.draft p stops.mid)
+            not_added old base new sorted stop v legal listed quiet stays stops path stop.stop
+            (subst (λ p. HappensBefore shelf seen (DeclinesAt shelf seen stop.stop stops.draft p stops.mid)
             (drop (stop.number + 1) (map path_bytes sorted)) new) path stops.why)
         | inr stops ↦
             let path : stops.path ≡ path_bytes v = taken sorted stop.number stops.path v stops.there is in
-            not_read old base new sorted stop v legal listed quiet stays stops path stop.fault
-            (subst (λ p. FaultsWith shelf seen stop.fault stops.mid p new) path stops.why)
+            not_read old base new sorted stop v legal listed quiet stays stops path stop.stop
+            (subst (λ p. FaultsWith shelf seen stop.stop stops.mid p new) path stops.why)
       ])
 
   -- it stopped at a listed path
-  pub stop_inside : (base new : S) (paths : List (List (List ℕ))) (d : Outline) (stop : StoppedAt) → AddsAll shelf seen empty base paths d new (Err stop)
+  pub stop_inside : (base new : S) (paths : List (List (List ℕ))) (d : Outline) (stop : Stopped FileFault)
+      → AddsAll shelf seen empty base paths d new (Err stop)
       → stop.number < length paths
   stop_inside base new paths d stop how = elim how [
     | inl stops ↦ slice_get_within paths stop.number stops.path stops.there

@@ -1,19 +1,14 @@
 -- What visiting the paths of a shelf gave, and what was added to a draft. Public clauses do not
 -- name these.
-use Rattle.std.specs.Prelude.{◌≡◌, ◌⊎◌, ℕ, ◌+◌, ◌<◌, ◌≤◌, List, length, take, drop, slice_get, Option, Some, Result, Ok, Err}
+use Rattle.std.specs.Prelude.{◌≡◌, ◌⊎◌, ℕ, ◌+◌, ◌≤◌, List, length, take, drop, slice_get, Some, Result, Ok, Err}
 use Rattle.benc.specs.Device.{SourceSeen}
-use Rattle.chains.specs.Chain.{Chain}
 use Rattle.drafts.specs.Outline.{Outline}
 use Rattle.folders.specs.declared.shelf.Shelf.{Ghosts}
-use Rattle.gathering.specs.Adding.{AreBatch}
-use Rattle.gathering.specs.Batches.{FaultsWith, contents_of}
-use Rattle.gathering.specs.Gathering.{Gathers, GathersAll, HappensBefore, HasGathered, LacksMemoryAt, Reads, ReadsAhead, RefusesAt}
-use Rattle.gathering.specs.declared.all_files.StoppedAt.{StoppedAt}
-use Rattle.gathering.specs.declared.batch.FileBatch.{FileBatch}
+use Rattle.gathering.specs.Gathering.{FailsAt, Gathers, GathersAll, HappensBefore, HasGathered, LacksMemoryAt, Misses, Reads, ReadsAhead, RefusesAt}
 use Rattle.gathering.specs.declared.file_fault.FileFault.{FileFault}
 use Rattle.gathering.specs.declared.file_fault.FileFault.TheVariants as file
 use Rattle.gathering.specs.declared.gather_fault.GatherFault.{GatherFault}
-use Rattle.gathering.specs.declared.hashing.FileHashes.{FileHashes}
+use Rattle.passes.specs.declared.stopped.Stopped.{Stopped}
 
 -- no path has more components than this
 abbrev pub ArePathsWithin : List (List (List ℕ)) → ℕ → Type 0
@@ -26,34 +21,12 @@ module _ {S F : Type 0} (shelf : Ghosts S F) (seen : F → SourceSeen) where
     pub reads : Reads shelf seen s path content s'
     pub stays : shelf.contents s' ≡ shelf.contents s
 
-  -- files with these contents, at most 65, were read under the paths from this one on
-  pub record ReadsRow (s : S) (paths : List (List (List ℕ))) (from : ℕ) (contents : List (List ℕ))
-      (s' : S) : Type 0 where
-    pub few : length contents ≤ 65
-    pub inside : from + length contents ≤ length paths
-    pub run : Chain ReadsStill s (take (length contents) (drop from paths)) contents s'
-
-  -- this many files were read under the paths from this one on, and then this happened at the next
-  pub record StopsReading (s : S) (paths : List (List (List ℕ))) (from : ℕ) (s' : S)
-      (stop : StoppedAt) : Type 0 where
-    pub contents : List (List ℕ)
-    pub mid : S
-    pub row : ReadsRow s paths from contents mid
-    pub few : length contents ≤ 64
-    pub number_is : stop.number ≡ from + length contents
-    pub path : List (List ℕ)
-    pub there : slice_get paths stop.number ≡ Some path
-    pub why : FaultsWith shelf seen stop.fault mid path s'
-
-  -- the files under the paths from this one on were read into a batch, or why not all that were to
-  -- be
-  abbrev pub ReadsBatch : S → List (List (List ℕ)) → ℕ → FileBatch → S
-      → Result (Option (Result FileHashes FileFault)) StoppedAt → Type 0
-  ReadsBatch s paths from b s' (Ok last) =
-      (contents : List (List ℕ))
-      × AreBatch b.kind.now.piece_length b.kind.now.hybrid (contents_of b) last contents
-      × (0 < length contents) × ReadsRow s paths from contents s'
-  ReadsBatch s paths from b s' (Err stop) = StopsReading s paths from s' stop
+  -- no file was read under this path
+  abbrev pub FaultsWith : FileFault → S → List (List ℕ) → S → Type 0
+  FaultsWith (file.Refused r) s path s' = ⊥
+  FaultsWith file.Device s path s' = FailsAt shelf seen s path s'
+  FaultsWith file.NoMemory s path s' = ⊥
+  FaultsWith file.Changed s path s' = Misses shelf seen s path s'
 
   -- why the file under a path was not added to the draft d, once it was read
   abbrev pub DeclinesAt : FileFault → Outline → List (List ℕ) → S → S → Type 0
@@ -65,18 +38,18 @@ module _ {S F : Type 0} (shelf : Ghosts S F) (seen : F → SourceSeen) where
   -- the draft that was given is `empty`
   module _ (empty : Outline) where
     -- the first paths were added, and the draft did not take the next one
-    pub record StopsAdding (old : S) (paths : List (List (List ℕ))) (new : S) (stop : StoppedAt)
+    pub record StopsAdding (old : S) (paths : List (List (List ℕ))) (new : S) (stop : Stopped FileFault)
         : Type 0 where
       pub path : List (List ℕ)
       pub there : slice_get paths stop.number ≡ Some path
       pub draft : Outline
       pub mid : S
       pub before : HasGathered shelf seen empty old old (take stop.number paths) mid draft
-      pub why : HappensBefore shelf seen (DeclinesAt stop.fault draft path mid)
+      pub why : HappensBefore shelf seen (DeclinesAt stop.stop draft path mid)
           (drop (stop.number + 1) paths) new
 
     -- the first paths were added, some were read, and no file was read under the next one
-    pub record StopsVisiting (old : S) (paths : List (List (List ℕ))) (new : S) (stop : StoppedAt)
+    pub record StopsVisiting (old : S) (paths : List (List (List ℕ))) (new : S) (stop : Stopped FileFault)
         : Type 0 where
       pub path : List (List ℕ)
       pub there : slice_get paths stop.number ≡ Some path
@@ -87,10 +60,10 @@ module _ {S F : Type 0} (shelf : Ghosts S F) (seen : F → SourceSeen) where
       pub mid : S
       pub ahead : ReadsAhead shelf seen between (drop gathered paths) mid
       pub number_is : stop.number ≡ gathered + ahead.count
-      pub why : FaultsWith shelf seen stop.fault mid path new
+      pub why : FaultsWith stop.stop mid path new
 
     -- all paths were added, or it stopped at one
-    abbrev pub AddsAll : S → List (List (List ℕ)) → Outline → S → Result (Unit {0}) StoppedAt
+    abbrev pub AddsAll : S → List (List (List ℕ)) → Outline → S → Result (Unit {0}) (Stopped FileFault)
         → Type 0
     AddsAll old paths d new (Ok u) = HasGathered shelf seen empty old old paths new d
     AddsAll old paths d new (Err stop) =

@@ -1,9 +1,11 @@
 //! What kind of torrent is made.
-ghost use Rattle.std.specs.Prelude.{◌≡◌, SomeIff};
+ghost use Rattle.std.specs.Prelude.{◌≡◌, SomeIff, true};
 ghost use Rattle.opening.specs.PieceLayers.{piece_layer};
 ghost use Rattle.pieces.specs.Pieces.{IsPieceLength};
+ghost use Rattle.passes.specs.declared.cuts_wanted.CutsWanted.TheVariants as cuts;
 
 use hashtree::Shape;
+use passes::{CutsWanted, HeldFiles};
 use pieces::{PieceBuffer, PieceLength, fits_in_lanes};
 use std::alloc::Global;
 
@@ -43,6 +45,19 @@ impl TorrentKind {
         } else {
             PieceBuffer::of_blocks(alloc)
         }
+    }
+
+    /// What this many files are held in, to be hashed side by side.
+    pub(crate) fn held(&self, alloc: Global, files: usize) -> HeldFiles
+        ensures piece_length { result.cutting.piece_length ≡ self.now.piece_length }
+        ensures both { self.now.hybrid ≡ true → result.cutting.wanted ≡ cuts.Both }
+    {
+        let wanted = if self.hybrid {
+            CutsWanted::Both
+        } else {
+            CutsWanted::Nothing
+        };
+        HeldFiles::new(alloc, files, self.piece_length, wanted)
     }
 
     /// Whether its version 1 pieces are too long for that buffer. Then it helps to know how long a

@@ -5,50 +5,16 @@ ghost use Rattle.folders.specs.TakeAll.{CountsReading};
 ghost use Rattle.wire.specs.Reading.{Gave};
 ghost use Rattle.gathering.specs.Reading.{FindsWholeContent, ReadsFile};
 
-use crate::batch::FileBatch;
 use crate::hashing::{FileHashes, Hashing};
 use crate::kind::TorrentKind;
 use benc::Source;
-use folders::{Consumer, FileReader, ReadFault, fill, take_all};
+use folders::{Consumer, ReadFault, take_all};
 use hashtree::{MAX_LENGTH, NoMemory};
 use std::alloc::Global;
 
-/// What the reading of a file gave.
-#[derive(Drop)]
-pub(crate) enum FileRead {
-    /// It is held, to be hashed with others.
-    Held,
-    /// It was hashed alone: what a draft is given of it, or `None` above the greatest length.
-    Hashed(Option<FileHashes>),
-}
-
-// Reads a file to its end, or to one byte past the greatest length, and no further. It is held if
-// it ends within the buffer and there is room for it.
-impl<F: Source> FileReader<F, Result<FileRead, ReadFault>> for FileBatch<'_> {
-    ghost use Rattle.gathering.specs.Batches.{IsBatchSound, ReadsInto};
-
-    ghost may_read = { IsBatchSound };
-
-    ghost reads = { ReadsInto };
-
-    fn read(&mut self, file: &mut F, buffer: &mut [u8]) -> Result<FileRead, ReadFault> {
-        let most = buffer.len().min(MAX_LENGTH as usize);
-        let count = fill(file, &mut buffer[..most])?;
-        if count == most {
-            let hashes = hash_long(self.alloc, file, self.kind, self.expected, most, buffer)?;
-            return Ok(FileRead::Hashed(hashes));
-        }
-        if self.hold(&buffer[..count]) {
-            return Ok(FileRead::Held);
-        }
-        let hashes = hash_bytes(self.alloc, self.kind, &buffer[..count])?;
-        Ok(FileRead::Hashed(Some(hashes)))
-    }
-}
-
-// Hashes a file whose first bytes, this many, stand in the buffer; the others are read through it.
-// The file is expected to have this length, if one is known.
-fn hash_long<F: Source>(
+/// Hashes a file whose first bytes, this many, stand in the buffer; the others are read through it.
+/// The file is expected to have this length, if one is known.
+pub(crate) fn hash_long<F: Source>(
     alloc: Global,
     source: &mut F,
     kind: &TorrentKind,
@@ -71,8 +37,12 @@ fn hash_long<F: Source>(
     }
 }
 
-// Hashes the bytes of a whole file.
-fn hash_bytes(alloc: Global, kind: &TorrentKind, bytes: &[u8]) -> Result<FileHashes, NoMemory>
+/// Hashes the bytes of a whole file.
+pub(crate) fn hash_bytes(
+    alloc: Global,
+    kind: &TorrentKind,
+    bytes: &[u8],
+) -> Result<FileHashes, NoMemory>
     requires { length bytes.now ≤ 2 ^ 46 }
     ensures { FindsWholeContent kind.now.piece_length kind.now.hybrid bytes.now result }
 {

@@ -1,9 +1,9 @@
 //! Windows of version 1 pieces: the digests of cuts, and what a window has room for.
 ghost use Rattle.std.specs.Prelude.{◌≡◌, length};
-ghost use Rattle.cut_windows.specs.Windows.{AreCutsWithin, length_of_cuts};
+ghost use Rattle.file_windows.specs.Windows.{AreCutsWithin, length_of_cuts};
 
 use crate::random::Random;
-use cut_windows::CutWindow;
+use file_windows::CutWindow;
 use pieces::{V1Cuts, V1File};
 use sha1::Sha1;
 use std::alloc::Global;

@@ -3,9 +3,9 @@ ghost use Rattle.std.specs.Prelude.{map, string_bytes};
 ghost use Rattle.benc.specs.Device.{Wrote};
 ghost use Rattle.lines.specs.Table.{bad_pieces_row, bad_row, checked_row, extra_row};
 
+use crate::line_sink::RowSink;
 use crate::part::Part::{Number, OwnPath, Path, Start, Unprinted, Word};
 use crate::plain::{say_number, say_path, say_word};
-use crate::row_sink::RowSink;
 use benc::DeviceFault;
 
 /// A line of a check. Pieces are counted from 0.

@@ -4,8 +4,8 @@ ghost use Rattle.benc.specs.Device.{Wrote};
 ghost use Rattle.lines.specs.Rows.{number as number_item};
 ghost use Rattle.lines.specs.Table.{bad_frame_row, block_items, frame_row, refused_row, run_items};
 
+use crate::line_sink::RowSink;
 use crate::part::Part::{Code, Name, Number, Word};
-use crate::row_sink::RowSink;
 use benc::DeviceFault;
 
 /// Says a line that has the frame and the kind alone.

@@ -16,7 +16,6 @@ mod parted;
 mod plain;
 mod reading;
 mod refusal;
-mod row_sink;
 mod shown;
 mod string;
 mod text;

@@ -7,11 +7,10 @@ use crate::checked::{Checked, say_checked};
 use crate::frames::{
     Why, say_bad_frame, say_block, say_frame, say_of, say_refused, say_refused_at, say_run,
 };
-use crate::line_sink::LineSink;
+use crate::line_sink::{LineSink, RowSink};
 use crate::parted::{Parted, say_parted};
 use crate::plain::{say_name, say_number, say_path, say_word};
 use crate::refusal::{say_already_form_2, say_refusal};
-use crate::row_sink::RowSink;
 use crate::shown::{Shown, say_root, say_shown};
 use benc::{DeviceFault, WriteFault};
 use filetree::Refusal;

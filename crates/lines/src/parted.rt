@@ -4,9 +4,9 @@ ghost use Rattle.benc.specs.Device.{Wrote};
 ghost use Rattle.lines.specs.Rows.{item_of};
 ghost use Rattle.lines.specs.Table.{bad_part_row, part_items, part_row, parted_row};
 
+use crate::line_sink::RowSink;
 use crate::part::Part::{Number, Over, Sha256, Word};
 use crate::plain::say_word;
-use crate::row_sink::RowSink;
 use benc::DeviceFault;
 
 /// A line that the report of a part has alone. Parts are counted from 1.

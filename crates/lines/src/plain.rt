@@ -4,8 +4,8 @@ ghost use Rattle.benc.specs.Device.{Wrote};
 ghost use Rattle.lines.specs.Rows.{name as name_item, number as number_item};
 ghost use Rattle.lines.specs.Table.{path_item, plain_row};
 
+use crate::line_sink::RowSink;
 use crate::part::Part::{Name, Number, Path, Word};
-use crate::row_sink::RowSink;
 use benc::DeviceFault;
 
 /// Says a line that has its kind alone.

@@ -4,8 +4,8 @@ ghost use Rattle.benc.specs.Device.{Wrote};
 ghost use Rattle.lines.specs.Rows.{item_of};
 ghost use Rattle.lines.specs.Table.{already_form_2_row, detail_items, path_items, refusal_row};
 
+use crate::line_sink::RowSink;
 use crate::part::{Part, ROOM};
-use crate::row_sink::RowSink;
 use arrayvec::ArrayVec;
 use benc::DeviceFault;
 use filetree::Refusal;

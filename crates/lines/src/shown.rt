@@ -5,8 +5,8 @@ ghost use Rattle.benc.specs.Device.{Wrote};
 ghost use Rattle.lines.specs.Rows.{item_of, number as number_item};
 ghost use Rattle.lines.specs.Table.{file_row, hash_row, name_row, pieces_row, root_item, root_row, shown_row, titled_row, total_row};
 
+use crate::line_sink::RowSink;
 use crate::part::Part::{self, Number, Path, Sha1, Sha256, Text, Word};
-use crate::row_sink::RowSink;
 use benc::DeviceFault;
 
 /// A line of what a torrent holds. Sizes are given also as the text of an amount with a unit.

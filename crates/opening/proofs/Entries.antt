@@ -10,7 +10,7 @@ use Rattle.opening.specs.Description.{FileEntry}
 use Rattle.opening.specs.Seen.{file_entry}
 use Rattle.opening.specs.declared.torrent.File.{File}
 use Rattle.filetree.specs.FileTree.{has_attribute}
-use Rattle.filetree.proofs.Folders.{texts}
+use Rattle.filetree.proofs.Texts.{texts}
 use Rattle.opening.specs.Matching.{is_text, are_texts, is_sized, is_entry_of, begins_with_entry, are_same}
 
 pub items_more : (xs : List Value) (i : ℕ) (x : Value) → i < length xs → x ≡ get_or xs i x

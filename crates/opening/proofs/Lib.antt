@@ -8,7 +8,6 @@ pub mod EachTest
 pub mod Entries
 pub mod FirstUse
 pub mod Growing
-pub mod Handed
 pub mod Hybrids
 pub mod InStream
 pub mod KeyTests

@@ -3,7 +3,7 @@ pub mod SplicedBytes
 pub mod SplicedPieces
 pub mod Apart
 pub mod ApartTexts
-pub mod MarkedReadings
+pub mod RunsApart
 pub mod MarkedPieces
 pub mod MarkedReports
 pub mod MarkedTexts

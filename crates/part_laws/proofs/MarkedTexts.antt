@@ -1,9 +1,9 @@
 -- What a join of marked reports prints is what a check prints that tells of bad pieces.
 use Rattle.std.proofs.Common.{◌≡◌, ◌⊎◌, inl, inr, ℕ, zero, suc, ◌+◌, ◌<◌, ◌≤◌, Bool, true, false, List, [], ◌∷◌, ◌++◌, length, map, slice_get}
-use Rattle.std.proofs.Common.{Option, Some, refl, sym, ap, ◌∙◌, subst, unwrap_or, arith}
+use Rattle.std.proofs.Common.{Option, Some, option_map, refl, sym, ap, ◌∙◌, subst, unwrap_or, arith}
 use Rattle.std.specs.Prelude.{◌↔◌}
 use Rattle.std.proofs.lemmas.Grind.{flat_map-append}
-use Rattle.std.proofs.lemmas.Option.{none-some, same_Some, slice_get_within}
+use Rattle.std.proofs.lemmas.Option.{none-some, same_Some, slice_get-map, slice_get_within}
 use Rattle.chains.proofs.Cases.{item_at}
 use Rattle.lines.specs.Rows.{Row, spell}
 use Rattle.lines.specs.Texts.{text_of}
@@ -27,6 +27,7 @@ use Rattle.parts.specs.declared.telling.Telling.TheVariants as telling
 use Rattle.parts.proofs.HeldPieces.{piece_touches}
 use Rattle.parts.proofs.Runs.{same_runs}
 use Rattle.parts.proofs.Streams.{place_of_piece}
+use Rattle.part_reports.specs.Joined.{report_text_of}
 use Rattle.part_reports.specs.Lines.{MarkedPart, part_of}
 use Rattle.part_reports.specs.MarkedJoins.{AreJoinedAs}
 use Rattle.part_reports.specs.Marks.{IsPieceMarked}
@@ -34,6 +35,7 @@ use Rattle.part_reports.specs.WholeLines.{AreShown, IsNotBad, ShowsAll, whole_li
 use Rattle.part_reports.specs.declared.kind.Kind.TheVariants as kind
 use Rattle.part_reports.specs.declared.marked_report.MarkedReport.{MarkedReport}
 use Rattle.part_reports.proofs.MarkedFiles.{said_at, verdict_at}
+use Rattle.part_reports.proofs.Reports.{read_report}
 use Rattle.part_reports.proofs.RunMarks.{in_none}
 use Rattle.part_reports.proofs.TextReads.{part_at}
 use Rattle.part_laws.specs.MarkedTexts.{AreTrueMarkedReports, JoinPrintsTheCheck, JoinedRunsAreTheChecks, all_told}
@@ -70,12 +72,17 @@ has_content t r f content (file.Bad p) on is = (is.0, is.1)
 module _ (t : Description) (contents : Contents) (texts : List (List ℕ)) (joined : MarkedReport) (sound : IsSound t)
     (are : AreTrueMarkedReports t contents texts) (j : AreJoinedAs kind.Marked t texts joined)
   where
-    part_true : (i : ℕ) (m : MarkedPart) → slice_get j.parts i ≡ Some m → IsTrueMarked t contents m
-    part_true i m at = read_marked t contents texts i (length j.parts) m sound are (slice_get_within j.parts i m at) j.small (j.are i m at)
+    part_true : (i : ℕ) (m : MarkedPart) → slice_get j.verdicts.parts i ≡ Some m → IsTrueMarked t contents m
+    part_true i m at =
+        let v = j.verdicts in
+        let read = v.are i m at in
+        let said : List ℕ = report_text_of kind.Marked t i (length v.parts) m in
+        read_marked t contents said sound (are read.number said read.there) i (length v.parts)
+        (read_report kind.Marked t texts i (length v.parts) m (slice_get_within v.parts i m at) v.small read)
 
-    pub report_true : (i : ℕ) (p : PartReport) → slice_get (map part_of j.parts) i ≡ Some p → IsTruePart t contents p
+    pub report_true : (i : ℕ) (p : PartReport) → slice_get (map part_of j.verdicts.parts) i ≡ Some p → IsTruePart t contents p
     report_true i p at =
-        let m = part_at j.parts i p at in
+        let m = part_at j.verdicts.parts i p at in
         subst (IsTruePart t contents) m.2 (part_true i m.0 m.1).are_true
 
     -- ---- one file
@@ -94,7 +101,7 @@ module _ (t : Description) (contents : Contents) (texts : List (List ℕ)) (join
         says_it m x at = ap (λ o. unwrap_or o file.Good) (verdict_at m.marked n x at)
 
         content_is : (bytes : List ℕ) × (contents n ≡ Some bytes)
-        content_is = elim ((j.join.each n v said).one) [
+        content_is = elim ((j.verdicts.join.each n v said).one) [
           | inl best ↦ let no : false ≡ true = ap has_runs (sym best) ∙ on in (let x : ⊥ = cc in absurd x)
           | inr one ↦
               let p = report_true one.0 one.1 one.2 in
@@ -140,20 +147,16 @@ module _ (t : Description) (contents : Contents) (texts : List (List ℕ)) (join
               in_runs_bad by.part.places told.told.1 (has_runs told.told.0) runs_here (subst (IsInOne told.told.1) piece told.within.2) good
 
           -- the part that has it among its places tells of it, if it is bad
-          bad_told : (i : ℕ) (m : MarkedPart) → slice_get j.parts i ≡ Some m → Holds m.places (f.first_piece + k)
+          bad_told : (i : ℕ) (m : MarkedPart) → slice_get j.verdicts.parts i ≡ Some m → Holds m.places (f.first_piece + k)
               → (HasGoodPiece t f bytes k → ⊥) → IsPieceMarked joined.bad (f.first_piece + k)
           bad_told i m at held bad =
               let true_part = part_true i m at in
               let x = told_at m true_part in
               let verdict = true_part.are_true.each n f x.0.0 there (verdict_at m.marked n x.0 x.1) in
               by_verdict true_part x.0 x.1 verdict (good_or_runs x.0.0 v on (subst (λ w. NoWorse w v) (says_it m x.0 x.1)
-              ((j.join.each n v said).no_worse i (part_of m) (mapped j.parts i m at))))
+              ((j.verdicts.join.each n v said).no_worse i (part_of m)
+              (slice_get-map part_of j.verdicts.parts i ∙ ap (option_map part_of) at))))
             where
-              mapped : (parts : List MarkedPart) (i : ℕ) (m : MarkedPart) → slice_get parts i ≡ Some m → slice_get (map part_of parts) i ≡ Some (part_of m)
-              mapped [] i m at = absurd (none-some m at)
-              mapped (y ∷ parts) zero m at = ap (λ z. Some (part_of z)) (same_Some y m at)
-              mapped (y ∷ parts) (suc i) m at = mapped parts i m at
-
               told_in : (x : FileVerdict × List Run) → slice_get m.marked n ≡ Some x → IsInOne x.1 k → IsPieceMarked joined.bad (f.first_piece + k)
               told_in x x_at inside = (j.marks (f.first_piece + k)).1 (record {
                 number = i;
@@ -180,8 +183,8 @@ module _ (t : Description) (contents : Contents) (texts : List (List ℕ)) (join
             λ unmarked. elim (good_or_not t n f sound there k lt bytes) [
               | inl good ↦ good
               | inr bad ↦
-                  let place = j.all (f.first_piece + k) (place_of_piece t n f (f.first_piece + k) sound there (omega (arith, lt))) in
-                  let m = part_at j.parts place.0 place.1 place.2 in
+                  let place = j.verdicts.all (f.first_piece + k) (place_of_piece t n f (f.first_piece + k) sound there (omega (arith, lt))) in
+                  let m = part_at j.verdicts.parts place.0 place.1 place.2 in
                   absurd (unmarked (bad_told place.0 m.0 m.1 (subst (λ (p : PartReport). Holds p.places (f.first_piece + k)) (sym m.2) place.3) bad))
             ],
             λ good mark. marked_bad mark good,
@@ -276,8 +279,8 @@ all_tell t contents marked runs n f y there at =
     )
 
 pub join_prints : PartsMakeTheReport → JoinPrintsTheCheck
-join_prints law t contents texts joined marked sound are j shows = elim (law t contents (map part_of j.parts) joined.report.files.items joined.report.v1
-    sound j.all (report_true t contents texts joined sound are j) j.join) [
+join_prints law t contents texts joined marked sound are j shows = elim (law t contents (map part_of j.verdicts.parts) joined.report.files.items
+    joined.report.v1 sound j.verdicts.all (report_true t contents texts joined sound are j) j.verdicts.join) [
       | inr other ↦ inr other
       | inl report ↦ inl (record {
         report = report;

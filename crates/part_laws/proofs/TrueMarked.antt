@@ -18,7 +18,7 @@ use Rattle.part_reports.proofs.MarkedFiles.{verdict_at}
 use Rattle.part_reports.proofs.Texts.{can_report}
 use Rattle.part_laws.specs.MarkedTexts.{TrueMarkedPartsReport}
 use Rattle.part_laws.proofs.MarkedPieces.{good_piece, long_in, own_good}
-use Rattle.part_laws.proofs.MarkedReadings.{bad_within}
+use Rattle.part_laws.proofs.RunsApart.{bad_within}
 use Rattle.part_laws.proofs.SplicedBytes.{IsLong}
 
 -- ---- runs among places

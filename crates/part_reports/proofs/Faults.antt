@@ -1,6 +1,6 @@
 -- The reasons of the faults of a join.
 use Rattle.std.proofs.Common.{◌≡◌, ◌≢◌, ℕ, suc, ◌+◌, ◌<◌, ◌^◌, Bool, true, false, nat_eq, ◌||◌, List, [], zero}
-use Rattle.std.proofs.Common.{◌∷◌, ◌++◌, length, slice_get, Some, inl, inr, refl, sym, ap, subst, ◌∙◌, append-nil, arith}
+use Rattle.std.proofs.Common.{◌∷◌, ◌++◌, length, slice_get, Some, inl, inr, refl, sym, ap, ap₂, subst, ◌∙◌, append-nil, arith}
 use Rattle.std.specs.List.{list_any}
 use Rattle.std.proofs.lemmas.Bool.Decides.{nat_tests}
 use Rattle.std.proofs.lemmas.Option.{none-some, same_Some, slice_get_within}
@@ -8,55 +8,45 @@ use Rattle.chains.proofs.Cases.{item_at, or_right}
 use Rattle.opening.proofs.SoundTrees.{push_at}
 use Rattle.opening.specs.Description.{Description, FileEntry}
 use Rattle.folders.specs.declared.report.FileVerdict.{FileVerdict}
-use Rattle.parts.specs.MarkedLines.{verdicts_of}
-use Rattle.parts.specs.PartLines.{has_place}
-use Rattle.parts.specs.Runs.{Run}
+use Rattle.parts.specs.MarkedLines.{marked_place_rows, verdicts_of}
+use Rattle.parts.specs.PartLines.{has_place, held_rows, part_end_rows, place_rows}
+use Rattle.parts.specs.Runs.{Run, runs_rows}
 use Rattle.parts.specs.Shares.{share}
 use Rattle.parts.specs.declared.places.Places.{Places}
-use Rattle.part_reports.specs.ReadLines.{end_lines, held_line, lines_text, marked_head_text, marked_lines_text, report_head_text, runs_text}
+use Rattle.lines.specs.Rows.{Row, spell}
+use Rattle.lines.specs.Texts.{text_of}
 use Rattle.part_reports.specs.Heads.{HasHead, IsInfoHash, first_line}
-use Rattle.part_reports.specs.Lines.{CanReportMarked, MarkedPart, marked_rest}
-use Rattle.part_reports.specs.MarkedJoins.{report_text_of}
+use Rattle.part_reports.specs.Joined.{report_text_of}
+use Rattle.part_reports.specs.Lines.{MarkedPart, marked_rest}
+use Rattle.part_reports.specs.Marks.{CanMarkAll}
 use Rattle.part_reports.specs.Reasons.{AreAllReportsOf, AreNamed, HasHeadReason, HasReasonOf, IsReportMissing, IsReportOfKind, StopsBehind}
 use Rattle.part_reports.specs.declared.join_fault.JoinFault.{JoinFault}
 use Rattle.part_reports.specs.declared.join_fault.JoinFault.TheVariants as fault
 use Rattle.part_reports.specs.declared.kind.Kind.{Kind}
 use Rattle.part_reports.specs.declared.kind.Kind.TheVariants as kind
 use Rattle.part_reports.proofs.Heads.{one_hash, one_head}
-use Rattle.part_reports.proofs.LineTexts.{marked_is, plain_is}
-
--- the first lines of both kinds of reports are rows of the table of lines
-pub plain_head : (t : Description) (part count : ℕ) → report_head_text t part count ≡ first_line kind.Plain part count t.info_hash_v2
-plain_head t part count = refl
-
-pub marked_head : (t : Description) (part count : ℕ) → marked_head_text t part count ≡ first_line kind.Marked part count t.info_hash_v2
-marked_head t part count = refl
 
 -- without runs the lines are those of a plain report
-pub plain_lines : (t : Description) (r : Places) (marked : List (FileVerdict × List Run)) (fs : List FileEntry)
+plain_rows : (t : Description) (r : Places) (marked : List (FileVerdict × List Run)) (fs : List FileEntry)
     → ((n : ℕ) (f : FileEntry) (x : FileVerdict × List Run) → slice_get fs n ≡ Some f → slice_get marked n ≡ Some x → x.1 ≡ [])
-    → marked_lines_text t r marked fs ≡ lines_text t r (verdicts_of marked) fs
-plain_lines t r [] fs none = refl
-plain_lines t r (x ∷ marked) [] none = refl
-plain_lines t r (x ∷ marked) (f ∷ fs) none =
-    let line : List ℕ = held_line (has_place t r f) x.0 f in
-    ap (λ runs. (line ++ runs_text t f runs) ++ marked_lines_text t r marked fs) (none 0 f x refl refl)
-    ∙ ap (λ l. l ++ marked_lines_text t r marked fs) (append-nil line)
-    ∙ ap (λ l. line ++ l) (plain_lines t r marked fs (λ n g y there at. none (suc n) g y there at))
+    → marked_place_rows t r marked fs ≡ place_rows t r (verdicts_of marked) fs
+plain_rows t r [] fs none = refl
+plain_rows t r (x ∷ marked) [] none = refl
+plain_rows t r (x ∷ marked) (f ∷ fs) none =
+    let line : List Row = held_rows (has_place t r f) x.0 f in
+    ap₂ (λ rows more. rows ++ more) (ap (λ runs. line ++ runs_rows t f runs) (none 0 f x refl refl) ∙ append-nil line)
+    (plain_rows t r marked fs (λ n g y there at. none (suc n) g y there at))
 
 -- what was read of the lines is the text
-pub text_is : (k : Kind) (t : Description) (part count : ℕ) (m : MarkedPart) → m.places ≡ share t part count → CanReportMarked k t m
+pub text_is : (k : Kind) (t : Description) (part count : ℕ) (m : MarkedPart) → m.places ≡ share t part count
+    → CanMarkAll k t m.places t.files m.marked
     → first_line k part count t.info_hash_v2 ++ marked_rest t m ≡ report_text_of k t part count m
-text_is kind.Plain t part count m places can =
-    ap (λ line. line ++ marked_rest t m) (sym (plain_head t part count))
-    ∙ ap (λ l. report_head_text t part count ++ (l ++ end_lines (verdicts_of m.marked) m.v1))
-    (plain_lines t m.places m.marked t.files (λ n f x there at. can.marks n f x there at)
-    ∙ ap (λ r. lines_text t r (verdicts_of m.marked) t.files) places)
-    ∙ sym (plain_is t part count (verdicts_of m.marked) m.v1)
+text_is kind.Plain t part count m places none =
+    ap (λ rows. first_line kind.Plain part count t.info_hash_v2 ++ spell text_of (rows ++ part_end_rows (verdicts_of m.marked) m.v1))
+    (plain_rows t m.places m.marked t.files none ∙ ap (λ r. place_rows t r (verdicts_of m.marked) t.files) places)
 text_is kind.Marked t part count m places can =
-    ap (λ line. line ++ marked_rest t m) (sym (marked_head t part count))
-    ∙ ap (λ r. marked_head_text t part count ++ (marked_lines_text t r m.marked t.files ++ end_lines (verdicts_of m.marked) m.v1)) places
-    ∙ sym (marked_is t part count m.marked m.v1)
+    ap (λ r. first_line kind.Marked part count t.info_hash_v2
+    ++ spell text_of (marked_place_rows t r m.marked t.files ++ part_end_rows (verdicts_of m.marked) m.v1)) places
 
 -- the first line of a report
 pub head_of : (k : Kind) (t : Description) (part count : ℕ) (text : List ℕ) → IsReportOfKind k t part count text → HasHead k text part count t.info_hash_v2
@@ -64,7 +54,7 @@ head_of k t part count text r = record {
   there = r.there;
   small = r.small;
   more = marked_rest t r.said;
-  is = r.is ∙ sym (text_is k t part count r.said r.places r.can);
+  is = r.is ∙ sym (text_is k t part count r.said r.places r.can.marks);
 }
 
 -- a fault of a first line is one of the join

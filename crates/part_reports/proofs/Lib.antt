@@ -2,10 +2,9 @@
 pub mod Faults
 pub mod Fronts
 pub mod Heads
-pub mod LineTexts
 pub mod Listed
+pub mod MarkBits
 pub mod MarkedFiles
-pub mod MarkedRuns
 pub mod PassedFiles
 pub mod Readings
 pub mod Reports
@@ -13,6 +12,7 @@ pub mod Rooms
 pub mod RunLines
 pub mod RunMarks
 pub mod Said
+pub mod SameFiles
 pub mod SameLines
 pub mod SoFar
 pub mod TextReads

@@ -12,19 +12,20 @@ use Rattle.folders.specs.declared.report.FileVerdict.TheVariants as file
 use Rattle.parts.specs.Runs.{Run}
 use Rattle.parts.specs.Worse.{worse}
 use Rattle.parts.specs.declared.places.Places.{Places}
-use Rattle.part_reports.specs.ReadLines.{marked_line, marked_lines_text}
+use Rattle.parts.specs.MarkedLines.{marked_rows, marked_place_rows}
+use Rattle.lines.specs.Rows.{Row}
 
 -- ---- lines
 
 -- what is told of some files, and of those behind them
 pub split_marked : (t : Description) (r : Places) (xs ys : List (FileVerdict × List Run)) (fs : List FileEntry) → length xs ≤ length fs
-    → marked_lines_text t r (xs ++ ys) fs ≡ marked_lines_text t r xs fs ++ marked_lines_text t r ys (drop (length xs) fs)
+    → marked_place_rows t r (xs ++ ys) fs ≡ marked_place_rows t r xs fs ++ marked_place_rows t r ys (drop (length xs) fs)
 split_marked t r [] ys fs within = refl
 split_marked t r (x ∷ xs) ys [] within = absurd (omega (arith, within))
 split_marked t r (x ∷ xs) ys (f ∷ fs) within =
-    let one : List ℕ = marked_line t r f x.0 x.1 in
+    let one : List Row = marked_rows t r f x.0 x.1 in
     ap (λ l. one ++ l) (split_marked t r xs ys fs (omega (arith, within)))
-    ∙ sym (append_assoc one (marked_lines_text t r xs fs) (marked_lines_text t r ys (drop (length xs) fs)))
+    ∙ sym (append_assoc one (marked_place_rows t r xs fs) (marked_place_rows t r ys (drop (length xs) fs)))
 
 -- a good file without runs
 abbrev pub silent : FileVerdict × List Run

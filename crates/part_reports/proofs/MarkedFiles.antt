@@ -6,13 +6,16 @@ use Rattle.chains.proofs.Cases.{item_stays, pushed_at, pushed_last}
 use Rattle.opening.specs.Description.{Description, FileEntry}
 use Rattle.folders.specs.declared.report.FileVerdict.{FileVerdict}
 use Rattle.folders.specs.declared.report.FileVerdict.TheVariants as file
-use Rattle.parts.specs.MarkedLines.{verdicts_of}
-use Rattle.parts.specs.PartLines.{has_place}
-use Rattle.parts.specs.Runs.{Run}
+use Rattle.parts.specs.MarkedLines.{marked_place_rows, marked_rows, verdicts_of}
+use Rattle.parts.specs.PartLines.{has_place, held_rows}
+use Rattle.parts.specs.Parts.{piece_count}
+use Rattle.parts.specs.Runs.{Run, runs_rows}
 use Rattle.parts.specs.declared.places.Places.{Places}
-use Rattle.part_reports.specs.ReadLines.{file_verdict_text, held_line, marked_line, marked_lines_text, runs_text}
+use Rattle.folders.specs.Printed.{verdict_row}
+use Rattle.lines.specs.Rows.{spell}
+use Rattle.lines.specs.Texts.{text_of}
 use Rattle.part_reports.specs.Lines.{BeginsWithFile, HasLine, HasNoRun, HasRuns, IsSmall, ReadsFileLine, ReadsLine, ReadsRuns, TellsOfFile}
-use Rattle.part_reports.specs.Marks.{CanMark, IsInRuns, IsTold}
+use Rattle.part_reports.specs.Marks.{AreRunsWithin, CanMark, IsInRuns, IsTold}
 use Rattle.part_reports.specs.Reported.{CanSay}
 use Rattle.part_reports.specs.declared.marked_report.BadPieces.{BadPieces}
 use Rattle.part_reports.specs.declared.kind.Kind.{Kind}
@@ -20,7 +23,7 @@ use Rattle.part_reports.specs.declared.kind.Kind.TheVariants as kind
 use Rattle.part_reports.proofs.Listed.{silent}
 use Rattle.part_reports.proofs.RunLines.{verdict_no_run}
 use Rattle.part_reports.proofs.RunMarks.{in_none, marks_none}
-use Rattle.part_reports.proofs.SameLines.{same_line}
+use Rattle.part_reports.proofs.SameLines.{held_line, rows_then, same_line}
 
 -- ---- files without a place
 
@@ -49,46 +52,53 @@ off_silent k t r f x off can marks =
 
 held_same : (t : Description) (r : Places) (f : FileEntry) (v w : FileVerdict) (xs ys : List ℕ) (held : Bool) → has_place t r f ≡ held
     → IsSmall v → IsSmall w → CanSay t r f v → CanSay t r f w
-    → held_line (has_place t r f) v f ++ xs ≡ held_line (has_place t r f) w f ++ ys → (v ≡ w) × (xs ≡ ys)
+    → spell text_of (held_rows (has_place t r f) v f) ++ xs ≡ spell text_of (held_rows (has_place t r f) w f) ++ ys → (v ≡ w) × (xs ≡ ys)
 held_same t r f v w xs ys true on small short one other is =
-    same_line f v w xs ys small short (ap (λ b. held_line b v f ++ xs) (sym on) ∙ is ∙ ap (λ b. held_line b w f ++ ys) on)
+    same_line f v w xs ys small short (sym (held_line v f xs) ∙ ap (λ b. spell text_of (held_rows b v f) ++ xs) (sym on) ∙ is
+    ∙ ap (λ b. spell text_of (held_rows b w f) ++ ys) on ∙ held_line w f ys)
 held_same t r f v w xs ys false off small short one other is = (
   off_good t r f v off one ∙ sym (off_good t r f w off other),
-  ap (λ b. held_line b v f ++ xs) (sym off) ∙ is ∙ ap (λ b. held_line b w f ++ ys) off,
+  ap (λ b. spell text_of (held_rows b v f) ++ xs) (sym off) ∙ is ∙ ap (λ b. spell text_of (held_rows b w f) ++ ys) off,
 )
 
--- what can be told of these files, with small numbers
-abbrev pub CanBeTold : Kind → Description → Places → List FileEntry → List (FileVerdict × List Run) → Type 0
-CanBeTold k t r fs marked = (n : ℕ) (f : FileEntry) (x : FileVerdict × List Run) → slice_get fs n ≡ Some f → slice_get marked n ≡ Some x
-    → CanSay t r f x.0 × CanMark k t r f x.0 x.1 × IsSmall x.0
+-- the lines of a file in front of a text: of one that has a place, and of one that has none
+pub on_text : (t : Description) (r : Places) (f : FileEntry) (x : FileVerdict × List Run) (more : List ℕ) → has_place t r f ≡ true
+    → spell text_of (marked_rows t r f x.0 x.1) ++ more ≡ text_of (verdict_row x.0 f) ++ (spell text_of (runs_rows t f x.1) ++ more)
+on_text t r f x more on =
+    ap (λ b. spell text_of (held_rows b x.0 f ++ runs_rows t f x.1) ++ more) on
+    ∙ append_assoc (text_of (verdict_row x.0 f)) (spell text_of (runs_rows t f x.1)) more
 
--- the lines of files begin with no line of a run
-pub files_no_run : (k : Kind) (t : Description) (r : Places) (fs : List FileEntry) (marked : List (FileVerdict × List Run)) (end : List ℕ)
-    → CanBeTold k t r fs marked → HasNoRun end → HasNoRun (marked_lines_text t r marked fs ++ end)
-files_no_run k t r fs [] end can none = none
-files_no_run k t r [] (x ∷ marked) end can none = none
-files_no_run k t r (f ∷ fs) (x ∷ marked) end can none =
-    by_place (has_place t r f) refl (files_no_run k t r fs marked end (λ n g y there at. can (suc n) g y there at) none)
+pub off_text : (t : Description) (r : Places) (f : FileEntry) (x : FileVerdict × List Run) (more : List ℕ) → has_place t r f ≡ false → x.1 ≡ []
+    → spell text_of (marked_rows t r f x.0 x.1) ++ more ≡ more
+off_text t r f x more off none =
+    ap (λ b. spell text_of (held_rows b x.0 f ++ runs_rows t f x.1) ++ more) off ∙ ap (λ rs. spell text_of (runs_rows t f rs) ++ more) none
+
+-- what is told of a file that has a place in the part has small numbers, and of another there are no runs
+pub record IsClear (t : Description) (r : Places) (f : FileEntry) (x : FileVerdict × List Run) : Type 0 where
+  pub small : IsSmall x.0
+  pub off : has_place t r f ≡ false → x.1 ≡ []
+  pub runs : AreRunsWithin 0 (piece_count t f) x.1
+
+abbrev pub AreClear : Description → Places → List FileEntry → List (FileVerdict × List Run) → Type 0
+AreClear t r fs marked = (n : ℕ) (f : FileEntry) (x : FileVerdict × List Run) → slice_get fs n ≡ Some f → slice_get marked n ≡ Some x → IsClear t r f x
+
+-- so their lines begin with no line of a run
+pub files_no_run : (t : Description) (r : Places) (fs : List FileEntry) (marked : List (FileVerdict × List Run)) (end : List ℕ)
+    → AreClear t r fs marked → HasNoRun end → HasNoRun (spell text_of (marked_place_rows t r marked fs) ++ end)
+files_no_run t r fs [] end clear none = none
+files_no_run t r [] (x ∷ marked) end clear none = none
+files_no_run t r (f ∷ fs) (x ∷ marked) end clear none =
+    subst HasNoRun (sym (rows_then (marked_rows t r f x.0 x.1) (marked_place_rows t r marked fs) end))
+    (by_place (has_place t r f) refl (files_no_run t r fs marked end (λ n g y there at. clear (suc n) g y there at) none))
   where
-    later : List ℕ
-    later = marked_lines_text t r marked fs
+    more : List ℕ
+    more = spell text_of (marked_place_rows t r marked fs) ++ end
 
-    by_place : (held : Bool) → has_place t r f ≡ held → HasNoRun (later ++ end) → HasNoRun ((marked_line t r f x.0 x.1 ++ later) ++ end)
+    by_place : (held : Bool) → has_place t r f ≡ held → HasNoRun more → HasNoRun (spell text_of (marked_rows t r f x.0 x.1) ++ more)
     by_place true on rest =
-        let one = can 0 f x refl refl in
-        let behind : List ℕ = runs_text t f x.1 ++ (later ++ end) in
-        let is : (marked_line t r f x.0 x.1 ++ later) ++ end ≡ file_verdict_text x.0 f ++ behind =
-        ap (λ b. ((held_line b x.0 f ++ runs_text t f x.1) ++ later) ++ end) on
-        ∙ append_assoc (file_verdict_text x.0 f ++ runs_text t f x.1) later end
-        ∙ append_assoc (file_verdict_text x.0 f) (runs_text t f x.1) (later ++ end) in
-        subst HasNoRun (sym is) (verdict_no_run f x.0 behind one.2)
-    by_place false off rest =
-        let one = can 0 f x refl refl in
-        let none_told = off_silent k t r f x off one.0 one.1 in
-        let is : (marked_line t r f x.0 x.1 ++ later) ++ end ≡ later ++ end =
-        ap (λ y. (marked_line t r f y.0 y.1 ++ later) ++ end) none_told
-        ∙ ap (λ b. ((held_line b file.Good f ++ []) ++ later) ++ end) off in
-        subst HasNoRun (sym is) rest
+        subst HasNoRun (sym (on_text t r f x more on))
+        (verdict_no_run f x.0 (spell text_of (runs_rows t f x.1) ++ more) (clear 0 f x refl refl).small)
+    by_place false off rest = subst HasNoRun (sym (off_text t r f x more off ((clear 0 f x refl refl).off off))) rest
 
 -- ---- one file, read
 
@@ -97,20 +107,20 @@ pub line_of_file : (k : Kind) (t : Description) (r : Places) (f : FileEntry) (te
 line_of_file k t r f text has =
     let told = has.3 in (
       has.0,
-      runs_text t f has.1 ++ has.2,
+      spell text_of (runs_rows t f has.1) ++ has.2,
       record {
         can = told.can;
-        is = told.is ∙ append_assoc (held_line (has_place t r f) has.0 f) (runs_text t f has.1) has.2;
+        is = told.is ∙ rows_then (held_rows (has_place t r f) has.0 f) (runs_rows t f has.1) has.2;
       },
     )
 
 -- what another reading tells, behind the line that was read
 pub behind_line : (k : Kind) (t : Description) (r : Places) (f : FileEntry) (text : List ℕ) (v : FileVerdict) (rest : List ℕ) (w : FileVerdict)
     (others : List Run) (more : List ℕ) → IsSmall v → IsSmall w → ReadsLine t r f (has_place t r f) text v rest → TellsOfFile k t r f text w others more
-    → (v ≡ w) × (rest ≡ runs_text t f others ++ more)
+    → (v ≡ w) × (rest ≡ spell text_of (runs_rows t f others) ++ more)
 behind_line k t r f text v rest w others more small short line told =
-    held_same t r f v w rest (runs_text t f others ++ more) (has_place t r f) refl small short line.can told.can
-    (sym line.is ∙ told.is ∙ append_assoc (held_line (has_place t r f) w f) (runs_text t f others) more)
+    held_same t r f v w rest (spell text_of (runs_rows t f others) ++ more) (has_place t r f) refl small short line.can told.can
+    (sym line.is ∙ told.is ∙ rows_then (held_rows (has_place t r f) w f) (runs_rows t f others) more)
 
 -- a file of a report without runs was read
 pub plain_file : (t : Description) (r : Places) (f : FileEntry) (text : List ℕ) (v : FileVerdict) (rest : List ℕ) (bad : BadPieces)
@@ -120,11 +130,11 @@ plain_file t r f text v rest bad small line = record {
   runs = [];
   can = line.can;
   can_mark = refl;
-  is = line.is ∙ ap (λ l. l ++ rest) (sym (append-nil (held_line (has_place t r f) v f)));
+  is = line.is ∙ ap (λ rows. spell text_of rows ++ rest) (sym (append-nil (held_rows (has_place t r f) v f)));
   marks = marks_none (IsInRuns f []) bad (in_none f);
   only = λ w others more told.
       let same = behind_line kind.Plain t r f text v rest w others more (small v line.can) (small w told.can) line told in
-      (same.0, sym told.can_mark, same.1 ∙ ap (λ rs. runs_text t f rs ++ more) told.can_mark);
+      (same.0, sym told.can_mark, same.1 ∙ ap (λ rs. spell text_of (runs_rows t f rs) ++ more) told.can_mark);
 }
 
 -- nothing is read of a file without a place
@@ -134,14 +144,14 @@ off_file k t r f text bad off = record {
   runs = [];
   can = tt;
   can_mark = no_runs_of_good k t r f;
-  is = ap (λ b. (held_line b file.Good f ++ []) ++ text) (sym off);
+  is = ap (λ b. spell text_of (held_rows b file.Good f ++ []) ++ text) (sym off);
   marks = marks_none (IsInRuns f []) bad (in_none f);
   only = λ w others rest told.
       let none = off_silent k t r f (w, others) off told.can told.can_mark in (
         ap (λ (x : FileVerdict × List Run). x.0) (sym none),
         ap (λ (x : FileVerdict × List Run). x.1) (sym none),
-        told.is ∙ ap (λ (x : FileVerdict × List Run). marked_line t r f x.0 x.1 ++ rest) none
-            ∙ ap (λ b. (held_line b file.Good f ++ []) ++ rest) off,
+        told.is ∙ ap (λ (x : FileVerdict × List Run). spell text_of (marked_rows t r f x.0 x.1) ++ rest) none
+            ∙ ap (λ b. spell text_of (held_rows b file.Good f ++ []) ++ rest) off,
       );
 }
 
@@ -153,8 +163,8 @@ marked_file t r f text v rest more old new small line read = record {
   runs = read.runs;
   can = line.can;
   can_mark = read.can;
-  is = line.is ∙ ap (λ l. held_line (has_place t r f) v f ++ l) read.is
-      ∙ sym (append_assoc (held_line (has_place t r f) v f) (runs_text t f read.runs) more);
+  is = line.is ∙ ap (λ l. spell text_of (held_rows (has_place t r f) v f) ++ l) read.is
+      ∙ sym (rows_then (held_rows (has_place t r f) v f) (runs_rows t f read.runs) more);
   marks = read.marks;
   only = λ w others end told.
       let same = behind_line kind.Marked t r f text v rest w others end (small v line.can) (small w told.can) line told in

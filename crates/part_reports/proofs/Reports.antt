@@ -14,8 +14,9 @@ use Rattle.parts.specs.Joins.{IsJoin, IsWorst, NoWorse, NoWorseV1, says_of, says
 use Rattle.parts.specs.Laws.{WorseJoins, WorseJoinsV1}
 use Rattle.parts.specs.Parts.{PartReport}
 use Rattle.parts.specs.Worse.{worse, worse_v1}
+use Rattle.part_reports.specs.Joined.{AreReadAs, IsReadAs, IsTextAs, report_text_of}
 use Rattle.part_reports.specs.Lines.{JoinsMore, MarkedPart}
-use Rattle.part_reports.specs.MarkedJoins.{AreMarksOf, AreReadAs, IsReadAs, IsTextAs, report_text_of}
+use Rattle.part_reports.specs.MarkedJoins.{AreMarksOf}
 use Rattle.part_reports.specs.Marks.{IsPieceMarked, IsTold, MarksMore}
 use Rattle.part_reports.specs.Reasons.{AreNamed, IsReportOfKind}
 use Rattle.part_reports.proofs.Faults.{head_of}
@@ -77,7 +78,7 @@ text_there texts i other text within is =
     ∙ ap Some is
 
 -- the report of a part, which was read, is one
-pub read_report : (k : Kind) (t : Description) (texts : List (List ℕ)) (part count : ℕ) (p : MarkedPart) → part < count → count < 2 ^ 64
+abbrev pub read_report : (k : Kind) (t : Description) (texts : List (List ℕ)) (part count : ℕ) (p : MarkedPart) → part < count → count < 2 ^ 64
     → IsReadAs k t texts part count p → IsReportOfKind k t part count (report_text_of k t part count p)
 read_report k t texts part count p there small read = record {
   there = there;

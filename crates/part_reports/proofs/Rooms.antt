@@ -21,7 +21,7 @@ room_for_file k t n f pieces bad sound there count room =
     less_room k (f.first_piece + piece_count t f) pieces bad (omega (arith, end.1, sound.laid_out.first_pieces n f there, count)) room
 
 -- as many marks give as much room
-pub room_stays : (k : Kind) (pieces : ℕ) (old new : BadPieces) → length new.marks.items ≡ length old.marks.items → HasMarkRoom k pieces old
+pub room_stays : (k : Kind) (pieces : ℕ) (old new : BadPieces) → length new.bits.items ≡ length old.bits.items → HasMarkRoom k pieces old
     → HasMarkRoom k pieces new
 room_stays kind.Plain pieces old new same room = tt
 room_stays kind.Marked pieces old new same room = omega (arith, same, room)

@@ -6,7 +6,7 @@ use Rattle.std.specs.List.{prefix_len}
 use Rattle.std.proofs.lemmas.Bool.Decides.{nat_tests}
 use Rattle.std.proofs.lemmas.Fmt.{decimal_is_IsNumeral}
 use Rattle.std.proofs.lemmas.Option.{none-some, same_Some}
-use Rattle.lines.specs.Texts.{items_text}
+use Rattle.lines.specs.Texts.{items_text, text_of}
 use Rattle.opening.specs.Description.{Description, FileEntry}
 use Rattle.opening.specs.Sound.{IsSound}
 use Rattle.folders.specs.Verdicts.{IsFileOf}
@@ -15,12 +15,14 @@ use Rattle.folders.specs.declared.report.FileVerdict.TheVariants as file
 use Rattle.folders.specs.declared.report.V1Verdict.{V1Verdict}
 use Rattle.folders.specs.declared.report.V1Verdict.TheVariants as version1
 use Rattle.parts.specs.Parts.{piece_count}
-use Rattle.parts.specs.Runs.{Run}
+use Rattle.parts.specs.Runs.{Run, run_row, runs_rows}
 use Rattle.parts.proofs.GoodPieces.{piece_fits}
 use Rattle.parts.specs.Spans.{end_in, first_in}
 use Rattle.parts.specs.Telling.{has_runs}
 use Rattle.parts.specs.declared.places.Places.{Places}
-use Rattle.part_reports.specs.ReadLines.{answer_line, file_verdict_text, run_text, runs_text, stream_words}
+use Rattle.folders.specs.Printed.{verdict_row, version1_rows}
+use Rattle.parts.specs.PartLines.{part_answer_row}
+use Rattle.lines.specs.Rows.{spell}
 use Rattle.part_reports.specs.Lines.{HasNoRun, HasRuns, IsSmall, ReadsRuns}
 use Rattle.part_reports.specs.Marks.{AreRunsWithin, BeginsAtBad, CanTell, IsInRuns}
 use Rattle.part_reports.specs.RunLines.{BeginsRightly, HasOneRun, IsRunWithin, ReadsAll}
@@ -37,7 +39,7 @@ abbrev pub behind_numbers : Description → FileEntry → Run → List ℕ → L
 behind_numbers t f r more =
     codes "bytes " ++ (decimal (t.piece_length * r.first) ++ 45 ∷ (decimal (min (t.piece_length * (r.last + 1)) f.length - 1) ++ 10 ∷ more))
 
-pub run_front : (t : Description) (f : FileEntry) (r : Run) (more : List ℕ) → run_text t f r ++ more
+pub run_front : (t : Description) (f : FileEntry) (r : Run) (more : List ℕ) → text_of (run_row t f r) ++ more
     ≡ codes "bad pieces " ++ (decimal (f.first_piece + r.first) ++ 32 ∷ (decimal (f.first_piece + r.last) ++ 32 ∷ behind_numbers t f r more))
 unfolding items_text
 run_front t f r more = simp append_assoc refl
@@ -56,7 +58,7 @@ small_run t f at to r sound file le within =
 
 -- two lines of runs in front of one text are one
 pub one_run : (t : Description) (f : FileEntry) (at to : ℕ) (r s : Run) (xs ys : List ℕ) → IsSound t → IsFileOf t f → to ≤ piece_count t f
-    → IsRunWithin at to r → IsRunWithin at to s → run_text t f r ++ xs ≡ run_text t f s ++ ys → (r ≡ s) × (xs ≡ ys)
+    → IsRunWithin at to r → IsRunWithin at to s → text_of (run_row t f r) ++ xs ≡ text_of (run_row t f s) ++ ys → (r ≡ s) × (xs ≡ ys)
 one_run t f at to r s xs ys sound file le one other is =
     let small = small_run t f at to r sound file le one in
     let short = small_run t f at to s sound file le other in
@@ -65,7 +67,7 @@ one_run t f at to r s xs ys sound file le one other is =
     let rest = same_rest (32 ∷ []) _ _ first.1 in
     let last = one_number (f.first_piece + r.last) (f.first_piece + s.last) 32 32 _ _ small.1 short.1 refl refl rest in
     let same = same_run r s (omega (arith, first.0)) (omega (arith, last.0)) in
-    (same, same_rest (run_text t f s) xs ys (ap (λ x. run_text t f x ++ xs) (sym same) ∙ is))
+    (same, same_rest (text_of (run_row t f s)) xs ys (ap (λ x. text_of (run_row t f x) ++ xs) (sym same) ∙ is))
 
 pub same_number : (a b : ℕ) → IsTrue (nat_eq a b) → a ≡ b
 same_number a b is = grind (arith, nat_tests, is)
@@ -115,63 +117,75 @@ pub next_push : (at : ℕ) (rs : List Run) (r : Run) → next_piece at (rs ++ r 
 next_push at [] r = refl
 next_push at (x ∷ rs) r = next_push (x.last + 2) rs r
 
+-- the line of the first of several, in front of the others
+runs_front : (t : Description) (f : FileEntry) (r : Run) (rs : List Run) (more : List ℕ)
+    → spell text_of (runs_rows t f (r ∷ rs)) ++ more ≡ text_of (run_row t f r) ++ (spell text_of (runs_rows t f rs) ++ more)
+runs_front t f r rs more = append_assoc (text_of (run_row t f r)) (spell text_of (runs_rows t f rs)) more
+
 -- the first of several
 pub first_within : (at to : ℕ) (r : Run) (rs : List Run) → AreRunsWithin at to (r ∷ rs) → IsRunWithin at to r
 first_within at to r rs are = record { low = are.0; order = are.1; inside = are.2 }
 
+-- runs among fewer pieces
+pub wider : (from to count : ℕ) (runs : List Run) → to ≤ count → AreRunsWithin from to runs → AreRunsWithin 0 count runs
+wider from to count runs le are = ahead from 0 runs (omega arith) are
+  where
+    ahead : (from at : ℕ) (runs : List Run) → at ≤ from → AreRunsWithin from to runs → AreRunsWithin at count runs
+    ahead from at [] low are = tt
+    ahead from at (r ∷ rs) low are =
+        (omega (arith, low, are.0), are.1, omega (arith, are.2, le), ahead (r.last + 2) (r.last + 2) rs (omega arith) are.3)
+
 -- runs that were read as long as there was one are all runs
 pub greedy : (t : Description) (f : FileEntry) (at to : ℕ) (done others : List Run) (rest more : List ℕ) → IsSound t → IsFileOf t f
-    → to ≤ piece_count t f → AreRunsWithin at to done → AreRunsWithin at to others → runs_text t f done ++ rest ≡ runs_text t f others ++ more
-    → HasNoRun more → (HasOneRun t f (next_piece at done) to rest → ⊥) → (done ≡ others) × (rest ≡ more)
+    → to ≤ piece_count t f → AreRunsWithin at to done → AreRunsWithin at to others
+    → spell text_of (runs_rows t f done) ++ rest ≡ spell text_of (runs_rows t f others) ++ more → HasNoRun more
+    → (HasOneRun t f (next_piece at done) to rest → ⊥) → (done ≡ others) × (rest ≡ more)
 greedy t f at to [] [] rest more sound file le are other is ends none = (refl, is)
 greedy t f at to [] (s ∷ ss) rest more sound file le are other is ends none =
-    absurd (none (s, first_within at to s ss other, (runs_text t f ss ++ more, is ∙ append_assoc (run_text t f s) (runs_text t f ss) more)))
+    absurd (none (s, first_within at to s ss other, (_, is ∙ runs_front t f s ss more)))
 greedy t f at to (r ∷ rs) [] rest more sound file le are other is ends none =
-    let later : List ℕ = runs_text t f rs ++ rest in
-    absurd (ends (_, sym is ∙ append_assoc (run_text t f r) (runs_text t f rs) rest ∙ run_front t f r later))
+    absurd (ends (_, sym is ∙ runs_front t f r rs rest ∙ run_front t f r _))
 greedy t f at to (r ∷ rs) (s ∷ ss) rest more sound file le are other is ends none =
-    let one = one_run t f at to r s (runs_text t f rs ++ rest) (runs_text t f ss ++ more) sound file le (first_within at to r rs are)
-    (first_within at to s ss other)
-    (sym (append_assoc (run_text t f r) (runs_text t f rs) rest) ∙ is ∙ append_assoc (run_text t f s) (runs_text t f ss) more) in
+    let one = one_run t f at to r s _ _ sound file le (first_within at to r rs are) (first_within at to s ss other)
+    (sym (runs_front t f r rs rest) ∙ is ∙ runs_front t f s ss more) in
     let later = greedy t f (r.last + 2) to rs ss rest more sound file le are.3
     (subst (λ (x : Run). AreRunsWithin (x.last + 2) to ss) (sym one.0) other.3) one.1 ends none in
     (ap₂ (λ x xs. x ∷ xs) one.0 later.0, later.1)
 
 -- no run was read if none stands at the front
 pub stopped : (t : Description) (f : FileEntry) (from to at : ℕ) (runs : List Run) (text rest : List ℕ) → at ≡ next_piece from runs
-    → text ≡ runs_text t f runs ++ rest → (HasOneRun t f at to rest → ⊥) → runs ≡ [] → HasOneRun t f from to text → ⊥
+    → text ≡ spell text_of (runs_rows t f runs) ++ rest → (HasOneRun t f at to rest → ⊥) → runs ≡ [] → HasOneRun t f from to text → ⊥
 stopped t f from to at runs text rest at_is is none empty has =
     let here : at ≡ from = at_is ∙ ap (next_piece from) empty in
-    let all : text ≡ rest = is ∙ ap (λ rs. runs_text t f rs ++ rest) empty in
+    let all : text ≡ rest = is ∙ ap (λ rs. spell text_of (runs_rows t f rs) ++ rest) empty in
     none (subst (λ n. HasOneRun t f n to rest) (sym here) (subst (HasOneRun t f from to) all has))
 
 -- the runs begin rightly if their lines do
 pub rightly : (t : Description) (f : FileEntry) (from to : ℕ) (v : FileVerdict) (runs : List Run) (text more : List ℕ) → AreRunsWithin from to runs
-    → BeginsAtBad f v runs → text ≡ runs_text t f runs ++ more → BeginsRightly t f from to v text
+    → BeginsAtBad f v runs → text ≡ spell text_of (runs_rows t f runs) ++ more → BeginsRightly t f from to v text
 rightly t f from to (file.Bad p) [] text more are begins is = absurd (none-some begins.0 begins.1)
 rightly t f from to (file.Bad p) (r ∷ rs) text more are begins is = (
   r,
   first_within from to r rs are,
   ap (λ (x : Run). f.first_piece + x.first) (same_Some r begins.0 begins.1) ∙ begins.2,
-  (runs_text t f rs ++ more, is ∙ append_assoc (run_text t f r) (runs_text t f rs) more),
+  (_, is ∙ runs_front t f r rs more),
 )
 rightly t f from to v runs text more are begins is = tt
 
 pub begins_at : (t : Description) (f : FileEntry) (from to : ℕ) (v : FileVerdict) (runs : List Run) (text more : List ℕ) → IsSound t → IsFileOf t f
-    → to ≤ piece_count t f → AreRunsWithin from to runs → (runs ≡ [] → HasOneRun t f from to text → ⊥) → text ≡ runs_text t f runs ++ more
-    → BeginsRightly t f from to v text → BeginsAtBad f v runs
+    → to ≤ piece_count t f → AreRunsWithin from to runs → (runs ≡ [] → HasOneRun t f from to text → ⊥)
+    → text ≡ spell text_of (runs_rows t f runs) ++ more → BeginsRightly t f from to v text → BeginsAtBad f v runs
 begins_at t f from to (file.Bad p) [] text more sound own le are some is begins = absurd (some refl (begins.0, begins.1, begins.3))
 begins_at t f from to (file.Bad p) (r ∷ rs) text more sound own le are some is begins =
     let other = begins.3 in
-    let later : List ℕ = runs_text t f rs ++ more in
-    let same = one_run t f from to r begins.0 later other.0 sound own le (first_within from to r rs are) begins.1
-    (sym (append_assoc (run_text t f r) (runs_text t f rs) more) ∙ sym is ∙ other.1) in
+    let same = one_run t f from to r begins.0 _ other.0 sound own le (first_within from to r rs are) begins.1
+    (sym (runs_front t f r rs more) ∙ sym is ∙ other.1) in
     (r, refl, ap (λ (x : Run). f.first_piece + x.first) same.0 ∙ begins.2)
 begins_at t f from to v runs text more sound own le are some is begins = tt
 
 -- ---- what begins with no line of a run
 
-pub verdict_no_run : (f : FileEntry) (v : FileVerdict) (xs : List ℕ) → IsSmall v → HasNoRun (file_verdict_text v f ++ xs)
+pub verdict_no_run : (f : FileEntry) (v : FileVerdict) (xs : List ℕ) → IsSmall v → HasNoRun (text_of (verdict_row v f) ++ xs)
 unfolding items_text
 verdict_no_run f (file.Bad p) xs small begins =
     let behind = same_rest (codes "bad ") _ (codes "pieces " ++ begins.0) (sym (bad_line p f xs) ∙ begins.1) in
@@ -179,7 +193,7 @@ verdict_no_run f (file.Bad p) xs small begins =
     omega (arith, len, (decimal_is_IsNumeral p small).0.0)
 verdict_no_run f v xs small begins = omega (arith, ap (λ l. get_or l 0 0) begins.1)
 
-pub end_no_run : (v1 : Option V1Verdict) (answer : Bool) → HasNoRun (stream_words v1 ++ answer_line answer)
+pub end_no_run : (v1 : Option V1Verdict) (answer : Bool) → HasNoRun (spell text_of (version1_rows v1 ++ part_answer_row answer ∷ []))
 unfolding items_text
 end_no_run None true begins = omega (arith, ap (λ l. get_or l 0 0) begins.1)
 end_no_run None false begins = omega (arith, ap (λ l. get_or l 0 0) begins.1)
@@ -197,7 +211,7 @@ no_runs_read t r f v text bad off = record {
   marks = marks_none (IsInRuns f []) bad (in_none f);
   only = λ others rest told.
       let none : others ≡ [] = subst (λ b. CanTell t r f v b others) off told.can in
-      (sym none, told.is ∙ ap (λ rs. runs_text t f rs ++ rest) none);
+      (sym none, told.is ∙ ap (λ rs. spell text_of (runs_rows t f rs) ++ rest) none);
 }
 
 -- these are the file's pieces among the places

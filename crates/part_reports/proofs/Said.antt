@@ -9,7 +9,10 @@ use Rattle.folders.specs.declared.report.V1Verdict.TheVariants as version1
 use Rattle.opening.specs.Description.{Description}
 use Rattle.parts.specs.Parts.{place_count}
 use Rattle.parts.specs.declared.places.Places.{Places}
-use Rattle.part_reports.specs.ReadLines.{answer_line, stream_words}
+use Rattle.folders.specs.Printed.{version1_rows}
+use Rattle.parts.specs.PartLines.{part_answer_row}
+use Rattle.lines.specs.Rows.{spell}
+use Rattle.lines.specs.Texts.{text_of}
 use Rattle.part_reports.specs.Lines.{HasEnd, IsSmallV1, SaysEnd}
 use Rattle.part_reports.specs.Reported.{CanSayV1}
 
@@ -67,10 +70,10 @@ small_said r pieces v few can = tt
 -- what another end says of the version 1 pieces is what was read of them
 pub same_said_v1 : (t : Description) (r : Places) (pieces : ℕ) (worst : FileVerdict) (text : List ℕ) (v1 : Option V1Verdict) → pieces + 1 ≡ place_count t
     → pieces < 2 ^ 64
-    → ((w : Option V1Verdict) (more : List ℕ) → is_some w ≡ is_some t.v1 → ((v : V1Verdict) → w ≡ Some v → IsSmallV1 v) → text ≡ stream_words w ++ more
-    → v1 ≡ w)
+    → ((w : Option V1Verdict) (more : List ℕ) → is_some w ≡ is_some t.v1 → ((v : V1Verdict) → w ≡ Some v → IsSmallV1 v)
+    → text ≡ spell text_of (version1_rows w) ++ more → v1 ≡ w)
     → (end : HasEnd t r worst text) → v1 ≡ end.0
 same_said_v1 t r pieces worst text v1 count few whole end =
     let pieces_is : place_count t - 1 ≡ pieces = omega (arith, count) in
-    whole end.0 (answer_line (is_good worst && stream_is_good end.0)) end.1.hybrid
+    whole end.0 (text_of (part_answer_row (is_good worst && stream_is_good end.0))) end.1.hybrid
     (λ v is. small_said r pieces v few (subst (λ n. CanSayV1 r n v) pieces_is (end.1.says v is).0)) end.1.is

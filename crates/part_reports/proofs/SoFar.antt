@@ -1,8 +1,9 @@
 -- The lines of a part's files, read and joined up to some file.
 use Rattle.std.proofs.Common.{◌≡◌, ℕ, zero, suc, ◌+◌, ◌<◌, ◌≤◌, ◌&&◌, List, [], ◌∷◌}
 use Rattle.std.proofs.Common.{◌++◌, length, take, drop, set, slice_get}
-use Rattle.std.proofs.Common.{Option, Some, is_some, inl, inr, refl, sym, ap, ap₂, ◌∙◌, subst, append_assoc, append-nil, arith}
+use Rattle.std.proofs.Common.{Option, Some, is_some, inl, inr, refl, sym, ap, ap₂, ◌∙◌, subst, append-nil, arith}
 use Rattle.std.specs.List.{list_all}
+use Rattle.std.proofs.lemmas.Grind.{flat_map-append}
 use Rattle.std.proofs.lemmas.List.{drop_all, drop_more, length-append, length-map, length-set, map-append}
 use Rattle.std.proofs.lemmas.List.{set-get_or, take_all, take_more}
 use Rattle.std.proofs.lemmas.Option.{none-some, same_Some, slice_get_within, get_or_from_slice_get}
@@ -10,15 +11,19 @@ use Rattle.chains.proofs.Cases.{item_at}
 use Rattle.opening.proofs.SoundTrees.{push_at}
 use Rattle.opening.specs.Description.{Description, FileEntry}
 use Rattle.opening.specs.Sound.{IsSound}
-use Rattle.folders.specs.Verdicts.{is_good, is_whole, stream_is_good}
+use Rattle.folders.specs.Verdicts.{is_good, is_whole, is_yes, stream_is_good}
 use Rattle.folders.specs.declared.report.FileVerdict.{FileVerdict}
 use Rattle.folders.specs.declared.report.FileVerdict.TheVariants as file
 use Rattle.folders.specs.declared.report.V1Verdict.{V1Verdict}
-use Rattle.parts.specs.MarkedLines.{verdicts_of}
+use Rattle.parts.specs.MarkedLines.{marked_place_rows, marked_rows, verdicts_of}
 use Rattle.parts.specs.Runs.{Run}
 use Rattle.parts.specs.Worse.{worse, worse_v1}
 use Rattle.parts.specs.declared.places.Places.{Places}
-use Rattle.part_reports.specs.ReadLines.{answer_line, end_lines, marked_line, marked_lines_text, stream_words}
+use Rattle.folders.specs.Printed.{version1_rows}
+use Rattle.parts.specs.PartLines.{part_answer_row, part_end_rows}
+use Rattle.folders.proofs.SentLines.{spelled_push}
+use Rattle.lines.specs.Rows.{Row, spell}
+use Rattle.lines.specs.Texts.{text_of}
 use Rattle.part_reports.specs.Lines.{AreOff, BeginsWithFile, HasEnd, HasLines, JoinsLines, ReadsEnd, ReadsFileLine}
 use Rattle.part_reports.specs.Marks.{CanMark, IsInRuns, IsTold, MarksMore}
 use Rattle.part_reports.specs.Reported.{CanSay}
@@ -28,8 +33,9 @@ use Rattle.part_reports.specs.declared.marked_report.MarkedReport.{MarkedReport}
 use Rattle.part_reports.proofs.Listed.{all_more, good_worse}
 use Rattle.part_reports.proofs.Listed.{split_marked, whole_worse, worse_good}
 use Rattle.part_reports.proofs.MarkedFiles.{more_told, off_file, said_at, told_more}
-use Rattle.part_reports.proofs.Readings.{Reading, at_other, at_same, counted, left_of, next_told, reading_of}
+use Rattle.part_reports.proofs.Readings.{Reading, at_other, at_same, counted, end_of, left_of, next_told, reading_of}
 use Rattle.part_reports.proofs.RunMarks.{marks_both, marks_none}
+use Rattle.part_reports.proofs.SameLines.{rows_then}
 
 -- What is told of the first files was read and joined: this is the worst verdict, and this follows. Nothing else can be read there.
 pub record LinesSoFar (k : Kind) (t : Description) (r : Places) (lines : List ℕ) (old new : List FileVerdict) (was now : BadPieces) (i : ℕ)
@@ -38,7 +44,7 @@ pub record LinesSoFar (k : Kind) (t : Description) (r : Places) (lines : List �
   pub count : length read ≡ i
   pub says : (n : ℕ) (f : FileEntry) (x : FileVerdict × List Run) → slice_get t.files n ≡ Some f → slice_get read n ≡ Some x
       → CanSay t r f x.0 × CanMark k t r f x.0 x.1
-  pub is : lines ≡ marked_lines_text t r read t.files ++ rest
+  pub is : lines ≡ spell text_of (marked_place_rows t r read t.files) ++ rest
   pub good : list_all is_good (verdicts_of read) ≡ is_good worst
   pub whole : list_all is_whole (verdicts_of read) ≡ is_whole worst
   pub own : length new ≡ length old
@@ -76,15 +82,15 @@ so_far_next {k} {t} {r} {lines} {old} {new} {was} {now} {later} {i} {worst} {res
     let read : List (FileVerdict × List Run) = so_far.read ++ one ∷ [] in
     let within : i < length t.files = slice_get_within t.files i f there in
     let inside : i < length new = slice_get_within new i a at in
-    let line : List ℕ = marked_line t r f v file.runs in
+    let line : List Row = marked_rows t r f v file.runs in
+    let before : List Row = marked_place_rows t r so_far.read t.files in
     let verdict : FileVerdict × List Run → FileVerdict = λ x. x.0 in
     let verdicts : verdicts_of read ≡ verdicts_of so_far.read ++ v ∷ [] = map-append verdict so_far.read (one ∷ []) in
     let behind : drop (length so_far.read) t.files ≡ f ∷ drop (i + 1) t.files =
     ap (λ n. drop n t.files) so_far.count ∙ drop_more t.files i f within ∙ ap (λ g. g ∷ drop (i + 1) t.files) (get_or_from_slice_get t.files i f f there) in
-    let shown : marked_lines_text t r read t.files ≡ marked_lines_text t r so_far.read t.files ++ line =
+    let shown : marked_place_rows t r read t.files ≡ before ++ line =
     split_marked t r so_far.read (one ∷ []) t.files (omega (arith, so_far.count, within))
-    ∙ ap (λ fs. marked_lines_text t r so_far.read t.files ++ marked_lines_text t r (one ∷ []) fs) behind
-    ∙ ap (λ x. marked_lines_text t r so_far.read t.files ++ x) (append-nil line) in
+    ∙ ap (λ fs. before ++ marked_place_rows t r (one ∷ []) fs) behind ∙ ap (λ rows. before ++ rows) (append-nil line) in
     record {
       read = read;
       count = length-append so_far.read (one ∷ []) ∙ ap (λ n. n + 1) so_far.count;
@@ -96,9 +102,7 @@ so_far_next {k} {t} {r} {lines} {old} {new} {was} {now} {later} {i} {worst} {res
             subst (λ h. CanSay t r h x.0 × CanMark k t r h x.0 x.1) same
             (subst (λ (y : FileVerdict × List Run). CanSay t r f y.0 × CanMark k t r f y.0 y.1) last.0 (file.can, file.can_mark))
       ];
-      is = so_far.is ∙ ap (λ x. marked_lines_text t r so_far.read t.files ++ x) file.is
-          ∙ sym (append_assoc (marked_lines_text t r so_far.read t.files) line more)
-          ∙ ap (λ x. x ++ more) (sym shown);
+      is = so_far.is ∙ ap (λ x. spell text_of before ++ x) file.is ∙ sym (rows_then before line more) ∙ ap (λ rows. spell text_of rows ++ more) (sym shown);
       good = ap (list_all is_good) verdicts ∙ all_more is_good (verdicts_of so_far.read) v ∙ ap (λ b. b && is_good v) so_far.good ∙ sym (good_worse worst v);
       whole = ap (list_all is_whole) verdicts ∙ all_more is_whole (verdicts_of so_far.read) v ∙ ap (λ b. b && is_whole v) so_far.whole
           ∙ sym (whole_worse worst v);
@@ -177,14 +181,15 @@ end_there {k} {t} {r} {lines} {old} {new} {was} {now} {worst} {rest} so_far has 
     let same : marked ≡ so_far.read = sym (take_all (length t.files) marked (omega (arith, len))) ∙ both.0 in
     let good : list_all is_good (verdicts_of marked) ≡ is_good worst = ap (λ m. list_all is_good (verdicts_of m)) same ∙ so_far.good in
     let whole : list_all is_whole (verdicts_of marked) ≡ is_whole worst = ap (λ m. list_all is_whole (verdicts_of m)) same ∙ so_far.whole in
-    let empty : marked_lines_text t r (drop (length t.files) marked) (drop (length t.files) t.files) ≡ [] =
-    ap (λ m. marked_lines_text t r m (drop (length t.files) t.files)) (drop_all (length t.files) marked (omega (arith, len))) in (
+    let empty : marked_place_rows t r (drop (length t.files) marked) (drop (length t.files) t.files) ≡ [] =
+    ap (λ m. marked_place_rows t r m (drop (length t.files) t.files)) (drop_all (length t.files) marked (omega (arith, len))) in (
       v1,
       record {
         hybrid = reading.can.hybrid;
         says = λ v is. (reading.can.says_v1 v is, reading.can.checked v is ∙ whole);
-        is = both.1 ∙ ap (λ l. l ++ end_lines (verdicts_of marked) v1) empty
-            ∙ ap (λ b. stream_words v1 ++ answer_line (b && stream_is_good v1)) good;
+        is = both.1 ∙ ap (λ rows. spell text_of rows ++ end_of marked v1) empty
+            ∙ spelled_push text_of (version1_rows v1) (part_answer_row (is_yes (verdicts_of marked) v1))
+            ∙ ap (λ b. spell text_of (version1_rows v1) ++ text_of (part_answer_row (b && stream_is_good v1))) good;
       },
     )
 
@@ -210,8 +215,10 @@ joined_whole {k} {t} {r} {lines} old new {worst} {rest} {v1} so_far end hybrid v
       };
       marks = λ n f x there at. (so_far.says n f x there at).1;
     };
-    is = so_far.is ∙ ap (λ x. marked_lines_text t r so_far.read t.files ++ x)
-        (end.is ∙ ap (λ b. stream_words v1 ++ answer_line (b && stream_is_good v1)) (sym so_far.good));
+    is = so_far.is ∙ ap (λ x. spell text_of (marked_place_rows t r so_far.read t.files) ++ x)
+        (end.is ∙ ap (λ b. spell text_of (version1_rows v1) ++ text_of (part_answer_row (b && stream_is_good v1))) (sym so_far.good)
+        ∙ sym (spelled_push text_of (version1_rows v1) (part_answer_row (is_yes (verdicts_of so_far.read) v1))))
+        ∙ sym (flat_map-append text_of (marked_place_rows t r so_far.read t.files) (part_end_rows (verdicts_of so_far.read) v1));
   };
   joined = record {
     count = so_far.own;

@@ -1,6 +1,6 @@
 -- A report with its bad pieces, printed file by file.
-use Rattle.std.proofs.Common.{◌≡◌, inl, inr, List, [], ◌∷◌, ◌++◌, length, slice_get, Some, Result, Ok, Err}
-use Rattle.std.proofs.Common.{sym, ap, ◌∙◌, subst, append_assoc, append-nil}
+use Rattle.std.proofs.Common.{◌≡◌, inl, inr, Bool, true, false, List, [], ◌∷◌, ◌++◌, length, slice_get, Some, Result, Ok, Err}
+use Rattle.std.proofs.Common.{arith, refl, sym, ap, ◌∙◌, subst, append_assoc, append-nil}
 use Rattle.std.proofs.lemmas.Grind.{flat_map-append}
 use Rattle.std.proofs.lemmas.List.{length-map}
 use Rattle.std.proofs.lemmas.Option.{none-some, same_Some}
@@ -9,12 +9,22 @@ use Rattle.benc.specs.Device.{SinkSeen, WroteAndFlushed}
 use Rattle.lines.specs.Rows.{Row, Spelling, spell}
 use Rattle.opening.specs.Description.{Description, FileEntry}
 use Rattle.folders.specs.declared.report.FileVerdict.{FileVerdict}
+use Rattle.parts.specs.Parts.{piece_count}
 use Rattle.parts.specs.Runs.{Run}
 use Rattle.parts.specs.Telling.{has_runs}
-use Rattle.part_reports.specs.WholeLines.{AreShown, SaysMarkedReport, ShowsAll, ShowsFirst, file_and_runs, whole_lines_rows, whole_rows}
+use Rattle.parts.proofs.Runs.{no_runs}
+use Rattle.part_reports.specs.WholeLines.{AreFirstShown, AreShown, IsNotBad, SaysMarkedReport, ShowsAll, ShowsFirst}
+use Rattle.part_reports.specs.WholeLines.{file_and_runs, whole_lines_rows, whole_rows}
+use Rattle.part_reports.specs.declared.marked_report.BadPieces.{BadPieces}
 use Rattle.part_reports.specs.declared.marked_report.MarkedReport.{MarkedReport}
 use Rattle.part_reports.proofs.Listed.{same_items}
 use Rattle.part_reports.proofs.MarkedFiles.{said_at}
+
+-- no run yet
+pub first_none : (t : Description) (bad : BadPieces) (f : FileEntry) (b : Bool) → AreFirstShown t bad f b []
+first_none t bad f true =
+    (0, omega arith, (no_runs (IsNotBad bad f) (piece_count t f) 0 (omega arith) (λ k lt. absurd (omega (arith, lt)))).done)
+first_none t bad f false = refl
 
 rows_push : (t : Description) (xs : List (FileVerdict × List Run)) (fs : List FileEntry) (v : FileVerdict) (runs : List Run) (f : FileEntry)
     → slice_get fs (length xs) ≡ Some f → whole_lines_rows t (xs ++ (v, runs) ∷ []) fs ≡ whole_lines_rows t xs fs ++ file_and_runs t f v runs

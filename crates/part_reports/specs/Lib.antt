@@ -6,7 +6,6 @@ pub mod Lines
 pub mod MarkedJoins
 pub mod Marks
 pub mod Numbers
-pub mod ReadLines
 pub mod Reasons
 pub mod Reported
 pub mod RunLines

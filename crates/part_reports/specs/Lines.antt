@@ -6,14 +6,16 @@ use Rattle.folders.specs.declared.report.FileVerdict.{FileVerdict}
 use Rattle.folders.specs.declared.report.FileVerdict.TheVariants as file
 use Rattle.folders.specs.declared.report.V1Verdict.{V1Verdict}
 use Rattle.folders.specs.declared.report.V1Verdict.TheVariants as version1
-use Rattle.parts.specs.MarkedLines.{verdicts_of}
-use Rattle.parts.specs.PartLines.{has_place}
+use Rattle.parts.specs.MarkedLines.{marked_place_rows, marked_rows, verdicts_of}
+use Rattle.parts.specs.PartLines.{has_place, held_rows, part_answer_row, part_end_rows}
 use Rattle.parts.specs.Parts.{PartReport, place_count}
-use Rattle.parts.specs.Runs.{Run}
+use Rattle.parts.specs.Runs.{Run, runs_rows}
 use Rattle.parts.specs.Telling.{has_runs}
 use Rattle.parts.specs.Worse.{worse, worse_v1}
 use Rattle.parts.specs.declared.places.Places.{Places}
-use Rattle.part_reports.specs.ReadLines.{answer_line, end_lines, held_line, marked_line, marked_lines_text, runs_text, stream_words}
+use Rattle.folders.specs.Printed.{version1_rows}
+use Rattle.lines.specs.Rows.{spell}
+use Rattle.lines.specs.Texts.{text_of}
 use Rattle.part_reports.specs.Marks.{CanMark, CanMarkAll, CanTell, IsInRuns, IsTold, MarksMore}
 use Rattle.part_reports.specs.Reported.{CanReport, CanSay, CanSayV1}
 use Rattle.lines.specs.Reading.{BeginsWith}
@@ -36,7 +38,7 @@ IsSmallV1 v = ⊤
 pub record ReadsLine (t : Description) (r : Places) (f : FileEntry) (is_held : Bool)
     (text : List ℕ) (v : FileVerdict) (more : List ℕ) : Type 0 where
   pub can : CanSay t r f v
-  pub is : text ≡ held_line is_held v f ++ more
+  pub is : text ≡ spell text_of (held_rows is_held v f) ++ more
 
 -- a text begins so with some verdict
 abbrev pub HasLine : Description → Places → FileEntry → Bool → List ℕ → Type 0
@@ -55,7 +57,8 @@ pub record ReadsEnd (t : Description) (r : Places) (worst : FileVerdict) (text :
     (v1 : Option V1Verdict) : Type 0 where
   pub hybrid : is_some v1 ≡ is_some t.v1
   pub says : SaysEnd r (place_count t - 1) worst v1
-  pub is : text ≡ stream_words v1 ++ answer_line (is_good worst && stream_is_good v1)
+  pub is : text ≡ spell text_of (version1_rows v1)
+      ++ text_of (part_answer_row (is_good worst && stream_is_good v1))
 
 -- a text is such an end with some verdict
 abbrev pub HasEnd : Description → Places → FileVerdict → List ℕ → Type 0
@@ -80,7 +83,7 @@ HasNoRun text = BeginsWith (codes "bad pieces ") text → ⊥
 pub record TellsRuns (t : Description) (r : Places) (f : FileEntry) (v : FileVerdict)
     (text : List ℕ) (runs : List Run) (more : List ℕ) : Type 0 where
   pub can : CanTell t r f v (has_runs v) runs
-  pub is : text ≡ runs_text t f runs ++ more
+  pub is : text ≡ spell text_of (runs_rows t f runs) ++ more
   pub ends : HasNoRun more
 
 -- a text begins so
@@ -92,7 +95,7 @@ pub record ReadsRuns (t : Description) (r : Places) (f : FileEntry) (v : FileVer
     (text more : List ℕ) (old new : BadPieces) : Type 0 where
   pub runs : List Run
   pub can : CanTell t r f v (has_runs v) runs
-  pub is : text ≡ runs_text t f runs ++ more
+  pub is : text ≡ spell text_of (runs_rows t f runs) ++ more
   pub marks : MarksMore (IsInRuns f runs) old new
   pub only : (others : List Run) (rest : List ℕ) → TellsRuns t r f v text others rest
       → (runs ≡ others) × (more ≡ rest)
@@ -105,7 +108,7 @@ pub record TellsOfFile (k : Kind) (t : Description) (r : Places) (f : FileEntry)
     (v : FileVerdict) (runs : List Run) (more : List ℕ) : Type 0 where
   pub can : CanSay t r f v
   pub can_mark : CanMark k t r f v runs
-  pub is : text ≡ marked_line t r f v runs ++ more
+  pub is : text ≡ spell text_of (marked_rows t r f v runs) ++ more
   pub ends : HasNoRun more
 
 -- a text begins so
@@ -119,7 +122,7 @@ pub record ReadsFileLine (k : Kind) (t : Description) (r : Places) (f : FileEntr
   pub runs : List Run
   pub can : CanSay t r f v
   pub can_mark : CanMark k t r f v runs
-  pub is : text ≡ marked_line t r f v runs ++ more
+  pub is : text ≡ spell text_of (marked_rows t r f v runs) ++ more
   pub marks : MarksMore (IsInRuns f runs) old new
   pub only : (w : FileVerdict) (others : List Run) (rest : List ℕ)
       → TellsOfFile k t r f text w others rest → (v ≡ w) × (runs ≡ others) × (more ≡ rest)
@@ -145,7 +148,8 @@ pub record CanReportMarked (k : Kind) (t : Description) (m : MarkedPart) : Type 
 -- what stands behind the first line of such a report
 abbrev pub marked_rest : Description → MarkedPart → List ℕ
 marked_rest t m =
-    marked_lines_text t m.places m.marked t.files ++ end_lines (verdicts_of m.marked) m.v1
+    spell text_of (marked_place_rows t m.places m.marked t.files
+    ++ part_end_rows (verdicts_of m.marked) m.v1)
 
 -- the lines behind the first one of a report of this kind say this
 pub record AreLinesOf (k : Kind) (t : Description) (lines : List ℕ) (m : MarkedPart) : Type 0 where

@@ -1,42 +1,13 @@
--- What is joined of the reports of all parts of a check that are of one kind.
-use Rattle.std.specs.Prelude.{◌≡◌, ◌↔◌, ℕ, ◌-◌, ◌<◌, ◌^◌, List, length, map, slice_get, Some}
+-- What is joined of the bad pieces that the reports of all parts of a check tell of.
+use Rattle.std.specs.Prelude.{◌≡◌, ◌↔◌, ℕ, ◌-◌, List, slice_get, Some}
 use Rattle.opening.specs.Description.{Description}
-use Rattle.parts.specs.Joins.{IsJoin}
-use Rattle.parts.specs.MarkedLines.{marked_text, verdicts_of}
-use Rattle.parts.specs.PartLines.{part_text}
-use Rattle.parts.specs.Parts.{AreAllPlaces, place_count}
+use Rattle.parts.specs.Parts.{place_count}
 use Rattle.parts.specs.Shares.{share}
+use Rattle.part_reports.specs.Joined.{AreJoinedOf, report_text_of}
 use Rattle.part_reports.specs.Lines.{CanReportMarked, JoinsMore, MarkedPart, part_of}
 use Rattle.part_reports.specs.Marks.{HasMarkRoom, IsPieceMarked, IsTold, MarksMore}
 use Rattle.part_reports.specs.declared.kind.Kind.{Kind}
-use Rattle.part_reports.specs.declared.kind.Kind.TheVariants as kind
 use Rattle.part_reports.specs.declared.marked_report.MarkedReport.{MarkedReport}
-
--- the report of this one of this many parts, of this kind: without the runs of bad pieces, or with
--- them
-abbrev pub report_text_of : Kind → Description → ℕ → ℕ → MarkedPart → List ℕ
-report_text_of kind.Plain t part count m = part_text t part count (verdicts_of m.marked) m.v1
-report_text_of kind.Marked t part count m = marked_text t part count m.marked m.v1
-
--- one of these texts is the report of this one of this many parts, which can report this
-pub record IsReadAs (k : Kind) (t : Description) (texts : List (List ℕ)) (part count : ℕ)
-    (m : MarkedPart) : Type 0 where
-  pub places : m.places ≡ share t part count
-  pub can : CanReportMarked k t m
-  pub number : ℕ
-  pub there : slice_get texts number ≡ Some (report_text_of k t part count m)
-
--- what these texts report of the first parts of this many, in order
-abbrev pub AreReadAs : Kind → Description → List (List ℕ) → ℕ → List MarkedPart → Type 0
-AreReadAs k t texts count parts =
-    (i : ℕ) (m : MarkedPart) → slice_get parts i ≡ Some m → IsReadAs k t texts i count m
-
--- a text is what this one of these parts reports
-pub record IsTextAs (k : Kind) (t : Description) (parts : List MarkedPart) (number : ℕ)
-    (text : List ℕ) : Type 0 where
-  pub part : MarkedPart
-  pub there : slice_get parts number ≡ Some part
-  pub is : text ≡ report_text_of k t number (length parts) part
 
 -- one of these parts tells that this piece of the torrent is bad
 pub record IsToldByOne (t : Description) (parts : List MarkedPart) (piece : ℕ) : Type 0 where
@@ -49,23 +20,13 @@ pub record IsToldByOne (t : Description) (parts : List MarkedPart) (piece : ℕ)
 abbrev pub AreMarksOf : Description → List MarkedPart → MarkedReport → Type 0
 AreMarksOf t parts joined = (piece : ℕ) → IsPieceMarked joined.bad piece ↔ IsToldByOne t parts piece
 
--- This joins what the texts report, which are all of this kind: there is the report of each part
--- among them, and so they have all places of the torrent; each text is the report of a part, and
--- each of another one; and a piece is marked exactly if one of the parts tells that it is bad.
--- There is a mark for each piece, if they tell of bad ones.
+-- This joins what the texts report, which are all of this kind: its verdicts do, and a piece is
+-- marked exactly if one of the parts tells that it is bad. There is a mark for each piece, if they
+-- tell of bad ones.
 pub record AreJoinedAs (k : Kind) (t : Description) (texts : List (List ℕ)) (joined : MarkedReport)
     : Type 0 where
-  pub parts : List MarkedPart
-  pub some : 0 < length parts
-  pub small : length parts < 2 ^ 64
-  pub are : AreReadAs k t texts (length parts) parts
-  pub all : AreAllPlaces t (map part_of parts)
-  pub join : IsJoin t (map part_of parts) joined.report.files.items joined.report.v1
-  pub number_of : ℕ → ℕ
-  pub no_other : (i : ℕ) (text : List ℕ) → slice_get texts i ≡ Some text
-      → IsTextAs k t parts (number_of i) text
-  pub once : (i j : ℕ) → i < length texts → j < length texts → number_of i ≡ number_of j → i ≡ j
-  pub marks : AreMarksOf t parts joined
+  pub verdicts : AreJoinedOf k t texts joined.report.files.items joined.report.v1
+  pub marks : AreMarksOf t verdicts.parts joined
   pub room : HasMarkRoom k (place_count t - 1) joined.bad
 
 -- what a text says, as the report of this one of this many parts, was joined to a report

@@ -1,5 +1,6 @@
 -- The runs of bad pieces that a report tells of a file.
-use Rattle.std.specs.Prelude.{◌≡◌, ◌⊎◌, ◌↔◌, ℕ, ◌+◌, ◌<◌, ◌≤◌, Bool, true, false, List, [], ◌∷◌, length, slice_get, Some, ⊤}
+use Rattle.std.specs.Prelude.{◌≡◌, ◌⊎◌, ◌↔◌, ℕ, ◌+◌, ◌*◌, ◌<◌, ◌≤◌, Bool, true, false, List, [], ◌∷◌, length, slice_get, Some, ⊤}
+use Rattle.hashtree.specs.Bits.{bit_of}
 use Rattle.opening.specs.Description.{Description, FileEntry}
 use Rattle.folders.specs.declared.report.FileVerdict.{FileVerdict}
 use Rattle.folders.specs.declared.report.FileVerdict.TheVariants as file
@@ -59,30 +60,17 @@ pub record IsTold (t : Description) (marked : List (FileVerdict × List Run)) (p
     pub at : slice_get marked number ≡ Some told
     pub within : IsInRuns file told.1 piece
 
--- the piece is marked as bad
+-- the piece is marked as bad: its bit is not set
 abbrev pub IsPieceMarked : BadPieces → ℕ → Type 0
-IsPieceMarked bad piece = slice_get bad.marks.items piece ≡ Some true
+IsPieceMarked bad piece =
+    (piece < 8 * length bad.bits.items) × (bit_of bad.bits.items piece ≡ 0)
 
 -- besides the pieces that were marked before exactly these are
 pub record MarksMore (Are : ℕ → Type 0) (old new : BadPieces) : Type 0 where
-  pub count : length new.marks.items ≡ length old.marks.items
+  pub count : length new.bits.items ≡ length old.bits.items
   pub each : (piece : ℕ) → IsPieceMarked new piece ↔ (IsPieceMarked old piece ⊎ Are piece)
 
 -- there is a mark for each of this many pieces, if the reports tell of bad ones
 abbrev pub HasMarkRoom : Kind → ℕ → BadPieces → Type 0
 HasMarkRoom kind.Plain pieces bad = ⊤
-HasMarkRoom kind.Marked pieces bad = pieces ≤ length bad.marks.items
-
--- no piece from one number up to another is marked
-abbrev pub AreUnmarked : BadPieces → ℕ → ℕ → Type 0
-AreUnmarked bad from to = (piece : ℕ) → from ≤ piece → piece < to → IsPieceMarked bad piece → ⊥
-
--- of the pieces from one number up to another, those from `first` up to `end` are the first run of
--- marked ones
-pub record IsRunOfMarks (bad : BadPieces) (from to first end : ℕ) : Type 0 where
-  pub low : from ≤ first
-  pub some : first < end
-  pub within : end ≤ to
-  pub before : AreUnmarked bad from first
-  pub marked : (piece : ℕ) → first ≤ piece → piece < end → IsPieceMarked bad piece
-  pub ends : end < to → IsPieceMarked bad end → ⊥
+HasMarkRoom kind.Marked pieces bad = pieces ≤ 8 * length bad.bits.items

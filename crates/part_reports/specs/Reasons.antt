@@ -3,8 +3,8 @@ use Rattle.std.specs.Prelude.{◌≡◌, ◌≢◌, ◌⊎◌, ℕ, ◌+◌, ◌
 use Rattle.opening.specs.Description.{Description}
 use Rattle.parts.specs.Shares.{share}
 use Rattle.part_reports.specs.Heads.{HasHead, HasNoHead, IsOfHash}
+use Rattle.part_reports.specs.Joined.{report_text_of}
 use Rattle.part_reports.specs.Lines.{CanReportMarked, MarkedPart}
-use Rattle.part_reports.specs.MarkedJoins.{report_text_of}
 use Rattle.part_reports.specs.declared.join_fault.JoinFault.{JoinFault}
 use Rattle.part_reports.specs.declared.join_fault.JoinFault.TheVariants as fault
 use Rattle.part_reports.specs.declared.kind.Kind.{Kind}

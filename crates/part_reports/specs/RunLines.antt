@@ -3,8 +3,9 @@ use Rattle.std.specs.Prelude.{◌≡◌, ℕ, ◌+◌, ◌<◌, ◌≤◌, List,
 use Rattle.opening.specs.Description.{Description, FileEntry}
 use Rattle.folders.specs.declared.report.FileVerdict.{FileVerdict}
 use Rattle.folders.specs.declared.report.FileVerdict.TheVariants as file
-use Rattle.parts.specs.Runs.{Run}
-use Rattle.part_reports.specs.ReadLines.{run_text, runs_text}
+use Rattle.parts.specs.Runs.{Run, run_row, runs_rows}
+use Rattle.lines.specs.Rows.{spell}
+use Rattle.lines.specs.Texts.{text_of}
 use Rattle.part_reports.specs.Lines.{HasNoRun}
 use Rattle.part_reports.specs.Marks.{AreRunsWithin, IsInRuns, MarksMore}
 use Rattle.lines.specs.Reading.{BeginsWith}
@@ -18,12 +19,12 @@ pub record IsRunWithin (at to : ℕ) (r : Run) : Type 0 where
 
 -- the line of such a run of a file stands at the front
 abbrev pub HasOneRun : Description → FileEntry → ℕ → ℕ → List ℕ → Type 0
-HasOneRun t f at to text = (r : Run) × IsRunWithin at to r × BeginsWith (run_text t f r) text
+HasOneRun t f at to text = (r : Run) × IsRunWithin at to r × BeginsWith (text_of (run_row t f r)) text
 
 -- if the verdict names a bad piece, the line of such a run that begins with it stands at the front
 abbrev pub BeginsRightly : Description → FileEntry → ℕ → ℕ → FileVerdict → List ℕ → Type 0
 BeginsRightly t f from to (file.Bad p) text = (r : Run) × IsRunWithin from to r
-    × (f.first_piece + r.first ≡ p) × BeginsWith (run_text t f r) text
+    × (f.first_piece + r.first ≡ p) × BeginsWith (text_of (run_row t f r)) text
 BeginsRightly t f from to v text = ⊤
 
 -- such runs were read, and their pieces marked; and no others can be read there
@@ -31,8 +32,8 @@ pub record ReadsAll (t : Description) (f : FileEntry) (from to : ℕ) (text more
     (old new : BadPieces) : Type 0 where
   pub runs : List Run
   pub are : AreRunsWithin from to runs
-  pub is : text ≡ runs_text t f runs ++ more
+  pub is : text ≡ spell text_of (runs_rows t f runs) ++ more
   pub marks : MarksMore (IsInRuns f runs) old new
   pub some : runs ≡ [] → HasOneRun t f from to text → ⊥
   pub only : (others : List Run) (rest : List ℕ) → AreRunsWithin from to others
-      → text ≡ runs_text t f others ++ rest → HasNoRun rest → (runs ≡ others) × (more ≡ rest)
+      → text ≡ spell text_of (runs_rows t f others) ++ rest → HasNoRun rest → (runs ≡ others) × (more ≡ rest)

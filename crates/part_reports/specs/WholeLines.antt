@@ -66,15 +66,6 @@ pub record ShowsAll (t : Description) (joined : MarkedReport)
   pub runs : (n : ℕ) (f : FileEntry) (x : FileVerdict × List Run) → slice_get t.files n ≡ Some f
       → slice_get marked n ≡ Some x → AreShown t joined.bad f (has_runs x.0) x.1
 
--- the lines of the runs of a file went out, or those of the first ones broke off
-abbrev pub SaysRuns : {E : Type 0} → Spelling → Description → BadPieces → FileEntry → SinkSeen
-    → SinkSeen → Result (Unit {0}) E → Type 0
-SaysRuns spelled t bad f old new r = MatchResult r
-    (λ _. (runs : List Run) × AreRunsOfMarks t bad f (piece_count t f) runs
-    × Sent old new (spell spelled (runs_rows t f runs)))
-    (λ _. (runs : List Run) × AreFirstShown t bad f true runs
-    × Broke old new (spell spelled (runs_rows t f runs)))
-
 -- the lines of a file with this verdict went out, or broke off
 abbrev pub SaysFile : {E : Type 0} → Spelling → Description → BadPieces → FileEntry → FileVerdict
     → SinkSeen → SinkSeen → Result (Unit {0}) E → Type 0

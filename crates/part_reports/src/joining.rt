@@ -1,5 +1,5 @@
 //! The join of the reports of all parts.
-ghost use Rattle.std.specs.Prelude.{◌≡◌, ℕ, ◌+◌, ◌<◌, length, map, replicate, is_some, IfErr, IfOk, MatchOption, Some};
+ghost use Rattle.std.specs.Prelude.{◌≡◌, ℕ, ◌+◌, ◌*◌, ◌<◌, ◌≤◌, length, map, replicate, is_some, IfErr, IfOk, MatchOption, Some};
 ghost use Rattle.folders.specs.declared.report.V1Verdict.{V1Verdict as OfV1};
 ghost use Rattle.parts.specs.Parts.{place_count};
 ghost use Rattle.parts.specs.Shares.{share};
@@ -186,9 +186,9 @@ fn all_good(
     Ok(MarkedReport { report, bad })
 }
 
-// How many marks reports of this kind need, for this many pieces.
+// How many bits reports of this kind need, for this many pieces.
 fn mark_count(kind: Kind, pieces: u64) -> u64
-    ensures { (bad : OfBad) → length bad.marks.items ≡ result → HasMarkRoom kind pieces bad }
+    ensures { (bad : OfBad) → result ≤ 8 * length bad.bits.items → HasMarkRoom kind pieces bad }
 {
     match kind {
         Kind::Plain => 0,

@@ -4,11 +4,13 @@ ghost use Rattle.std.specs.Prelude.{◌≡◌, ◌+◌, ◌<◌, ◌≤◌, leng
 ghost use Rattle.folders.specs.Verdicts.{IsFileOf, is_good, is_whole, stream_is_good};
 ghost use Rattle.folders.specs.declared.report.V1Verdict.{V1Verdict as OfV1};
 ghost use Rattle.opening.specs.Seen.{file_entry};
-ghost use Rattle.part_reports.specs.ReadLines.{answer_line, stream_words};
+ghost use Rattle.folders.specs.Printed.{version1_rows};
+ghost use Rattle.lines.specs.Rows.{spell};
+ghost use Rattle.lines.specs.Texts.{text_of};
 ghost use Rattle.part_reports.specs.Lines.{AreOff, HasLines, JoinsLines, BeginsWithFile, HasLine, ReadsFileLine, ReadsLine, HasEnd, IsSmallV1, ReadsEnd, SaysEnd};
 ghost use Rattle.part_reports.specs.Marks.{HasMarkRoom};
 ghost use Rattle.part_reports.specs.Reported.{CanSay, IsPieceIn};
-ghost use Rattle.parts.specs.PartLines.{has_place};
+ghost use Rattle.parts.specs.PartLines.{has_place, part_answer_row};
 ghost use Rattle.parts.specs.Parts.{place_count, piece_count as pieces_in};
 ghost use Rattle.parts.specs.Worse.{worse_v1};
 
@@ -224,8 +226,8 @@ fn read_end(
 fn read_v1(torrent: &Torrent<'_>, text: &[u8]) -> Option<V1Verdict>
     ensures hybrid { is_some result ≡ is_some torrent.now.v1 }
     ensures whole { (v1 : Option OfV1) (more : List ℕ) → is_some v1 ≡ is_some torrent.now.v1
-        → ((v : OfV1) → v1 ≡ Some v → IsSmallV1 v) → text.now ≡ stream_words v1 ++ more
-        → result ≡ v1 }
+        → ((v : OfV1) → v1 ≡ Some v → IsSmallV1 v)
+        → text.now ≡ spell text_of (version1_rows v1) ++ more → result ≡ v1 }
 {
     match torrent.v1() {
         Some(_) => Some(v1_verdict(text)),
@@ -282,7 +284,7 @@ fn yes(worst: FileVerdict, v1: Option<V1Verdict>) -> bool
 
 // Whether the last line stands there, and nothing behind it.
 fn ends_with(yes: bool, text: &[u8]) -> bool
-    ensures { IsTrue result ↔ (text.now ≡ answer_line yes) }
+    ensures { IsTrue result ↔ (text.now ≡ text_of (part_answer_row yes)) }
 {
     match strip_answer(yes, text) {
         Some(rest) => rest.is_empty(),

@@ -1,11 +1,11 @@
 //! The lines of the runs of bad pieces of a file in a report, read again.
-ghost use Rattle.std.specs.Prelude.{◌≡◌, ◌↔◌, ℕ, ◌+◌, ◌-◌, ◌<◌, ◌≤◌, ◌^◌, List, ◌∷◌, ◌++◌, codes, decimal, length, IsTrue, MatchOption, Some};
+ghost use Rattle.std.specs.Prelude.{◌≡◌, ◌↔◌, ℕ, ◌+◌, ◌-◌, ◌*◌, ◌<◌, ◌≤◌, ◌^◌, List, ◌∷◌, ◌++◌, codes, decimal, length, IsTrue, MatchOption, Some};
 ghost use Rattle.folders.specs.Verdicts.{IsFileOf};
 ghost use Rattle.opening.specs.Seen.{file_entry};
 ghost use Rattle.parts.specs.Parts.{piece_count as pieces_in};
-ghost use Rattle.parts.specs.Runs.{Run};
+ghost use Rattle.parts.specs.Runs.{run_row};
 ghost use Rattle.parts.specs.Spans.{end_in, first_in};
-ghost use Rattle.part_reports.specs.ReadLines.{run_text};
+ghost use Rattle.lines.specs.Texts.{text_of};
 ghost use Rattle.part_reports.specs.Lines.{HasRuns, ReadsRuns};
 ghost use Rattle.part_reports.specs.RunLines.{BeginsRightly, HasOneRun, IsRunWithin, ReadsAll};
 
@@ -29,7 +29,7 @@ pub(crate) fn read_runs<'a>(
 ) -> Option<&'a [u8]>
     requires file { IsFileOf torrent.now (file_entry file.now) }
     requires room { let f = file_entry file.now in
-        f.first_piece + pieces_in torrent.now f ≤ length bad.old.marks.items }
+        f.first_piece + pieces_in torrent.now f ≤ 8 * length bad.old.bits.items }
     ensures { let f = file_entry file.now in
         MatchOption result (HasRuns torrent.now places f verdict text.now → ⊥)
         (λ rest. ReadsRuns torrent.now places f verdict text.now rest.now bad.old bad.new) }
@@ -98,7 +98,7 @@ fn read_all<'a>(
     requires file { IsFileOf torrent.now (file_entry file.now) }
     requires inside { to ≤ pieces_in torrent.now (file_entry file.now) }
     requires room { let f = file_entry file.now in
-        f.first_piece + pieces_in torrent.now f ≤ length bad.old.marks.items }
+        f.first_piece + pieces_in torrent.now f ≤ 8 * length bad.old.bits.items }
     ensures { ReadsAll torrent.now (file_entry file.now) from to text.now result.now bad.old
         bad.new }
 {
@@ -127,7 +127,7 @@ fn read_run<'a>(
     ensures { let f = file_entry file.now in
         MatchOption result (HasOneRun torrent.now f at to text.now → ⊥)
         (λ x. (x.0 < x.1) × IsRunWithin at to (record { first = x.0; last = x.1 - 1 })
-        × (text.now ≡ run_text torrent.now f (record { first = x.0; last = x.1 - 1 })
+        × (text.now ≡ text_of (run_row torrent.now f (record { first = x.0; last = x.1 - 1 }))
         ++ x.2.now)) }
 {
     torrent.recall_sound();

@@ -1,16 +1,16 @@
 //! The lines of a report with its bad pieces.
-ghost use Rattle.std.specs.Prelude.{◌≡◌, ◌+◌, ◌≤◌, length, map, is_some};
+ghost use Rattle.std.specs.Prelude.{◌≡◌, ◌+◌, ◌*◌, ◌≤◌, length};
 ghost use Rattle.folders.specs.Verdicts.{IsFileOf};
 ghost use Rattle.opening.specs.Seen.{file_entry};
 ghost use Rattle.parts.specs.Parts.{piece_count as pieces_in, place_count};
-ghost use Rattle.part_reports.specs.WholeLines.{SaysFile, SaysFiles, SaysMarkedReport, SaysRuns};
+ghost use Rattle.part_reports.specs.WholeLines.{SaysFile, SaysFiles, SaysMarkedReport};
 
 use crate::marked_report::{BadPieces, MarkedReport};
 use benc::{DeviceFault, WriteFault};
 use folders::{FileVerdict, Lines, say_end, say_verdict};
 use lines::{LineSink, finish_after};
 use opening::{File, Torrent};
-use parts::{has_runs, piece_count, say_run};
+use parts::{PieceBits, has_runs, piece_count, say_runs};
 
 /// Says what `say_check_with_bad_pieces` says of a torrent's folder, and flushes: a line for each
 /// file, and behind that of one that is bad or has another length the line `bad pieces FIRST LAST
@@ -24,7 +24,7 @@ pub fn say_marked_report<L: LineSink>(
     out: &mut L,
 ) -> Result<(), WriteFault>
     requires files { length joined.now.report.files.items ≡ length torrent.now.files }
-    requires room { place_count torrent.now ≤ length joined.now.bad.marks.items + 1 }
+    requires room { place_count torrent.now ≤ 8 * length joined.now.bad.bits.items + 1 }
     ensures { SaysMarkedReport L.spelled torrent.now joined.now (L.seen out.old)
         (L.seen out.new) result }
 {
@@ -40,7 +40,7 @@ fn say_files<L: LineSink>(
     out: &mut L,
 ) -> Result<(), DeviceFault>
     requires files { length joined.now.report.files.items ≡ length torrent.now.files }
-    requires room { place_count torrent.now ≤ length joined.now.bad.marks.items + 1 }
+    requires room { place_count torrent.now ≤ 8 * length joined.now.bad.bits.items + 1 }
     ensures { SaysFiles L.spelled torrent.now joined.now (L.seen out.old)
         (L.seen out.new) result }
 {
@@ -62,37 +62,17 @@ fn say_file<L: LineSink>(
 ) -> Result<(), DeviceFault>
     requires file { IsFileOf torrent.now (file_entry file.now) }
     requires room { let f = file_entry file.now in
-        f.first_piece + pieces_in torrent.now f ≤ length bad.now.marks.items }
+        f.first_piece + pieces_in torrent.now f ≤ 8 * length bad.now.bits.items }
     ensures { SaysFile L.spelled torrent.now bad.now (file_entry file.now) verdict
         (L.seen out.old) (L.seen out.new) result }
 {
     say_verdict(verdict, file, out)?;
     if has_runs(verdict) {
-        say_runs(file, torrent, bad, out)?;
-    }
-    Ok(())
-}
-
-// Says the line of each run of bad pieces of a file, in ascending order.
-fn say_runs<L: LineSink>(
-    file: &File<'_>,
-    torrent: &Torrent<'_>,
-    bad: &BadPieces,
-    out: &mut L,
-) -> Result<(), DeviceFault>
-    requires file { IsFileOf torrent.now (file_entry file.now) }
-    requires room { let f = file_entry file.now in
-        f.first_piece + pieces_in torrent.now f ≤ length bad.now.marks.items }
-    ensures { SaysRuns L.spelled torrent.now bad.now (file_entry file.now)
-        (L.seen out.old) (L.seen out.new) result }
-{
-    torrent.recall_sound();
-    let from = file.first_piece;
-    let to = from + piece_count(torrent, file);
-    let mut at = from;
-    'runs: while let Some((first, end)) = bad.next_run(at, to) {
-        say_run(torrent, file, first - from, end - from, out)?;
-        at = end;
+        let bits = PieceBits {
+            bits: &bad.bits,
+            first: file.first_piece as usize,
+        };
+        say_runs(torrent, file, 0, piece_count(torrent, file), bits, out)?;
     }
     Ok(())
 }

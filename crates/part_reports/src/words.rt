@@ -6,7 +6,9 @@ ghost use Rattle.folders.specs.declared.report.FileVerdict.{FileVerdict as OfFil
 ghost use Rattle.folders.specs.declared.report.V1Verdict.{V1Verdict as OfV1};
 ghost use Rattle.lines.specs.Reading.{BeginsWith};
 ghost use Rattle.opening.specs.Seen.{file_entry};
-ghost use Rattle.part_reports.specs.ReadLines.{file_verdict_text, stream_words};
+ghost use Rattle.folders.specs.Printed.{verdict_row, version1_rows};
+ghost use Rattle.lines.specs.Rows.{spell};
+ghost use Rattle.lines.specs.Texts.{text_of};
 ghost use Rattle.part_reports.specs.Lines.{IsSmall, IsSmallV1};
 ghost use Rattle.part_reports.specs.Scan.{IsFirstNumber, is_no_digit};
 
@@ -17,8 +19,8 @@ use std::str;
 /// The verdict of the line of a file that stands at the front, and what stands behind the line.
 pub(crate) fn file_verdict<'a>(file: &File<'_>, text: &'a [u8]) -> Option<(FileVerdict, &'a [u8])>
     ensures { let f = file_entry file.now in MatchOption result
-        ((v : OfFile) → IsSmall v → BeginsWith (file_verdict_text v f) text.now → ⊥)
-        (λ x. IsSmall x.0 × (text.now ≡ file_verdict_text x.0 f ++ x.1.now)) }
+        ((v : OfFile) → IsSmall v → BeginsWith (text_of (verdict_row v f)) text.now → ⊥)
+        (λ x. IsSmall x.0 × (text.now ≡ text_of (verdict_row x.0 f) ++ x.1.now)) }
 {
     let verdicts = [
         FileVerdict::Good,
@@ -39,8 +41,8 @@ fn one_of<'a>(
     requires { (n : ℕ) (v : OfFile) → slice_get verdicts.now n ≡ Some v → IsSmall v }
     ensures { let f = file_entry file.now in MatchOption result
         ((n : ℕ) (v : OfFile) → slice_get verdicts.now n ≡ Some v
-        → BeginsWith (file_verdict_text v f) text.now → ⊥)
-        (λ x. IsSmall x.0 × (text.now ≡ file_verdict_text x.0 f ++ x.1.now)) }
+        → BeginsWith (text_of (verdict_row v f)) text.now → ⊥)
+        (λ x. IsSmall x.0 × (text.now ≡ text_of (verdict_row x.0 f) ++ x.1.now)) }
 {
     'verdicts: for verdict in verdicts {
         if let Some(rest) = strip_verdict(*verdict, file, text) {
@@ -52,8 +54,8 @@ fn one_of<'a>(
 
 /// The verdict of the line of the version 1 pieces that stands at the front.
 pub(crate) fn v1_verdict(text: &[u8]) -> V1Verdict
-    ensures { (v : OfV1) (more : List ℕ) → IsSmallV1 v → text.now ≡ stream_words (Some v) ++ more
-        → result ≡ v }
+    ensures { (v : OfV1) (more : List ℕ) → IsSmallV1 v
+        → text.now ≡ spell text_of (version1_rows (Some v)) ++ more → result ≡ v }
 {
     if strip_version1(&Some(V1Verdict::Good), text).is_some() {
         V1Verdict::Good

@@ -9,7 +9,7 @@ use Rattle.chains.proofs.Cases.{some_or_none}
 use Rattle.node_maps.specs.Digest.{Hash, join}
 use Rattle.node_maps.specs.Places.{IsKnown}
 use Rattle.partial_tree.specs.declared.message.evidence.Evidence.{Evidence}
-use Rattle.partial_tree.specs.declared.message.row.Row.{Row}
+use Rattle.partial_tree.specs.declared.message.row.HashRow.{HashRow}
 use Rattle.partial_tree.specs.Claims.{base_hash, uncle_hash}
 use Rattle.partial_tree.specs.Evidence.{IsClaimedPlace, claimed_by, given_by, hashes_of, range_of}
 use Rattle.partial_tree.specs.FoldedRows.{AreClaimedIn, IsClaimedRow, place_in_row}
@@ -81,12 +81,12 @@ row-place e (suc d) l n at none_at from to j low =
           (row-place e d l (2 * n + 1) right (still (2 * n + 1)) from inside (j - 2 ^ d) (omega (arith, low, past, two-pow d)))
     ]
 
-pub claimed-place : (e : Evidence) (row : Row) → IsClaimedRow e row → (j : ℕ) → j < 2 ^ row.depth → IsClaimedPlace e row.layer (place_in_row row j)
+pub claimed-place : (e : Evidence) (row : HashRow) → IsClaimedRow e row → (j : ℕ) → j < 2 ^ row.depth → IsClaimedPlace e row.layer (place_in_row row j)
 claimed-place e row is j low =
     row-place e row.depth row.layer row.node is.at (λ some. is.not_given (omega (arith, is.from_base, some))) is.from_base is.to_cover j low
 
 -- above the base range none of a row's places is given
-pub row-not_given : (e : Evidence) (row : Row) → IsClaimedRow e row → e.base < row.layer → (j : ℕ) → j < 2 ^ row.depth
+pub row-not_given : (e : Evidence) (row : HashRow) → IsClaimedRow e row → e.base < row.layer → (j : ℕ) → j < 2 ^ row.depth
     → given_by e row.layer (place_in_row row j) ≡ None
 row-not_given e row is above j low = elim (cases_lt 0 row.depth) [
   | inl some ↦ not_given e row.layer (place_in_row row j) above (omega (arith, some, is.to_cover))
@@ -101,14 +101,14 @@ row-not_given e row is above j low = elim (cases_lt 0 row.depth) [
 ]
 
 -- the places of the base range in a row are given
-pub base-row : (e : Evidence) (row : Row) → IsClaimedRow e row → row.layer ≡ e.base → (j : ℕ) → j < 2 ^ row.depth
+pub base-row : (e : Evidence) (row : HashRow) → IsClaimedRow e row → row.layer ≡ e.base → (j : ℕ) → j < 2 ^ row.depth
     → IsKnown (given_by e) row.layer (place_in_row row j)
 base-row e row is at j low =
     let known = (claimed-place e row is j low).claimed in
     subst (λ l. IsKnown (given_by e) l (place_in_row row j)) (sym at)
     (base-given e (place_in_row row j) (subst (λ l. IsKnown (claimed_by e) l (place_in_row row j)) at known))
 
-pub children-claimed : (e : Evidence) (row : Row) → IsClaimedRow e row → e.base < row.layer → row.depth < 3
+pub children-claimed : (e : Evidence) (row : HashRow) → IsClaimedRow e row → e.base < row.layer → row.depth < 3
     → IsClaimedRow e (record { layer = row.layer - 1; depth = row.depth + 1; node = row.node })
 children-claimed e row is above few =
     let same : row.layer + row.depth ≡ row.layer - 1 + (row.depth + 1) = omega (arith, above) in
@@ -121,7 +121,7 @@ children-claimed e row is above few =
     }
 
 -- the row below a half of a row
-half-claimed_row : (e : Evidence) (row : Row) → IsClaimedRow e row → e.base < row.layer → 1 ≤ row.depth → (node : ℕ)
+half-claimed_row : (e : Evidence) (row : HashRow) → IsClaimedRow e row → e.base < row.layer → 1 ≤ row.depth → (node : ℕ)
     → IsClaimedPlace e (row.layer + row.depth - 1) node → IsClaimedRow e (record { layer = row.layer - 1; depth = row.depth; node = node })
 half-claimed_row e row is above some node at =
     let same : row.layer + row.depth - 1 ≡ row.layer - 1 + row.depth = omega (arith, above) in
@@ -133,12 +133,12 @@ half-claimed_row e row is above some node at =
       few = is.few;
     }
 
-pub left-claimed_row : (e : Evidence) (row : Row) → IsClaimedRow e row → e.base < row.layer → 1 ≤ row.depth
+pub left-claimed_row : (e : Evidence) (row : HashRow) → IsClaimedRow e row → e.base < row.layer → 1 ≤ row.depth
     → IsClaimedRow e (record { layer = row.layer - 1; depth = row.depth; node = 2 * row.node })
 left-claimed_row e row is above some = half-claimed_row e row is above some (2 * row.node)
     (left_claimed e (row.layer + row.depth) row.node is.at (is.not_given (omega (arith, above))))
 
-pub right-claimed_row : (e : Evidence) (row : Row) → IsClaimedRow e row → e.base < row.layer → 1 ≤ row.depth
+pub right-claimed_row : (e : Evidence) (row : HashRow) → IsClaimedRow e row → e.base < row.layer → 1 ≤ row.depth
     → IsClaimedRow e (record { layer = row.layer - 1; depth = row.depth; node = 2 * row.node + 1 })
 right-claimed_row e row is above some = half-claimed_row e row is above some (2 * row.node + 1)
     (right_claimed e (row.layer + row.depth) row.node is.at (is.not_given (omega (arith, above))))
@@ -151,7 +151,7 @@ child_place n p q j e = let same : n * (p + p) + 2 * j ≡ 2 * (n * p + j) = ome
 next_child_place : (n p q j : ℕ) → q ≡ p + p → n * q + (2 * j + 1) ≡ 2 * (n * p + j) + 1
 next_child_place n p q j e = let same : n * (p + p) + (2 * j + 1) ≡ 2 * (n * p + j) + 1 = omega arith in ap (λ k. n * k + (2 * j + 1)) e ∙ same
 
-pub joined-row : (e : Evidence) (row : Row) (below hashes : List Hash) → IsClaimedRow e row → e.base < row.layer
+pub joined-row : (e : Evidence) (row : HashRow) (below hashes : List Hash) → IsClaimedRow e row → e.base < row.layer
     → AreClaimedIn (claimed_by e) (record { layer = row.layer - 1; depth = row.depth + 1; node = row.node }) below
     → ((j : ℕ) → j < 2 ^ row.depth → slice_index_or hashes j [] ≡ join (slice_index_or below (2 * j) []) (slice_index_or below (2 * j + 1) []))
     → AreClaimedIn (claimed_by e) row hashes
@@ -176,7 +176,7 @@ right_half n p j e from = omega (arith, e, from)
 right_next : (n p j : ℕ) → p ≡ 8 → 4 ≤ j → (2 * n + 1) * p + (2 * (j - 4) + 1) ≡ 2 * (n * p + j) + 1
 right_next n p j e from = omega (arith, e, from)
 
-pub joined-rows : (e : Evidence) (row : Row) (left right hashes : List Hash) → IsClaimedRow e row → e.base < row.layer → row.depth ≡ 3
+pub joined-rows : (e : Evidence) (row : HashRow) (left right hashes : List Hash) → IsClaimedRow e row → e.base < row.layer → row.depth ≡ 3
     → AreClaimedIn (claimed_by e) (record { layer = row.layer - 1; depth = row.depth; node = 2 * row.node }) left
     → AreClaimedIn (claimed_by e) (record { layer = row.layer - 1; depth = row.depth; node = 2 * row.node + 1 }) right
     → ((j : ℕ) → j < 4 → slice_index_or hashes j [] ≡ join (slice_index_or left (2 * j) []) (slice_index_or left (2 * j + 1) []))
@@ -202,18 +202,18 @@ joined-rows e row left right hashes is above three claimed_left claimed_right jo
     ]
 
 -- the number of the node over a row is small
-pub row-low : (e : Evidence) (row : Row) → IsClaimedRow e row → row.node < 2 ^ 32
+pub row-low : (e : Evidence) (row : HashRow) → IsClaimedRow e row → row.node < 2 ^ 32
 row-low e row is = place-low 32 (row.layer + row.depth) row.node (omega arith) is.at.place
 
 -- and so is that of its first place
-pub first-low : (e : Evidence) (row : Row) (n : ℕ) → IsClaimedRow e row → n ≤ 8 → row.node * n ≤ 2 ^ 32 * 8
+pub first-low : (e : Evidence) (row : HashRow) (n : ℕ) → IsClaimedRow e row → n ≤ 8 → row.node * n ≤ 2 ^ 32 * 8
 first-low e row n is few = mul-le-mul {n₂ = 2 ^ 32} (omega (arith, row-low e row is)) few
 
 -- a row that is not of the base range lies above it
-pub row-above : (e : Evidence) (row : Row) → IsClaimedRow e row → row.layer ≢ e.base → e.base < row.layer
+pub row-above : (e : Evidence) (row : HashRow) → IsClaimedRow e row → row.layer ≢ e.base → e.base < row.layer
 row-above e row is other = omega (arith, is.from_base, other)
 
 -- each place of a row is claimed, by its number as it is computed
-pub place-claimed : (e : Evidence) (row : Row) (hashes : List Hash) (n j : ℕ) → n ≡ 2 ^ row.depth → j < n → AreClaimedIn (claimed_by e) row hashes
+pub place-claimed : (e : Evidence) (row : HashRow) (hashes : List Hash) (n j : ℕ) → n ≡ 2 ^ row.depth → j < n → AreClaimedIn (claimed_by e) row hashes
     → claimed_by e row.layer (row.node * n + j) ≡ Some (slice_index_or hashes j [])
 place-claimed e row hashes n j all low claimed = ap (λ k. claimed_by e row.layer (row.node * k + j)) all ∙ claimed j (omega (arith, low, all))

@@ -8,7 +8,7 @@ use Rattle.node_maps.specs.Digest.{Hash, join}
 use Rattle.node_maps.specs.Places.{IsKnown, IsTreePlace}
 use Rattle.partial_tree.specs.declared.message.evidence.Evidence.{Evidence}
 use Rattle.partial_tree.specs.declared.message.found.Claim.{Claim}
-use Rattle.partial_tree.specs.declared.message.row.Row.{Row}
+use Rattle.partial_tree.specs.declared.message.row.HashRow.{HashRow}
 use Rattle.partial_tree.specs.Claims.{base_hash, sibling, uncle_hash}
 use Rattle.partial_tree.specs.Evidence.{IsClaimedPlace, IsInside, LeadsTo, LeadsUp, claimed_by, given_by, hashes_of, node_over_base, range_of}
 use Rattle.partial_tree.specs.Evidence.{row_height}
@@ -32,7 +32,7 @@ leads-up h e layer index low inside place leads =
     }
 
 -- the node over a base range, as a row
-abbrev pub row_over : Evidence → ℕ → Row
+abbrev pub row_over : Evidence → ℕ → HashRow
 row_over e layer = record { layer = layer; depth = 0; node = node_over_base e layer }
 
 module _ (e : Evidence) where

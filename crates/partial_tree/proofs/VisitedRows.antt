@@ -7,7 +7,7 @@ use Rattle.hashtree.proofs.Pairs.{two-pow}
 use Rattle.node_maps.specs.Digest.{Hash}
 use Rattle.partial_tree.specs.declared.message.evidence.Evidence.{Evidence}
 use Rattle.partial_tree.specs.declared.message.found.Claim.{Claim}
-use Rattle.partial_tree.specs.declared.message.row.Row.{Row}
+use Rattle.partial_tree.specs.declared.message.row.HashRow.{HashRow}
 use Rattle.partial_tree.specs.Evidence.{LiesUnder, claimed_by}
 use Rattle.partial_tree.specs.FoldedRows.{place_in_row}
 use Rattle.partial_tree.specs.Visits.{LiesBelowRow, LiesUnderRow, Visits, VisitsBelowRow, VisitsRow, places_below, places_under}
@@ -16,10 +16,10 @@ use Rattle.partial_tree.proofs.Tracing.{under_child}
 use Rattle.partial_tree.proofs.Visits.{visits-both, visits-none, visits-one, visits-weaker}
 
 -- (l, i) lies below the row, or is one of its first n places
-abbrev pub IsBegun : Row → ℕ → ℕ → ℕ → Type 0
+abbrev pub IsBegun : HashRow → ℕ → ℕ → ℕ → Type 0
 IsBegun r n l i = LiesBelowRow r l i ⊎ ((l ≡ r.layer) × ((k : ℕ) × (k < n) × (i ≡ place_in_row r k)))
 
-module _ {V : Type 0} (Visit : V → Claim → V → Type 0) (e : Evidence) (r : Row) where
+module _ {V : Type 0} (Visit : V → Claim → V → Type 0) (e : Evidence) (r : HashRow) where
   -- nothing is claimed below the base range
   pub base-visited : (v : V) → r.layer ≡ e.base → VisitsBelowRow Visit (claimed_by e) r v v
   base-visited v at = visits-none Visit (claimed_by e) (LiesBelowRow r) (places_below r) v (λ l i h there is.

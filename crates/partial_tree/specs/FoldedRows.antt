@@ -3,13 +3,13 @@ use Rattle.std.specs.Prelude.{◌≡◌, ℕ, ◌+◌, ◌*◌, ◌%◌, ◌^◌
 use Rattle.node_maps.specs.Digest.{Hash}
 use Rattle.node_maps.specs.Places.{PartialTree, IsKnown}
 use Rattle.partial_tree.specs.declared.message.evidence.Evidence.{Evidence}
-use Rattle.partial_tree.specs.declared.message.row.Row.{Row}
+use Rattle.partial_tree.specs.declared.message.row.HashRow.{HashRow}
 use Rattle.partial_tree.specs.Claims.{sibling}
 use Rattle.partial_tree.specs.Evidence.{IsClaimedPlace, IsInside, claimed_by, given_by, node_over_base}
 
 -- the row lies in the base range or above it, under a node that is claimed, and not given if it
 -- stands above the base range
-pub record IsClaimedRow (e : Evidence) (row : Row) : Type 0 where
+pub record IsClaimedRow (e : Evidence) (row : HashRow) : Type 0 where
   pub at : IsClaimedPlace e (row.layer + row.depth) row.node
   pub not_given : e.base < row.layer + row.depth
       → given_by e (row.layer + row.depth) row.node ≡ None
@@ -18,11 +18,11 @@ pub record IsClaimedRow (e : Evidence) (row : Row) : Type 0 where
   pub few : row.depth ≤ 3
 
 -- the number of a place of the row
-abbrev pub place_in_row : Row → ℕ → ℕ
+abbrev pub place_in_row : HashRow → ℕ → ℕ
 place_in_row row j = row.node * 2 ^ row.depth + j
 
 -- C has each of the hashes at its place of the row
-abbrev pub AreClaimedIn : PartialTree → Row → List Hash → Type 0
+abbrev pub AreClaimedIn : PartialTree → HashRow → List Hash → Type 0
 AreClaimedIn C row hashes = (j : ℕ) → j < 2 ^ row.depth
     → C row.layer (place_in_row row j) ≡ Some (slice_index_or hashes j [])
 

@@ -4,7 +4,7 @@ use Rattle.node_maps.specs.Digest.{Hash}
 use Rattle.node_maps.specs.Places.{PartialTree}
 use Rattle.partial_tree.specs.declared.message.found.Claim.{Claim}
 use Rattle.partial_tree.specs.declared.message.evidence.Evidence.{Evidence}
-use Rattle.partial_tree.specs.declared.message.row.Row.{Row}
+use Rattle.partial_tree.specs.declared.message.row.HashRow.{HashRow}
 use Rattle.partial_tree.specs.Claims.{sibling}
 use Rattle.partial_tree.specs.Evidence.{AreClaims, HasClaim, LiesUnder, claimed_by, node_over_base}
 
@@ -31,27 +31,27 @@ pub record Visits {V : Type 0} (Visit : V → Claim → V → Type 0) (C : Parti
   pub few : length claims ≤ most
 
 -- (l, i) is a place of the row, or lies below one
-abbrev pub LiesUnderRow : Row → ℕ → ℕ → Type 0
+abbrev pub LiesUnderRow : HashRow → ℕ → ℕ → Type 0
 LiesUnderRow row l i = LiesUnder (row.layer + row.depth) row.node l i × (l ≤ row.layer)
 
 -- (l, i) lies below a place of the row
-abbrev pub LiesBelowRow : Row → ℕ → ℕ → Type 0
+abbrev pub LiesBelowRow : HashRow → ℕ → ℕ → Type 0
 LiesBelowRow row l i = LiesUnder (row.layer + row.depth) row.node l i × (l < row.layer)
 
 -- how many places lie under the node over a row, from the row down
-abbrev pub places_under : Row → ℕ
+abbrev pub places_under : HashRow → ℕ
 places_under row = 2 ^ suc (row.layer + row.depth) - 2 ^ row.depth
 
 -- and below the row
-abbrev pub places_below : Row → ℕ
+abbrev pub places_below : HashRow → ℕ
 places_below row = 2 ^ suc (row.layer + row.depth) - 2 ^ suc row.depth
 
 -- the claims from the row down are visited
-abbrev pub VisitsRow : {V : Type 0} → (V → Claim → V → Type 0) → PartialTree → Row → V → V → Type 0
+abbrev pub VisitsRow : {V : Type 0} → (V → Claim → V → Type 0) → PartialTree → HashRow → V → V → Type 0
 VisitsRow Visit C row v w = Visits Visit C (LiesUnderRow row) (places_under row) v w
 
 -- those below the row are visited
-abbrev pub VisitsBelowRow : {V : Type 0} → (V → Claim → V → Type 0) → PartialTree → Row → V → V
+abbrev pub VisitsBelowRow : {V : Type 0} → (V → Claim → V → Type 0) → PartialTree → HashRow → V → V
     → Type 0
 VisitsBelowRow Visit C row v w = Visits Visit C (LiesBelowRow row) (places_below row) v w
 

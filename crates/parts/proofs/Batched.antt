@@ -4,7 +4,7 @@ use Rattle.std.proofs.Common.{sym, ap, ap₂, subst, arith, take-take}
 use Rattle.std.proofs.lemmas.List.{drop-take, get_or-drop, get_or-take, length-drop, length-take, length_push}
 use Rattle.std.proofs.lemmas.Option.{get_or_from_slice_get, same_Some, slice_get-get_or, slice_get_within}
 use Rattle.benc.specs.Device.{SourceSeen}
-use Rattle.block_windows.specs.Files.{bytes_at}
+use Rattle.file_windows.specs.Files.{bytes_at}
 use Rattle.chains.specs.Chain.{Chain}
 use Rattle.chains.proofs.Cases.{item_at, pushed_at}
 use Rattle.chains.proofs.Chains.{Chain-from}

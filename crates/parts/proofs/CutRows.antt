@@ -14,7 +14,7 @@ use Rattle.hashtree.proofs.RowNodes.{row_node}
 use Rattle.opening.specs.Description.{Description, FileEntry, TreeEntry}
 use Rattle.opening.specs.Sound.{IsSound, piece_layer}
 use Rattle.folders.specs.Folder.{tree_entry_of}
-use Rattle.piece_marks.specs.Marks.{AreMarkedWhole}
+use Rattle.pieces.specs.Marks.{AreMarkedWhole}
 use Rattle.folders.proofs.Layers.{layer_is_low}
 use Rattle.folders.proofs.Places.{pieces_are_positive}
 use Rattle.folders.proofs.Reports.{has_tree}

@@ -1,6 +1,6 @@
--- What a part found of one file, by how its opening and its reading were answered.
-use Rattle.std.proofs.Common.{◌≡◌, ◌≢◌, ℕ, ◌+◌, ◌*◌, ◌<◌, ◌≤◌, min, ◌++◌, IsTrue, true, List, length, drop, replicate, slice_get, Option, Some, None}
-use Rattle.std.proofs.Common.{Result, Ok, Err, IfOk, IfSome, refl, ap, ap₂, sym, ◌∙◌, subst, drop_at, arith}
+-- What a check found of one file, by how its reading was answered.
+use Rattle.std.proofs.Common.{◌≡◌, ◌≢◌, ℕ, ◌+◌, ◌*◌, ◌<◌, ◌≤◌, min, ◌++◌, IsTrue, Bool, true, false, ◌&&◌, List, length, drop, replicate, slice_get}
+use Rattle.std.proofs.Common.{Option, Some, None, Result, Ok, Err, IfOk, IfSome, refl, ap, ap₂, sym, ◌∙◌, subst, drop_at, arith}
 use Rattle.std.specs.Option.{unwrap_or}
 use Rattle.std.proofs.Math.Nat.{mul-le-mul_left}
 use Rattle.std.proofs.lemmas.List.{length-replicate}
@@ -15,10 +15,10 @@ use Rattle.folders.specs.declared.report.FileVerdict.{FileVerdict}
 use Rattle.folders.specs.declared.report.FileVerdict.TheVariants as file
 use Rattle.folders.specs.declared.report.V1Verdict.{V1Verdict}
 use Rattle.folders.specs.declared.report.V1Verdict.TheVariants as version1
-use Rattle.parts.specs.FilePieces.{FindsPieces, FoundOfPieces, FoundPieces, HasNumbersBelow, IsBelow, IsFirstBadNumber}
-use Rattle.parts.specs.Finding.{FindsAs, FindsFile, IsFileV1}
+use Rattle.parts.specs.FilePieces.{FoundOfPieces, FoundPieces, HasNumbersBelow, IsBelow, IsFirstBadNumber}
+use Rattle.parts.specs.Finding.{FindsAs, IsFileV1}
 use Rattle.parts.specs.Parts.{Holds, IsPartVerdict, IsPieceGood, IsVersion1Good, Touches, piece_count}
-use Rattle.parts.specs.Saying.{HasSmallPieces, IsSmallFrom, SaysAs, SaysFound, file_says, v1_says}
+use Rattle.parts.specs.Saying.{HasSmallPieces, IsNotWhole, IsSmallFrom, SaysRead, file_says, row_says, v1_says}
 use Rattle.parts.specs.RowBits.{AreBitsOf}
 use Rattle.parts.specs.Spans.{IsSpan, IsSpanOf, end_in, first_in}
 use Rattle.parts.specs.Telling.{MarksIn}
@@ -28,7 +28,6 @@ use Rattle.parts.specs.declared.places.Span.{Span}
 use Rattle.parts.specs.declared.verdicts.Verdicts.{Verdicts}
 use Rattle.parts.proofs.GoodPieces.{piece_fits}
 use Rattle.parts.proofs.HeldPieces.{between_held, held_between, piece_touches}
-use Rattle.parts.proofs.PartReads.{file_is_whole}
 
 -- ---- contents
 
@@ -59,6 +58,18 @@ goes_on_so (Some (Some there)) offset left rest found gave = record {
   from_there = gave (drop offset there) (same_Some left (Some (drop offset there)) found);
 }
 
+-- nothing has the name
+pub none_from : (stated : Option (Option (List ℕ))) (offset : ℕ) → IsFound (from_offset offset stated) None → Agrees stated None
+none_from None offset found there is = let no : ⊥ = cc in absurd no
+none_from (Some None) offset found there is = sym (same_Some None there is)
+none_from (Some (Some bytes)) offset found there is = let no : ⊥ = cc in absurd no
+
+-- what is known from the first byte on is what is known
+pub from_none : (stated : Option (Option (List ℕ))) → stated ≡ from_offset 0 stated
+from_none None = refl
+from_none (Some None) = refl
+from_none (Some (Some bytes)) = refl
+
 -- ---- the verdicts
 
 -- the pieces among the places are there whole
@@ -70,10 +81,10 @@ whole_in t r f s bytes span whole k lt held =
     let low : t.piece_length * (k + 1) ≤ t.piece_length * s.to = mul-le-mul_left t.piece_length (let le : k + 1 ≤ s.to = omega (arith, b.1) in le) in
     omega (arith, low, whole)
 
--- the file is as its verdict says
+-- the file is as the verdict of a part says
 good_or_bad : (t : Description) (r : Places) (f : FileEntry) (s : Span) (bytes : List ℕ) (bad : Option ℕ) → IsSpanOf t r f s
     → (IsTrue s.ends → length bytes ≡ f.length) → min (t.piece_length * s.to) f.length ≤ length bytes → IsFirstBadNumber s.from s.to (IsPieceGood t f bytes) bad
-    → IsPartVerdict t r f (Some bytes) (file_says f.first_piece bad)
+    → IsPartVerdict t r f (Some bytes) (file_says f.first_piece false bad)
 good_or_bad t r f s bytes None span ends whole all = λ touched. (
   bytes,
   refl,
@@ -115,6 +126,15 @@ v1_good_or_bad t v r f s bytes (Some p) span first =
       λ j lt has. (let b = held_between t r f s j span has.inside has.held in first.3 j b.0 lt),
     )
 
+-- pieces that were read are of a file that was read whole
+pub row_is_whole : (by_root : Bool) (first : ℕ) (x : Found) → is_whole (row_says by_root first x) ≡ true
+row_is_whole by_root first x = whole (by_root && x.root_is) x.bad
+  where
+    whole : (root_is : Bool) (bad : Option ℕ) → is_whole (file_says first root_is bad) ≡ true
+    whole true bad = refl
+    whole false None = refl
+    whole false (Some p) = refl
+
 v1_checked : (first : ℕ) (bad : Option ℕ) → is_checked (v1_says first bad) ≡ true
 v1_checked first None = refl
 v1_checked first (Some q) = refl
@@ -128,56 +148,34 @@ both a b = record { file = a; v1 = b }
 both_are : (v : Verdicts) (a : FileVerdict) (b : V1Verdict) → v.file ≡ a → v.v1 ≡ b → both a b ≡ v
 both_are v a b at bt = ap₂ both (sym at) (sym bt)
 
-module _ (t : Description) (r : Places) (f : FileEntry) (Says : FileEntry → Option (List ℕ) → FileVerdict → Type 0)
-    (stated : Option (Option (List ℕ))) (bits : List ℕ) (v : Verdicts) where
-  -- the file is unreadable, and may have any content
-  pub finds_unreadable : ((content : Option (List ℕ)) → Says f content file.Unreadable) → v.file ≡ file.Unreadable → v.v1 ≡ version1.NotChecked
-      → FindsAs r Says t f stated bits v
-  finds_unreadable says at bt = subst (FindsAs r Says t f stated bits) (both_are v file.Unreadable version1.NotChecked at bt) (record {
-    content = known stated;
-    agrees = known_agrees stated;
-    verdict = says (known stated);
-    version1 = λ w hybrid. tt;
-    checked = refl;
-    marks = λ runs. (let no : ⊥ = cc in absurd no);
-  })
+-- what the verdicts of a check mean for a file
+pub record Meaning (t : Description) (f : FileEntry) : Type 1 where
+  pub places : Places
+  pub says : FileEntry → Option (List ℕ) → FileVerdict → Type 0
+  pub missing : says f None file.Missing
+  pub unread : (content : Option (List ℕ)) → says f content file.Unreadable
+  pub other : (bytes : List ℕ) → length bytes ≢ f.length → says f (Some bytes) file.WrongLength
 
-  -- nothing has its name
-  pub finds_missing : Says f None file.Missing → Agrees stated None → v.file ≡ file.Missing → v.v1 ≡ version1.NotChecked
-      → FindsAs r Says t f stated bits v
-  finds_missing says agrees at bt = subst (FindsAs r Says t f stated bits) (both_are v file.Missing version1.NotChecked at bt) (record {
-    content = None;
-    agrees = agrees;
-    verdict = says;
-    version1 = λ w hybrid. tt;
-    checked = refl;
-    marks = λ runs. (let no : ⊥ = cc in absurd no);
-  })
+-- those of a part
+abbrev pub part_meaning : (t : Description) → Places → (f : FileEntry) → Meaning t f
+part_meaning t r f = record {
+  places = r;
+  says = IsPartVerdict t r;
+  missing = refl;
+  unread = λ content. tt;
+  other = λ bytes other. (bytes, refl, other);
+}
 
-  -- its content is not as long as stated
-  pub finds_other_length : (bytes : List ℕ) → Says f (Some bytes) file.WrongLength → Agrees stated (Some bytes)
-      → MarksIn t r f (Some bytes) file.WrongLength bits → v.file ≡ file.WrongLength → v.v1 ≡ version1.NotChecked → FindsAs r Says t f stated bits v
-  finds_other_length bytes says agrees marks at bt =
-      subst (FindsAs r Says t f stated bits) (both_are v file.WrongLength version1.NotChecked at bt) (record {
-        content = Some bytes;
-        agrees = agrees;
-        verdict = says;
-        version1 = λ w hybrid. tt;
-        checked = refl;
-        marks = marks;
-      })
+-- the verdict on pieces of a file in a row follows from what was found of them
+pub record Judges (t : Description) (f : FileEntry) (m : Meaning t f) (s : Span) (by_root : Bool) : Type 0 where
+  pub span : IsSpanOf t m.places f s
+  pub row : (bits bytes : List ℕ) (x : Found) → FoundPieces t f s bits x bytes → m.says f (Some bytes) (row_says by_root f.first_piece x)
 
--- the file has no place in the part
-pub finds_other : (t : Description) (r : Places) (f : FileEntry) (stated : Option (Option (List ℕ))) (bits : List ℕ) (v : Verdicts) → (Touches t r f → ⊥)
-    → v.file ≡ file.Good → v.v1 ≡ version1.Good → FindsFile t r f stated bits v
-finds_other t r f stated bits v other at bt = subst (FindsFile t r f stated bits) (both_are v file.Good version1.Good at bt) (record {
-  content = known stated;
-  agrees = known_agrees stated;
-  verdict = λ touched. absurd (other touched);
-  version1 = λ w hybrid k bytes has. absurd (other (piece_touches t r f k has.inside has.held));
-  checked = refl;
-  marks = λ runs. (let no : ⊥ = cc in absurd no);
-})
+pub part_judges : (t : Description) (r : Places) (f : FileEntry) (s : Span) → IsSpanOf t r f s → Judges t f (part_meaning t r f) s false
+part_judges t r f s span = record {
+  span = span;
+  row = λ bits bytes x so. good_or_bad t r f s bytes x.bad span so.ends so.whole so.judged.0;
+}
 
 -- the bits of the row are those of the pieces among the places
 row_marks : (t : Description) (r : Places) (f : FileEntry) (s : Span) (bytes bits : List ℕ) → IsSpanOf t r f s → AreBitsOf t f s.from s.to bytes bits
@@ -191,41 +189,64 @@ pub record HoldsFound (stated : Option (Option (List ℕ))) (t : Description) (f
   pub agrees : Agrees stated (Some bytes)
   pub so : FoundOfPieces t f s bits found bytes
 
--- the file was opened and read, and is said so
-module _ (t : Description) (r : Places) (f : FileEntry) (s : Span) (span : IsSpanOf t r f s) (Says : FileEntry → Option (List ℕ) → FileVerdict → Type 0)
-    (says : Found → FileVerdict) (on : (x : Found) → is_whole (says x) ≡ true) (stated : Option (Option (List ℕ))) (bits : List ℕ) (v : Verdicts)
-    (good : (bytes : List ℕ) (x : Found) → FoundPieces t f s bits x bytes → Says f (Some bytes) (says x))
-    (other : (bytes : List ℕ) → length bytes ≢ f.length → Says f (Some bytes) file.WrongLength)
-    (unread : (content : Option (List ℕ)) → Says f content file.Unreadable) where
-  pub found_as : (answer : Result (Option Found) DeviceFault) → IfOk answer (HoldsFound stated t f s bits) → SaysAs says f.first_piece answer v
-      → FindsAs r Says t f stated bits v
-  found_as (Ok (Some x)) got at = subst (FindsAs r Says t f stated bits) (both_are v (says x) (v1_says f.first_piece x.bad_cut) at.0 at.1) (record {
-    content = Some got.bytes;
-    agrees = got.agrees;
-    verdict = good got.bytes x got.so;
-    version1 = λ w hybrid. v1_good_or_bad t w r f s got.bytes x.bad_cut span (got.so.judged.1 w hybrid);
-    checked = v1_checked f.first_piece x.bad_cut ∙ sym (on x);
-    marks = λ runs. (got.bytes, refl, row_marks t r f s got.bytes bits span got.so.bits_of);
-  })
-  found_as (Ok None) got at = finds_other_length t r f Says stated bits v got.bytes (other got.bytes got.so.other) got.agrees
-      (λ runs. (got.bytes, refl, row_marks t r f s got.bytes bits span got.so.bits_of)) at.0 at.1
-  found_as (Err e) got at = finds_unreadable t r f Says stated bits v unread at.0 at.1
+module _ (t : Description) (f : FileEntry) (m : Meaning t f) (stated : Option (Option (List ℕ))) (bits : List ℕ) (v : Verdicts) where
+  abbrev pub FindsIt : Type 0
+  FindsIt = FindsAs m.places m.says t f stated bits v
 
--- the file was opened at the first of its pieces in the part
-pub finds_read : (t : Description) (r : Places) (f : FileEntry) (s : Span) (stated : Option (Option (List ℕ))) (left : Option (List ℕ)) (bits : List ℕ)
-    (answer : Result (Option Found) DeviceFault) (v : Verdicts)
-    → IsSpanOf t r f s → IsFound (from_offset (t.piece_length * s.from) stated) (Some left) → IfOk answer (FindsPieces t f s left bits)
-    → SaysFound f.first_piece answer v → FindsFile t r f stated bits v
-finds_read t r f s stated left bits answer v span opened read says =
-    found_as t r f s span (IsPartVerdict t r) (λ x. file_says f.first_piece x.bad) (file_is_whole f.first_piece) stated bits v
-    (λ bytes x so. good_or_bad t r f s bytes x.bad span so.ends so.whole so.judged.0) (λ bytes other. (bytes, refl, other)) (λ content. tt) answer
-    (held answer read) says
-  where
-    held : (answer : Result (Option Found) DeviceFault) → IfOk answer (FindsPieces t f s left bits) → IfOk answer (HoldsFound stated t f s bits)
-    held (Ok found) read =
-        let on = goes_on_so stated (t.piece_length * s.from) left read.rest opened read.agrees in
-        record { bytes = on.bytes; agrees = on.agrees; so = read.each on.bytes on.from_there }
-    held (Err e) read = tt
+  -- the file was not read whole
+  pub finds_not_whole : (w : FileVerdict) (content : Option (List ℕ)) → is_whole w ≡ false → Agrees stated content → m.says f content w
+      → MarksIn t m.places f content w bits → IsNotWhole w v → FindsIt
+  finds_not_whole w content off agrees says marks is =
+      subst (FindsAs m.places m.says t f stated bits) (both_are v w version1.NotChecked is.0 is.1) (record {
+        content = content;
+        agrees = agrees;
+        verdict = says;
+        version1 = λ w hybrid. tt;
+        checked = sym off;
+        marks = marks;
+      })
+
+  -- it is unreadable, and may have any content
+  pub finds_unreadable : IsNotWhole file.Unreadable v → FindsIt
+  finds_unreadable = finds_not_whole file.Unreadable (known stated) refl (known_agrees stated) (m.unread (known stated))
+      (λ runs. (let no : ⊥ = cc in absurd no))
+
+  -- nothing has its name
+  pub finds_missing : Agrees stated None → IsNotWhole file.Missing v → FindsIt
+  finds_missing agrees = finds_not_whole file.Missing None refl agrees m.missing (λ runs. (let no : ⊥ = cc in absurd no))
+
+  -- its content is not as long as stated
+  pub finds_other_length : (bytes : List ℕ) → length bytes ≢ f.length → Agrees stated (Some bytes) → MarksIn t m.places f (Some bytes) file.WrongLength bits
+      → IsNotWhole file.WrongLength v → FindsIt
+  finds_other_length bytes other agrees = finds_not_whole file.WrongLength (Some bytes) refl agrees (m.other bytes other)
+
+  -- the file was opened and read
+  pub finds_read : (s : Span) (by_root : Bool) (answer : Result (Option Found) DeviceFault) → Judges t f m s by_root
+      → IfOk answer (HoldsFound stated t f s bits) → SaysRead by_root f.first_piece answer v → FindsIt
+  finds_read s by_root (Ok (Some x)) j got is =
+      subst (FindsAs m.places m.says t f stated bits) (both_are v (row_says by_root f.first_piece x) (v1_says f.first_piece x.bad_cut) is.0 is.1) (record {
+        content = Some got.bytes;
+        agrees = got.agrees;
+        verdict = j.row bits got.bytes x got.so;
+        version1 = λ w hybrid. v1_good_or_bad t w m.places f s got.bytes x.bad_cut j.span (got.so.judged.1 w hybrid);
+        checked = v1_checked f.first_piece x.bad_cut ∙ sym (row_is_whole by_root f.first_piece x);
+        marks = λ runs. (got.bytes, refl, row_marks t m.places f s got.bytes bits j.span got.so.bits_of);
+      })
+  finds_read s by_root (Ok None) j got is = finds_other_length got.bytes got.so.other got.agrees
+      (λ runs. (got.bytes, refl, row_marks t m.places f s got.bytes bits j.span got.so.bits_of)) is
+  finds_read s by_root (Err e) j got is = finds_unreadable is
+
+-- the file has no place in the part
+pub finds_other : (t : Description) (r : Places) (f : FileEntry) (stated : Option (Option (List ℕ))) (bits : List ℕ) (v : Verdicts) → (Touches t r f → ⊥)
+    → v.file ≡ file.Good → v.v1 ≡ version1.Good → FindsAs r (IsPartVerdict t r) t f stated bits v
+finds_other t r f stated bits v other at bt = subst (FindsAs r (IsPartVerdict t r) t f stated bits) (both_are v file.Good version1.Good at bt) (record {
+  content = known stated;
+  agrees = known_agrees stated;
+  verdict = λ touched. absurd (other touched);
+  version1 = λ w hybrid k bytes has. absurd (other (piece_touches t r f k has.inside has.held));
+  checked = refl;
+  marks = λ runs. (let no : ⊥ = cc in absurd no);
+})
 
 -- ---- numbers
 

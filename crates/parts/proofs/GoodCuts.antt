@@ -5,8 +5,8 @@ use Rattle.std.proofs.Math.Nat.{mul-le-mul_left}
 use Rattle.std.proofs.lemmas.List.{get_or-drop, get_or-take, length-drop, length-take}
 use Rattle.std.proofs.lemmas.Option.{get_or_from_slice_get, slice_get-get_or}
 use Rattle.sha1.specs.Sha1.{sha1}
-use Rattle.block_windows.specs.Files.{bytes_at}
-use Rattle.cut_windows.specs.Windows.{AreFileCutsListed}
+use Rattle.file_windows.specs.Files.{bytes_at}
+use Rattle.file_windows.specs.Windows.{AreFileCutsListed}
 use Rattle.opening.specs.Description.{Description, FileEntry, Version1}
 use Rattle.opening.specs.Sound.{IsSound}
 use Rattle.pieces.specs.Cuts.{cut, filled_up}

@@ -1,6 +1,5 @@
 pub mod Batched
 pub mod Files
-pub mod PartVisited
 pub mod Contents
 pub mod FirstFiles
 pub mod FoundFiles
@@ -12,7 +11,7 @@ pub mod Joined
 pub mod Judged
 pub mod MarkedVisits
 pub mod One
-pub mod PartReads
+pub mod FileReads
 pub mod PlaceTests
 pub mod Reported
 pub mod Ranks

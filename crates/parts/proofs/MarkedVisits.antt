@@ -18,14 +18,16 @@ use Rattle.parts.specs.Checking.{shelf_and_sink}
 use Rattle.parts.specs.MarkedChecks.{ChecksMarkedPart, SaysMarked}
 use Rattle.parts.specs.MarkedLines.{marked_head_row, marked_place_rows, marked_rows, verdicts_of}
 use Rattle.parts.specs.PartLines.{part_end_rows}
+use Rattle.parts.specs.Parts.{IsTruePart}
 use Rattle.parts.specs.Runs.{Run}
 use Rattle.parts.specs.Shares.{share}
 use Rattle.parts.specs.Telling.{AreMarkedRuns, Tells}
-use Rattle.parts.specs.Visiting.{VisitsOne, part_visiting, verdicts_in}
+use Rattle.parts.specs.Visiting.{VisitsAll, VisitsOne, part_visiting, verdicts_in}
 use Rattle.parts.specs.declared.places.Places.{Places}
+use Rattle.parts.specs.declared.telling.Telling.{Telling}
 use Rattle.parts.specs.declared.telling.Telling.TheVariants as telling
-use Rattle.parts.proofs.PartVisited.{true_of_contents}
 use Rattle.parts.proofs.Reported.{at_next, flushed_after}
+use Rattle.parts.proofs.ToldFirst.{verdicts_say}
 
 module _ {S F : Type 0} (spelled : Spelling) (shelf : Ghosts S F) (opens_at : S → List (List ℕ) → ℕ → Result (Option F) DeviceFault → S → Type 0)
     (seen : F → SourceSeen) (t : Description) (r : Places) where
@@ -77,32 +79,45 @@ module _ {S F : Type 0} (spelled : Spelling) (shelf : Ghosts S F) (opens_at : S 
             (subst (Sent old.1 mid.1) here.2 step.told) later.went);
       }
 
+-- the verdicts are true of the contents that were found
+pub true_of_contents : {S F : Type 0} (shelf : Ghosts S F) (opens_at : S → List (List ℕ) → ℕ → Result (Option F) DeviceFault → S → Type 0)
+    (seen : F → SourceSeen) (r : Places) (t : Description) (spelled : Spelling) (telling : Telling) (files : List FileVerdict) (v1 : Option V1Verdict)
+    (old new : S × SinkSeen) → (all : VisitsAll (part_visiting shelf opens_at seen r t) spelled t telling files v1 old new)
+    → IsTruePart t all.contents (record { places = r; files = files; v1 = v1 })
+true_of_contents shelf opens_at seen r t spelled telling files v1 old new all = record {
+  count = all.has.count;
+  hybrid = all.has.hybrid;
+  checked = all.has.checked;
+  each = verdicts_say (part_visiting shelf opens_at seen r t) spelled t telling files v1 old new all;
+  version1 = all.version1;
+}
+
 -- the whole report went out
 pub marked_prints : {S F : Type 0} (spelled : Spelling) (shelf : Ghosts S F) (opens_at : S → List (List ℕ) → ℕ → Result (Option F) DeviceFault → S → Type 0)
     (seen : F → SourceSeen) (t : Description) (part parts : ℕ) (verdicts : List FileVerdict) (v1 : Option V1Verdict) (old new : S × SinkSeen)
     → ChecksMarkedPart spelled shelf opens_at seen t part parts verdicts v1 old new
     → SaysMarked spelled t part parts (shelf.contents old.0).under verdicts v1 old.1 new.1
 marked_prints spelled shelf opens_at seen t part parts verdicts v1 old new checks =
-    let all = checks.all in
     let r : Places = share t part parts in
-    let begun = shelf_and_sink old.0 checks.begun in
+    let begun = shelf_and_sink old.0 checks.all.begun in
     let done = shelf_and_sink new.0 checks.mid in
-    let said = said_marks spelled shelf opens_at seen t r all.contents begun t.files all.told done all.visited
-    (λ n f x there is. (all.each n f x there is).1) in
+    let files = checks.all.files in
+    let said = said_marks spelled shelf opens_at seen t r files.contents begun t.files files.told done files.visited
+    (λ n f x there is. (files.each n f x there is).1) in
     let lines : List Row = marked_place_rows t r said.marked t.files in
     let last : List Row = part_end_rows (verdicts_of said.marked) v1 in
-    let same : verdicts_of said.marked ≡ verdicts = said.same ∙ all.verdicts_are in
+    let same : verdicts_of said.marked ≡ verdicts = said.same ∙ files.verdicts_are in
     let end = subst (λ vs. SentAndFlushed checks.mid new.1 (spell spelled (part_end_rows vs v1))) (sym same) checks.end in
     record {
       are_true = record {
-        contents = all.contents;
-        agree = all.agree;
-        are_true = true_of_contents shelf opens_at seen r t spelled (telling.RunsIn r) verdicts v1 begun done all;
+        contents = files.contents;
+        agree = files.agree;
+        are_true = true_of_contents shelf opens_at seen r t spelled (telling.RunsIn r) verdicts v1 begun done files;
       };
       marked = said.marked;
       verdicts_are = same;
       runs = said.runs;
-      went = flushed_after old.1 checks.begun new.1 (spelled (marked_head_row t part parts)) (spell spelled (lines ++ last)) checks.head
-          (subst (SentAndFlushed checks.begun new.1) (sym (flat_map-append spelled lines last))
-          (flushed_after checks.begun checks.mid new.1 (spell spelled lines) (spell spelled last) said.went end));
+      went = flushed_after old.1 checks.all.begun new.1 (spelled (marked_head_row t part parts)) (spell spelled (lines ++ last)) checks.all.head
+          (subst (SentAndFlushed checks.all.begun new.1) (sym (flat_map-append spelled lines last))
+          (flushed_after checks.all.begun checks.mid new.1 (spell spelled lines) (spell spelled last) said.went end));
     }

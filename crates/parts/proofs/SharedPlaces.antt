@@ -12,8 +12,9 @@ use Rattle.opening.specs.Sound.{IsSound}
 use Rattle.pieces.specs.Pieces.{pieces_of}
 use Rattle.pieces.proofs.Cutting.{pieces_cover}
 use Rattle.folders.proofs.Places.{pieces_are_positive}
+use Rattle.folders.specs.Verdicts.{IsFileOf}
 use Rattle.parts.specs.Laws.{SharesHaveAllPlaces}
-use Rattle.parts.specs.Parts.{Holds, place_count}
+use Rattle.parts.specs.Parts.{Holds, piece_count, place_count}
 use Rattle.parts.specs.Shares.{all_bytes, piece_at_byte, start}
 
 -- ---- all places
@@ -84,6 +85,12 @@ sum_next f t n g there =
     let next : sum_by f (take (n + 1) t.files) ≡ sum_by f (take n t.files) + f g =
     sum_by_more f t.files n g (slice_get_within t.files n g there) ∙ ap (λ h. sum_by f (take n t.files) + f h) (get_or_from_slice_get t.files n g g there) in
     (next, omega (arith, next, sum_by-take-le f t.files (n + 1)))
+
+-- the numbers of a file's pieces are small
+pub few_pieces : (t : Description) (f : FileEntry) → IsSound t → IsFileOf t f → f.first_piece + piece_count t f < 2 ^ 32
+few_pieces t f sound file =
+    let end = sum_next (λ (g : FileEntry). piece_count t g) t file.0 f file.1 in
+    omega (arith, end.1, sound.laid_out.first_pieces file.0 f file.1, sound.laid_out.pieces)
 
 -- the place of a byte, one file on
 pub place_next : (pl past : ℕ) (fs : List FileEntry) (n byte : ℕ) (f : FileEntry) → slice_get fs n ≡ Some f

@@ -1,11 +1,11 @@
 -- What was told of a file.
 use Rattle.std.proofs.Common.{◌≡◌, ℕ, ◌*◌, ◌≤◌, Bool, true, false, List, [], ◌∷◌, ◌++◌}
-use Rattle.std.proofs.Common.{length, Option, Result, Ok, Err, refl, ap, sym, ◌∙◌, subst, append-nil, arith}
+use Rattle.std.proofs.Common.{length, Option, Ok, Err, refl, ap, sym, ◌∙◌, subst, append-nil, arith}
 use Rattle.std.proofs.lemmas.Grind.{flat_map-append}
 use Rattle.std.proofs.lemmas.Option.{none-some}
 use Rattle.benc.proofs.Known.{Appends_nothing}
 use Rattle.benc.proofs.Out.{Broke-append, Sent-append}
-use Rattle.benc.specs.Device.{Broke, Sent, SinkSeen, Wrote}
+use Rattle.benc.specs.Device.{Broke, Sent, SinkSeen}
 use Rattle.benc.specs.declared.device.DeviceFault.{DeviceFault}
 use Rattle.lines.specs.Rows.{Row, Spelling, spell}
 use Rattle.opening.specs.Description.{Description, FileEntry}
@@ -16,7 +16,7 @@ use Rattle.folders.specs.declared.report.FileVerdict.{FileVerdict}
 use Rattle.parts.specs.PartLines.{has_place, held_rows}
 use Rattle.parts.specs.Parts.{Touches, piece_count}
 use Rattle.parts.specs.RowBits.{HasGoodPiece}
-use Rattle.parts.specs.Runs.{AreBadRuns, AreClearRuns, AreRunsIn, IsGoodIfIn, Run, WentFirst, runs_rows}
+use Rattle.parts.specs.Runs.{AreBadRuns, AreClearRuns, AreRunsIn, IsGoodIfIn, IsSetIfIn, Run, WentFirst, runs_rows}
 use Rattle.parts.specs.Spans.{IsSpanOf, first_in}
 use Rattle.parts.specs.Telling.{AreMarkedRuns, AreToldRuns, MarksIn, MarksRow, NeedsBits, TellsFile, has_runs}
 use Rattle.parts.specs.declared.places.Places.{Places}
@@ -33,22 +33,6 @@ needs_bits s lines is = subst NeedsBits (sym is) tt
 
 pub needs_bits_in : (s : Telling) (r : Places) → s ≡ telling.RunsIn r → NeedsBits s
 needs_bits_in s r is = subst NeedsBits (sym is) tt
-
--- nothing
-pub told_nothing : (spelled : Spelling) (t : Description) (f : FileEntry) (v : FileVerdict) (bits : List ℕ) (out : SinkSeen)
-    → TellsFile spelled t telling.Nothing f v bits out out (Ok tt)
-told_nothing spelled t f v bits out = record {
-  text = [];
-  went = record { bytes = Appends_nothing out.written; faults = refl; flushes = refl };
-  is = λ content marks. refl;
-}
-
--- a line
-pub told_line : (spelled : Spelling) (t : Description) (lines : Lines) (f : FileEntry) (v : FileVerdict) (bits : List ℕ) (old new : SinkSeen)
-    (r : Result (Unit {0}) DeviceFault)
-    → Wrote old new r (spell spelled (wanted_rows lines v f)) → TellsFile spelled t (telling.Line lines) f v bits old new r
-told_line spelled t lines f v bits old new (Ok u) wrote = record { text = spell spelled (wanted_rows lines v f); went = wrote; is = λ content marks. refl }
-told_line spelled t lines f v bits old new (Err e) wrote = record { text = spell spelled (wanted_rows lines v f); went = wrote; is = λ content marks. refl }
 
 -- ---- a line and runs
 
@@ -103,15 +87,6 @@ module _ (spelled : Spelling) (t : Description) (f : FileEntry) (v : FileVerdict
     is = λ content marks. ([], first_none content row asks marks (has_runs v) refl, ap (spell spelled) (sym (append-nil front)));
   }
 
-  -- it stands alone
-  pub front_alone : (old new : SinkSeen) → has_runs v ≡ false → Sent old new (spell spelled front)
-      → SaysRuns spelled t f v bits from to front (AreAll t f IsGood) (Sent old new)
-  front_alone old new off sent = record {
-    text = spell spelled front;
-    went = sent;
-    is = λ content marks. ([], subst (λ b. AreToldRuns (AreAll t f IsGood) b content []) (sym off) refl, ap (spell spelled) (sym (append-nil front)));
-  }
-
   -- all runs follow
   pub front_and_runs : (old mid new : SinkSeen) (runs : List Run) → IsRow t f from to bits → AsksOfRow t f from to IsGood → has_runs v ≡ true
       → Sent old mid (spell spelled front) → AreClearRuns t f from to bits (piece_count t f) runs → Sent mid new (spell spelled (runs_rows t f runs))
@@ -125,7 +100,7 @@ module _ (spelled : Spelling) (t : Description) (f : FileEntry) (v : FileVerdict
 
   -- some do, before one broke off
   pub runs_broke : (old mid new : SinkSeen) → IsRow t f from to bits → AsksOfRow t f from to IsGood → has_runs v ≡ true
-      → Sent old mid (spell spelled front) → WentFirst spelled t f from to bits (Broke mid new)
+      → Sent old mid (spell spelled front) → WentFirst spelled t f (IsSetIfIn 0 from to bits) (Broke mid new)
       → SaysRuns spelled t f v bits from to front (AreFirst t f IsGood) (Broke old new)
   runs_broke old mid new row asks on first (runs, end, le, are, broke) = record {
     text = spell spelled (front ++ runs_rows t f runs);
@@ -213,17 +188,9 @@ module _ (spelled : Spelling) (t : Description) (r : Places) (f : FileEntry) (s 
       (front_broke spelled t f v bits s.from s.to (verdict_row v f ∷ []) (IsGoodIfIn t r f) old new (span_row t r f s bits is room)
       (span_asks t r f s is) (wrote_one spelled (verdict_row v f) old new (Err e) broke))
 
-  -- it stands alone
-  pub span_line_alone : (old new : SinkSeen) → has_runs v ≡ false → Sent old new (spelled (verdict_row v f))
-      → TellsFile spelled t (telling.RunsIn r) f v bits old new (Ok tt)
-  span_line_alone old new off sent =
-      span_told spelled t r f s v bits old new is has_one
-      (front_alone spelled t f v bits s.from s.to (verdict_row v f ∷ []) (IsGoodIfIn t r f) old new off
-      (wrote_one spelled (verdict_row v f) old new (Ok tt) sent))
-
   -- the line of a run behind it broke off
   pub span_run_broke : (old mid new : SinkSeen) (e : DeviceFault) → has_runs v ≡ true → Sent old mid (spelled (verdict_row v f))
-      → WentFirst spelled t f s.from s.to bits (Broke mid new) → TellsFile spelled t (telling.RunsIn r) f v bits old new (Err e)
+      → WentFirst spelled t f (IsSetIfIn 0 s.from s.to bits) (Broke mid new) → TellsFile spelled t (telling.RunsIn r) f v bits old new (Err e)
   span_run_broke old mid new e on sent went =
       span_first spelled t r f s v bits old new e is has_one
       (runs_broke spelled t f v bits s.from s.to (verdict_row v f ∷ []) (IsGoodIfIn t r f) old mid new (span_row t r f s bits is room)

@@ -25,7 +25,7 @@ use Rattle.parts.specs.Checking.{StopsInBatch, shelf_and_sink}
 use Rattle.parts.specs.Finding.{FindsWhole}
 use Rattle.parts.specs.Held.{VisitsFound}
 use Rattle.parts.specs.Telling.{NeedsBits, Tells, TellsFirst, TellsNothing, Told}
-use Rattle.parts.specs.Visiting.{Visiting, whole_visiting}
+use Rattle.parts.specs.Visiting.{Visiting, VisitsFile, whole_visiting}
 use Rattle.lines.specs.Rows.{Spelling, spell}
 use Rattle.parts.specs.Worse.{worse_v1}
 use Rattle.parts.specs.declared.telling.Telling.{Telling}
@@ -34,16 +34,21 @@ use Rattle.parts.specs.declared.verdicts.Verdicts.{Verdicts}
 use Rattle.parts.proofs.Contents.{contents_extend, contents_of}
 use Rattle.parts.proofs.ToldFirst.{IsToldFirst, plain_tells, told_count, told_none, told_one, verdict_at, visits_of}
 
--- what is found needs no bits
-pub no_bits : (t : Description) (f : FileEntry) (known : Option (Option (List ℕ))) (bits : List ℕ) (v : Verdicts) → FindsWhole t f known bits v
-    → FindsWhole t f known [] v
-no_bits t f known bits v found = record {
-  content = found.content;
-  agrees = found.agrees;
-  verdict = found.verdict;
-  version1 = found.version1;
-  checked = found.checked;
-  marks = λ runs. let m = found.marks runs in (m.0, m.1, λ j lt. absurd (omega (arith, lt)));
+-- a visit needs no bits
+pub no_bits : {S F : Type 0} (shelf : Ghosts S F) (seen : F → SourceSeen) (t : Description) (s : S) (f : FileEntry) (bits : List ℕ) (v : Verdicts) (s' : S)
+    → VisitsFile (whole_visiting shelf seen t) t s f bits v s' → VisitsFound shelf seen t s f v s'
+no_bits shelf seen t s f bits v s' visit = record {
+  finds = record {
+    content = visit.finds.content;
+    agrees = visit.finds.agrees;
+    verdict = visit.finds.verdict;
+    version1 = visit.finds.version1;
+    checked = visit.finds.checked;
+    marks = λ runs. let m = visit.finds.marks runs in (m.0, m.1, λ j lt. absurd (omega (arith, lt)));
+  };
+  visits = visit.visits;
+  counts = visit.counts;
+  stays = visit.stays;
 }
 
 -- an item, and what follows it

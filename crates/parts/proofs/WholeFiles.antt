@@ -1,43 +1,29 @@
--- What the check of a whole file found, by how its opening and its reading were answered.
+-- A whole file as all of its pieces in a row, judged by its root.
 use Rattle.std.proofs.Common.{◌≡◌, ℕ, ◌+◌, ◌-◌, ◌*◌, ◌<◌, ◌≤◌, Bool}
-use Rattle.std.proofs.Common.{true, false, List, length, drop, IsTrue, slice_get, Option, Some, None}
-use Rattle.std.proofs.Common.{Result, Ok, Err, IfOk, OnErr, refl, ap, sym, ◌∙◌, subst, arith}
+use Rattle.std.proofs.Common.{true, false, List, length, IsTrue, slice_get, Option, Some, None, refl, ap, sym, ◌∙◌, subst, arith}
 use Rattle.std.proofs.lemmas.List.{nil_from_length}
 use Rattle.std.proofs.lemmas.List.Sums.{sum_by-take-le}
-use Rattle.benc.specs.Device.{CountsFault, SourceSeen}
-use Rattle.benc.specs.declared.device.DeviceFault.{DeviceFault}
 use Rattle.opening.specs.Description.{Description, FileEntry, TreeEntry}
 use Rattle.opening.specs.Sound.{IsSound}
 use Rattle.pieces.specs.Pieces.{pieces_of}
 use Rattle.hashtree.specs.Tree.{root_of}
 use Rattle.folders.specs.Folder.{IsGoodFile, tree_entry_of}
-use Rattle.folders.specs.Shelf.{IsFound}
-use Rattle.folders.specs.TakeAll.{IsReadWithin}
-use Rattle.folders.specs.Verdicts.{Agrees, IsVerdict, is_unreadable, is_whole}
-use Rattle.folders.specs.Visits.{IsReadFor}
-use Rattle.folders.proofs.Visiting.{agrees_opened}
+use Rattle.folders.specs.Verdicts.{IsVerdict}
+use Rattle.folders.specs.Visits.{whole_extent}
 use Rattle.folders.proofs.Places.{pieces_are_positive, pieces_next}
 use Rattle.folders.proofs.Reports.{has_tree}
 use Rattle.pieces.proofs.Cutting.{pieces_cover}
-use Rattle.parts.specs.FilePieces.{FindsPieces, FoundPieces, IsFirstBadNumber, TakesRowBytes}
-use Rattle.parts.specs.Finding.{FindsWhole, all_places}
+use Rattle.parts.specs.FilePieces.{IsFirstBadNumber}
+use Rattle.parts.specs.Finding.{all_places}
 use Rattle.parts.specs.Parts.{IsPieceGood, last_place, piece_count, place_count}
-use Rattle.parts.specs.Saying.{SaysWhole, whole_says}
-use Rattle.parts.specs.Spans.{IsSpan, IsSpanOf, span_bytes}
-use Rattle.parts.specs.declared.row.Found.{Found}
+use Rattle.parts.specs.Saying.{file_says}
+use Rattle.parts.specs.Spans.{IsSpan, IsSpanOf, IsWholeSpan}
 use Rattle.parts.specs.declared.places.Span.{Span}
-use Rattle.parts.specs.declared.verdicts.Verdicts.{Verdicts}
 use Rattle.parts.proofs.Files.{tree_of_file}
-use Rattle.parts.proofs.FoundFiles.{HoldsFound, found_as}
+use Rattle.parts.proofs.FileReads.{IsExtentOf}
+use Rattle.parts.proofs.FoundFiles.{Judges, Meaning}
 use Rattle.parts.proofs.Joined.{first_bad_piece, root_from_pieces}
-use Rattle.parts.proofs.PartReads.{own_fault_of, taken_for}
 use Rattle.parts.proofs.Streams.{in_pieces}
-
--- the span of all pieces of a file
-pub record IsWholeSpan (t : Description) (f : FileEntry) (s : Span) : Type 0 where
-  pub from_is : s.from ≡ 0
-  pub to_is : s.to ≡ piece_count t f
-  pub ends_is : s.ends ≡ true
 
 pub whole_shape : (t : Description) (f : FileEntry) (s : Span) → IsWholeSpan t f s → IsSpan t f s
 whole_shape t f s whole = record {
@@ -83,26 +69,37 @@ good_by_root t n f bytes sound there len root = record {
       (tree.0, tree.1, record { same_length = len ∙ sym (has_tree t n f tree.0 sound there tree.1).0; same_root = root tree.0 tree.1 });
 }
 
-verdict_of : (t : Description) (n : ℕ) (f : FileEntry) (s : Span) (bits bytes : List ℕ) (found : Found) → IsSound t → slice_get t.files n ≡ Some f
-    → IsWholeSpan t f s → FoundPieces t f s bits found bytes → IsVerdict t f (Some bytes) (whole_says f.first_piece found.root_is found.bad)
-verdict_of t n f s bits bytes found sound there whole so =
-    let len : length bytes ≡ f.length = so.ends whole.ends_is in
-    by_root found.root_is found.bad
-    (λ e is. so.root whole.from_is whole.ends_is e is)
-    (subst (λ from. IsFirstBadNumber from s.to (IsPieceGood t f bytes) found.bad) whole.from_is so.judged.0)
-    len
+-- what the verdicts of a check of whole files mean
+abbrev pub whole_meaning : (t : Description) (f : FileEntry) → Meaning t f
+whole_meaning t f = record {
+  places = all_places t;
+  says = IsVerdict t;
+  missing = refl;
+  unread = λ content. tt;
+  other = λ bytes other. (bytes, refl, other);
+}
+
+pub whole_judges : (t : Description) (n : ℕ) (f : FileEntry) (s : Span) → IsSound t → slice_get t.files n ≡ Some f → IsWholeSpan t f s
+    → Judges t f (whole_meaning t f) s true
+whole_judges t n f s sound there whole = record {
+  span = whole_span t n f s sound there whole;
+  row = λ bits bytes found so.
+      by_root bytes found.root_is found.bad (λ e is. so.root whole.from_is whole.ends_is e is)
+      (subst (λ from. IsFirstBadNumber from s.to (IsPieceGood t f bytes) found.bad) whole.from_is so.judged.0)
+      (so.ends whole.ends_is);
+}
   where
-    by_root : (root_is : Bool) (bad : Option ℕ)
+    by_root : (bytes : List ℕ) (root_is : Bool) (bad : Option ℕ)
         → ((e : TreeEntry) → tree_entry_of t f ≡ Some e → (IsTrue root_is → root_of bytes ≡ e.root) × (root_of bytes ≡ e.root → IsTrue root_is))
-        → IsFirstBadNumber 0 s.to (IsPieceGood t f bytes) bad → length bytes ≡ f.length → IsVerdict t f (Some bytes) (whole_says f.first_piece root_is bad)
-    by_root true bad root first len = (bytes, refl, good_by_root t n f bytes sound there len (λ e is. (root e is).0 refl))
-    by_root false None root all len = (
+        → IsFirstBadNumber 0 s.to (IsPieceGood t f bytes) bad → length bytes ≡ f.length → IsVerdict t f (Some bytes) (file_says f.first_piece root_is bad)
+    by_root bytes true bad root first len = (bytes, refl, good_by_root t n f bytes sound there len (λ e is. (root e is).0 refl))
+    by_root bytes false None root all len = (
       bytes,
       refl,
       good_by_root t n f bytes sound there len
           (λ e is. root_from_pieces t n f e bytes sound there is len (λ k lt. all k (omega arith) (omega (arith, lt, whole.to_is)))),
     )
-    by_root false (Some k) root first len =
+    by_root bytes false (Some k) root first len =
         let inside : k < piece_count t f = omega (arith, first.1, whole.to_is) in
         let some : 0 < f.length = omega (arith, in_pieces t.piece_length k f.length (pieces_are_positive t sound) inside) in
         let tree = tree_of_file t n f sound there some in (
@@ -119,80 +116,19 @@ verdict_of t n f s bits bytes found sound there whole so =
           },
         )
 
--- ---- what was found
+-- ---- how it is read
 
--- from its first byte on
-pub from_start : (t : Description) (s : Span) (f : FileEntry) (bytes : List ℕ) → IsWholeSpan t f s → drop (t.piece_length * s.from) bytes ≡ bytes
-from_start t s f bytes whole =
-    let none : t.piece_length * s.from ≡ 0 = ap (λ n. t.piece_length * n) whole.from_is ∙ omega arith in
-    ap (λ n. drop n bytes) none
-
-pub is_whole_says : (first : ℕ) (root_is : Bool) (bad : Option ℕ) → is_whole (whole_says first root_is bad) ≡ true
-is_whole_says first true bad = refl
-is_whole_says first false None = refl
-is_whole_says first false (Some p) = refl
-
--- the file was opened and read
-pub whole_found : (t : Description) (n : ℕ) (f : FileEntry) (s : Span) (stated : Option (Option (List ℕ))) (left : Option (List ℕ)) (bits : List ℕ)
-    (answer : Result (Option Found) DeviceFault) (v : Verdicts) → IsSound t → slice_get t.files n ≡ Some f → IsWholeSpan t f s
-    → IsFound stated (Some left) → IfOk answer (FindsPieces t f s left bits) → SaysWhole f.first_piece answer v → FindsWhole t f stated bits v
-whole_found t n f s stated left bits answer v sound there whole opened read says =
-    found_as t (all_places t) f s (whole_span t n f s sound there whole) (IsVerdict t) (λ x. whole_says f.first_piece x.root_is x.bad)
-    (λ x. is_whole_says f.first_piece x.root_is x.bad) stated bits v (λ bytes x so. verdict_of t n f s bits bytes x sound there whole so)
-    (λ bytes other. (bytes, refl, other)) (λ content. tt) answer (held answer read) says
-  where
-    held : (answer : Result (Option Found) DeviceFault) → IfOk answer (FindsPieces t f s left bits) → IfOk answer (HoldsFound stated t f s bits)
-    held (Ok found) read = record {
-      bytes = read.rest;
-      agrees = agrees_opened stated left read.rest opened read.agrees;
-      so = read.each read.rest (from_start t s f read.rest whole);
-    }
-    held (Err e) read = tt
-
--- ---- how it was read
+-- it begins at its first byte
+pub from_start : (t : Description) (f : FileEntry) (s : Span) → IsWholeSpan t f s → t.piece_length * s.from ≡ 0
+from_start t f s whole = ap (λ n. t.piece_length * n) whole.from_is ∙ omega arith
 
 -- all pieces have all bytes
-whole_bytes : (t : Description) (f : FileEntry) (s : Span) → 0 < t.piece_length → IsWholeSpan t f s → span_bytes t f s ≡ f.length
-whole_bytes t f s some whole =
-    let most : f.length ≤ piece_count t f * t.piece_length = pieces_cover t.piece_length f.length some in
-    let none : t.piece_length * s.from ≡ 0 = ap (λ n. t.piece_length * n) whole.from_is ∙ omega arith in
+pub whole_extent_of : (t : Description) (f : FileEntry) (s : Span) → IsSound t → IsWholeSpan t f s → IsExtentOf t f s (whole_extent f)
+whole_extent_of t f s sound whole =
+    let most : f.length ≤ piece_count t f * t.piece_length = pieces_cover t.piece_length f.length (pieces_are_positive t sound) in
     let end : t.piece_length * s.to ≡ piece_count t f * t.piece_length = ap (λ n. t.piece_length * n) whole.to_is ∙ omega arith in
-    omega (arith, most, none, end)
-
--- what the source had to give
-given_for : (t : Description) (n : ℕ) (f : FileEntry) (s : Span) (bits : List ℕ) (left : Option (List ℕ)) (answer : Result (Option Found) DeviceFault)
-    (v : Verdicts) → IsSound t → slice_get t.files n ≡ Some f → IsWholeSpan t f s → IfOk answer (FindsPieces t f s left bits)
-    → SaysWhole f.first_piece answer v → is_unreadable v.file ≡ false → (bytes : List ℕ) × Agrees left bytes × IsVerdict t f (Some bytes) v.file
-given_for t n f s bits left (Ok (Some x)) v sound there whole read says could =
-    let so = read.each read.rest (from_start t s f read.rest whole) in
-    (read.rest, read.agrees, subst (IsVerdict t f (Some read.rest)) (sym says.0) (verdict_of t n f s bits read.rest x sound there whole so))
-given_for t n f s bits left (Ok None) v sound there whole read says could =
-    let so = read.each read.rest (from_start t s f read.rest whole) in
-    (read.rest, read.agrees, subst (IsVerdict t f (Some read.rest)) (sym says.0) (read.rest, refl, so.other))
-given_for t n f s bits left (Err e) v sound there whole read says could =
-    let on : true ≡ false = sym (ap is_unreadable says.0) ∙ could in (let no : ⊥ = cc in absurd no)
-
-pub read_whole : (t : Description) (n : ℕ) (f : FileEntry) (s : Span) (bits : List ℕ) (old new : SourceSeen) (answer : Result (Option Found) DeviceFault)
-    (v : Verdicts) → IsSound t → slice_get t.files n ≡ Some f → IsWholeSpan t f s → IfOk answer (FindsPieces t f s old.left bits)
-    → IsReadWithin (span_bytes t f s + 1) old new → IfOk answer (TakesRowBytes (span_bytes t f s) old new)
-    → OnErr answer (IsReadWithin (span_bytes t f s) old new)
-    → CountsFault old.faults new.faults answer → SaysWhole f.first_piece answer v → IsReadFor t f v.file old new
-read_whole t n f s bits old new answer v sound there whole read within taken blamed counts says =
-    let size = whole_bytes t f s (pieces_are_positive t sound) whole in
-    let found_says = λ (x : Found). whole_says f.first_piece x.root_is x.bad in
-    let on = λ (x : Found). is_whole_says f.first_piece x.root_is x.bad in
-    let so = taken_for found_says on (span_bytes t f s) f.first_piece old new answer v taken blamed says in
     record {
-      within = subst (λ m. IsReadWithin (m + 1) old new) size within;
-      own_fault = own_fault_of found_says on f.first_piece old.faults new.faults answer v counts says;
-      gives = λ could.
-          let given = given_for t n f s bits old.left answer v sound there whole read says could in
-          record {
-            bytes = given.0;
-            agrees = given.1;
-            verdict = given.2;
-            whole = λ is. subst (λ m. new.limit + m ≡ old.limit) size (so.0 is);
-            other = λ is at. so.1 is could (subst (λ m. new.limit + m ≡ old.limit) (sym size) at);
-          };
-      early = λ is. subst (λ m. IsReadWithin m old new) size (so.2 is);
+      offset_is = from_start t f s whole;
+      size_is = omega (arith, most, end, from_start t f s whole);
+      ends_there = λ on. tt;
     }

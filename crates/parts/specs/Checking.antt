@@ -2,7 +2,7 @@
 -- of them goes out in the same order. `shelf` stands for what the shelf's type says of its shelves,
 -- and `seen` for what its files say.
 use Rattle.std.specs.Prelude.{◌≡◌, ◌⊎◌, ◌<◌, List, ◌∷◌, ◌++◌, length, slice_get, Option, Some, Result, Ok, Err}
-use Rattle.benc.specs.Device.{Broke, BrokeOrUnflushed, Sent, SentAndFlushed, SinkSeen, SourceSeen}
+use Rattle.benc.specs.Device.{Broke, Sent, SinkSeen, SourceSeen}
 use Rattle.benc.specs.declared.device.DeviceFault.{DeviceFault}
 use Rattle.folders.specs.Printed.{end_rows, verdicts_rows, wanted_rows}
 use Rattle.folders.specs.Stopping.{VisitsFirst}
@@ -13,6 +13,7 @@ use Rattle.folders.specs.declared.report.Report.{Report}
 use Rattle.folders.specs.declared.report.V1Verdict.{V1Verdict}
 use Rattle.folders.specs.declared.shelf.Shelf.{Ghosts}
 use Rattle.opening.specs.Description.{Description, FileEntry}
+use Rattle.parts.specs.Endings.{Course, EndsAs, EndsWell}
 use Rattle.parts.specs.Visiting.{StopsAtFile, VisitsAll, whole_visiting}
 use Rattle.lines.specs.Rows.{Spelling, spell}
 use Rattle.lines.specs.declared.out_fault.OutFault.{OutFault as CheckFault}
@@ -79,35 +80,23 @@ module _ {S F : Type 0} (shelf : Ghosts S F) (seen : F → SourceSeen) where
   EndsFiles spelled t telling old new (Err stopped.Write) = StopsInFiles spelled t telling old new
   EndsFiles spelled t telling old new (Err stopped.NoMemory) = (new.0 ≡ old.0) × (new.1 ≡ old.1)
 
-  -- all files were checked and told of, and then the end of the report went out, with one flush
-  pub record ChecksWhole (spelled : Spelling) (t : Description) (telling : Telling) (lines : Lines)
-      (verdicts : List FileVerdict) (v1 : Option V1Verdict) (old new : S × SinkSeen) : Type 0
-    where
-      pub mid : SinkSeen
-      pub all : ChecksAll spelled t telling verdicts v1 old (shelf_and_sink new.0 mid)
-      pub end : SentAndFlushed mid new.1 (spell spelled (end_rows lines verdicts v1))
+  module _ (spelled : Spelling) (t : Description) (telling : Telling) (lines : Lines) where
+    abbrev pub whole_course : Course S
+    whole_course = record {
+      all = ChecksAll spelled t telling;
+      stops = StopsInFiles spelled t telling;
+      end = end_rows lines;
+    }
 
-  -- all files were, and the end of the report broke off or was not flushed
-  pub record StopsAtEnd (spelled : Spelling) (t : Description) (telling : Telling) (lines : Lines)
-      (old new : S × SinkSeen) : Type 0 where
-    pub verdicts : List FileVerdict
-    pub v1 : Option V1Verdict
-    pub mid : SinkSeen
-    pub all : ChecksAll spelled t telling verdicts v1 old (shelf_and_sink new.0 mid)
-    pub broke : BrokeOrUnflushed mid new.1 (spell spelled (end_rows lines verdicts v1))
+    -- all files were checked and told of, and then the end of the report went out, with one flush
+    abbrev pub ChecksWhole : List FileVerdict → Option V1Verdict → S × SinkSeen → S × SinkSeen
+        → Type 0
+    ChecksWhole = EndsWell spelled whole_course
 
-  -- the sink failed at a file, or behind the last one
-  abbrev pub StopsTelling : Spelling → Description → Telling → Lines → S × SinkSeen → S × SinkSeen
-      → Type 0
-  StopsTelling spelled t telling lines old new =
-      StopsInFiles spelled t telling old new ⊎ StopsAtEnd spelled t telling lines old new
+    -- the sink failed at a file, or behind the last one
+    abbrev pub StopsTelling : S × SinkSeen → S × SinkSeen → Type 0
+    StopsTelling old new = EndsAs spelled whole_course old new (Err stopped.Write)
 
-  -- what a check did whose lines are spelled so, by its answer
-  abbrev pub ChecksAndSays : Spelling → Description → Telling → Lines → S × SinkSeen → S × SinkSeen
-      → Result Report CheckFault → Type 0
-  ChecksAndSays spelled t telling lines old new (Ok report) =
-      ChecksWhole spelled t telling lines report.files.items report.v1 old new
-  ChecksAndSays spelled t telling lines old new (Err stopped.Write) =
-      StopsTelling spelled t telling lines old new
-  ChecksAndSays spelled t telling lines old new (Err stopped.NoMemory) =
-      (new.0 ≡ old.0) × (new.1 ≡ old.1)
+    -- what a check did whose lines are spelled so, by its answer
+    abbrev pub ChecksAndSays : S × SinkSeen → S × SinkSeen → Result Report CheckFault → Type 0
+    ChecksAndSays = EndsAs spelled whole_course

@@ -4,7 +4,7 @@ use Rattle.benc.specs.Device.{SourceSeen}
 use Rattle.hashtree.specs.Tree.{root_of}
 use Rattle.opening.specs.Description.{Description, FileEntry, TreeEntry, Version1}
 use Rattle.folders.specs.Folder.{tree_entry_of}
-use Rattle.folders.specs.Verdicts.{Agrees}
+use Rattle.folders.specs.Visits.{HadBytes}
 use Rattle.parts.specs.Parts.{IsPieceGood, IsVersion1Good, piece_count}
 use Rattle.parts.specs.RowBits.{AreBitsOf}
 use Rattle.parts.specs.declared.row.Found.{Found}
@@ -32,14 +32,6 @@ pub record AreJudgedFrom (t : Description) (f : FileEntry) (from to : ℕ) (give
   pub judged : (bytes rest : List ℕ) → drop (t.piece_length * from) bytes ≡ given ++ rest
       → (to ≡ piece_count t f → length bytes ≡ f.length)
       → AreFirstBad t f from to bytes bad bad_cut
-
--- a source had these bytes to give, which are the known ones; and this is true of each content that
--- goes on so from a byte
-pub record HadBytes (left : Option (List ℕ)) (offset : ℕ) (IsTrueOf : List ℕ → Type 0) : Type 0
-  where
-    pub rest : List ℕ
-    pub agrees : Agrees left rest
-    pub each : (bytes : List ℕ) → drop offset bytes ≡ rest → IsTrueOf bytes
 
 -- of a content that is not as long as stated the bits tell which pieces are good
 pub record FoundOther (t : Description) (f : FileEntry) (s : Span) (bits bytes : List ℕ)

@@ -6,7 +6,7 @@ use Rattle.folders.specs.Verdicts.{AgreeWith, Agrees, IsVerdict, is_checked, is_
 use Rattle.folders.specs.declared.report.FileVerdict.{FileVerdict}
 use Rattle.folders.specs.declared.report.V1Verdict.{V1Verdict}
 use Rattle.folders.specs.declared.report.V1Verdict.TheVariants as version1
-use Rattle.parts.specs.Parts.{Holds, IsPartVerdict, IsVersion1Good, IsTruePart, piece_count, place_count}
+use Rattle.parts.specs.Parts.{Holds, IsVersion1Good, IsTruePart, piece_count, place_count}
 use Rattle.parts.specs.Telling.{MarksIn}
 use Rattle.parts.specs.declared.places.Places.{Places}
 use Rattle.parts.specs.declared.verdicts.Verdicts.{Verdicts}
@@ -44,16 +44,11 @@ pub record FindsAs (r : Places) (Says : FileEntry → Option (List ℕ) → File
     pub checked : is_checked found.v1 ≡ is_whole found.file
     pub marks : MarksIn t r f content found.file bits
 
--- so a part finds a file
-abbrev pub FindsFile : Description → Places → FileEntry → Option (Option (List ℕ)) → List ℕ
-    → Verdicts → Type 0
-FindsFile t r f known bits found = FindsAs r (IsPartVerdict t r) t f known bits found
-
 -- all places of a torrent
 abbrev pub all_places : Description → Places
 all_places t = record { from = 0; to = place_count t }
 
--- and so a check finds a whole file
+-- so a check finds a whole file
 abbrev pub FindsWhole : Description → FileEntry → Option (Option (List ℕ)) → List ℕ → Verdicts
     → Type 0
 FindsWhole t f known bits found = FindsAs (all_places t) (IsVerdict t) t f known bits found

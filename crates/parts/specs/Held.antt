@@ -1,5 +1,5 @@
 -- Files that are read whole and judged later, several of them together.
-use Rattle.std.specs.Prelude.{◌≡◌, ◌≢◌, ℕ, ◌+◌, ◌*◌, ◌<◌, ◌≤◌, true, List, [], Some, Result, Ok, Err}
+use Rattle.std.specs.Prelude.{◌≡◌, ◌≢◌, ℕ, ◌+◌, ◌*◌, ◌<◌, ◌≤◌, true, List, [], Option, Some, None, Result, Ok, Err}
 use Rattle.benc.specs.Device.{SourceSeen}
 use Rattle.benc.specs.declared.device.DeviceFault.{DeviceFault}
 use Rattle.folders.specs.Verdicts.{is_whole}
@@ -9,6 +9,7 @@ use Rattle.folders.specs.declared.shelf.Shelf.{Ghosts}
 use Rattle.opening.specs.Description.{Description, FileEntry, Version1}
 use Rattle.parts.specs.Finding.{FindsWhole}
 use Rattle.parts.specs.Parts.{IsVersion1Good, piece_count}
+use Rattle.parts.specs.Saying.{IsNotWhole}
 use Rattle.parts.specs.declared.held.HeldVisit.{HeldVisit}
 use Rattle.parts.specs.declared.held.HeldVisit.TheVariants as held
 use Rattle.parts.specs.declared.verdicts.Verdicts.{Verdicts}
@@ -16,21 +17,23 @@ use Rattle.parts.specs.Visiting.{VisitsFile, whole_visiting}
 
 -- ---- reading
 
--- what is held of a file of this stated size, by how many of its bytes were read
-abbrev pub IsHeldFor : Result ℕ DeviceFault → ℕ → HeldVisit → Type 0
-IsHeldFor (Ok count) size held.Missing = ⊥
-IsHeldFor (Ok count) size held.Unreadable = ⊥
-IsHeldFor (Ok count) size held.Other = count ≢ size
-IsHeldFor (Ok count) size held.Whole = count ≡ size
+-- what is held of a file of this stated size, by how many of its bytes were read, if it was there
+abbrev pub IsHeldFor : Result (Option (Result ℕ DeviceFault)) DeviceFault → ℕ → HeldVisit → Type 0
+IsHeldFor (Ok (Some (Ok count))) size held.Missing = ⊥
+IsHeldFor (Ok (Some (Ok count))) size held.Unreadable = ⊥
+IsHeldFor (Ok (Some (Ok count))) size held.Other = count ≢ size
+IsHeldFor (Ok (Some (Ok count))) size held.Whole = count ≡ size
+IsHeldFor (Ok (Some (Err fault))) size h = h ≡ held.Unreadable
+IsHeldFor (Ok None) size h = h ≡ held.Missing
 IsHeldFor (Err fault) size h = h ≡ held.Unreadable
 
 -- ---- judging
 
 -- these verdicts follow from what is held of a file, and are true of its bytes if it is whole
 abbrev pub IsFileJudged : Description → FileEntry → HeldVisit → List ℕ → Verdicts → Type 0
-IsFileJudged t f held.Missing bytes v = (v.file ≡ file.Missing) × (v.v1 ≡ version1.NotChecked)
-IsFileJudged t f held.Unreadable bytes v = (v.file ≡ file.Unreadable) × (v.v1 ≡ version1.NotChecked)
-IsFileJudged t f held.Other bytes v = (v.file ≡ file.WrongLength) × (v.v1 ≡ version1.NotChecked)
+IsFileJudged t f held.Missing bytes v = IsNotWhole file.Missing v
+IsFileJudged t f held.Unreadable bytes v = IsNotWhole file.Unreadable v
+IsFileJudged t f held.Other bytes v = IsNotWhole file.WrongLength v
 IsFileJudged t f held.Whole bytes v = FindsWhole t f (Some (Some bytes)) [] v
     × (is_whole v.file ≡ true)
 

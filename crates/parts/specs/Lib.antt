@@ -2,6 +2,7 @@
 pub mod Batches
 pub mod Checking
 pub mod Collisions
+pub mod Endings
 pub mod FilePieces
 pub mod Finding
 pub mod Held

@@ -67,15 +67,15 @@ AreFirstRunsIn t r f bytes runs =
     × AreBadRuns (piece_count t f) to (IsGoodIfIn t r f bytes) runs
 
 -- the bit of a piece is set, if it is one of these pieces, from one number up to another, whose
--- bits these are
-abbrev pub IsSetIfIn : ℕ → ℕ → List ℕ → ℕ → Type 0
-IsSetIfIn from to bits k = from ≤ k → k < to → bit_of bits (k - from) ≡ 1
+-- bits these are; that of the first one has this number
+abbrev pub IsSetIfIn : ℕ → ℕ → ℕ → List ℕ → ℕ → Type 0
+IsSetIfIn first from to bits k = from ≤ k → k < to → bit_of bits (k - from + first) ≡ 1
 
 -- of the pieces from one up to another these are the runs whose bits are not set, those that begin
 -- before some piece
 abbrev pub AreClearRuns : Description → FileEntry → ℕ → ℕ → List ℕ → ℕ → List Run → Type 0
 AreClearRuns t f from to bits end runs =
-    AreBadRuns (piece_count t f) end (IsSetIfIn from to bits) runs
+    AreBadRuns (piece_count t f) end (IsSetIfIn 0 from to bits) runs
 
 -- ---- the lines
 
@@ -90,17 +90,17 @@ run_row t f r =
 abbrev pub runs_rows : Description → FileEntry → List Run → List Row
 runs_rows t f runs = map (run_row t f) runs
 
--- the lines of some of the first runs of bits that are not set went out so, spelled so
-abbrev pub WentFirst : Spelling → Description → FileEntry → ℕ → ℕ → List ℕ → (List ℕ → Type 0)
+-- the lines of some of the first runs of pieces that are not good went out so, spelled so
+abbrev pub WentFirst : Spelling → Description → FileEntry → (ℕ → Type 0) → (List ℕ → Type 0)
     → Type 0
-WentFirst spelled t f from to bits Went =
+WentFirst spelled t f IsGood Went =
     (runs : List Run) × (end : ℕ) × (end ≤ piece_count t f)
-    × AreClearRuns t f from to bits end runs × Went (spell spelled (runs_rows t f runs))
+    × AreBadRuns (piece_count t f) end IsGood runs × Went (spell spelled (runs_rows t f runs))
 
 -- the lines of all of them went out, or those of the first ones broke off
-abbrev pub WritesRuns : {E : Type 0} → Spelling → Description → FileEntry → ℕ → ℕ → List ℕ
+abbrev pub WritesRuns : {E : Type 0} → Spelling → Description → FileEntry → (ℕ → Type 0)
     → SinkSeen → SinkSeen → Result (Unit {0}) E → Type 0
-WritesRuns spelled t f from to bits out out' r = MatchResult r
-    (λ _. (runs : List Run) × AreClearRuns t f from to bits (piece_count t f) runs
+WritesRuns spelled t f IsGood out out' r = MatchResult r
+    (λ _. (runs : List Run) × AreBadRuns (piece_count t f) (piece_count t f) IsGood runs
     × Sent out out' (spell spelled (runs_rows t f runs)))
-    (λ _. WentFirst spelled t f from to bits (Broke out out'))
+    (λ _. WentFirst spelled t f IsGood (Broke out out'))

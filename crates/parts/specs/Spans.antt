@@ -1,5 +1,5 @@
 -- The pieces of a file that are among a part's places.
-use Rattle.std.specs.Prelude.{◌≡◌, ◌↔◌, ℕ, ◌-◌, ◌*◌, ◌<◌, ◌≤◌, min, max, IsTrue, Option, Some, None}
+use Rattle.std.specs.Prelude.{◌≡◌, ◌↔◌, ℕ, ◌-◌, ◌*◌, ◌<◌, ◌≤◌, min, max, IsTrue, true, Option, Some, None}
 use Rattle.opening.specs.Description.{Description, FileEntry}
 use Rattle.parts.specs.Parts.{Holds, Touches, last_place, piece_count}
 use Rattle.parts.specs.declared.places.Places.{Places}
@@ -37,6 +37,12 @@ pub record IsSpan (t : Description) (f : FileEntry) (s : Span) : Type 0 where
   pub inside : s.to ≤ piece_count t f
   pub some : 0 < s.from → s.from < s.to
   pub ends : IsTrue s.ends ↔ (s.to ≡ piece_count t f)
+
+-- all pieces of a file, up to its end
+pub record IsWholeSpan (t : Description) (f : FileEntry) (s : Span) : Type 0 where
+  pub from_is : s.from ≡ 0
+  pub to_is : s.to ≡ piece_count t f
+  pub ends_is : s.ends ≡ true
 
 -- how many bytes they have
 abbrev pub span_bytes : Description → FileEntry → Span → ℕ

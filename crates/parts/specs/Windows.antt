@@ -1,8 +1,8 @@
 -- The windows of files that are held.
 use Rattle.std.specs.Prelude.{◌≡◌, ℕ, ◌+◌, ◌≤◌, List, Some}
-use Rattle.block_windows.specs.Files.{HasFile, IsHashed, IsWithin, block_total}
-use Rattle.cut_windows.specs.Windows.{HasCuts, cut_total, length_of_cuts}
-use Rattle.cut_windows.specs.Windows.{AreCutsHashed, AreCutsWithin}
+use Rattle.file_windows.specs.Files.{HasFile, IsHashed, IsWithin, block_total}
+use Rattle.file_windows.specs.Windows.{HasCuts, cut_total, length_of_cuts}
+use Rattle.file_windows.specs.Windows.{AreCutsHashed, AreCutsWithin}
 use Rattle.hashtree.specs.Tree.{block_count}
 use Rattle.opening.specs.Description.{Description, Version1}
 use Rattle.pieces.specs.Pieces.{pieces_of}

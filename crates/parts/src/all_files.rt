@@ -1,27 +1,20 @@
 //! The whole files of a torrent, checked one after the other; where no more than lines are told of
 //! them, small ones that follow one another are visited together.
 ghost use Rattle.std.specs.Prelude.{◌≡◌, ◌*◌, ◌<◌, ◌≤◌, length, []};
-ghost use Rattle.std.specs.Vec.{vec_capacity};
-ghost use Rattle.folders.specs.Shelf.{more};
-ghost use Rattle.folders.specs.Verdicts.{IsFileOf, fault_count};
-ghost use Rattle.folders.specs.Visits.{Visits};
-ghost use Rattle.opening.specs.Seen.{file_entry};
 ghost use Rattle.parts.specs.Batches.{NextVisits, left};
 ghost use Rattle.parts.specs.Checking.{EndsFiles, EndsWhole, shelf_and_sink};
-ghost use Rattle.parts.specs.Finding.{FindsWhole};
-ghost use Rattle.parts.specs.Parts.{piece_count as pieces_in};
 ghost use Rattle.parts.specs.Rooms.{IsRoomFor};
 ghost use Rattle.parts.specs.Telling.{TellsWhole, NeedsBits};
 
 use crate::batch::look_ahead;
-use crate::places::{Span, piece_count};
+use crate::places::Span;
 use crate::room::{Room, buffer_of, clear_bits};
 use crate::row::PieceReader;
 use crate::telling::Telling;
 use crate::verdicts::{Verdicts, VerdictsAhead, worse_v1};
 use crate::visiting::{Visitor, visit_files};
 use benc::DeviceFault;
-use folders::{FileVerdict, Pace, Report, Shelf, V1Verdict, room_for_files, taken, visit};
+use folders::{Pace, Report, Shelf, V1Verdict, room_for_files, taken, visit};
 use lines::{LineSink, OutFault as CheckFault};
 use opening::{File, Torrent};
 use std::alloc::Global;
@@ -158,49 +151,7 @@ fn visit_next<S: Shelf, P: Pace>(
         return verdicts;
     }
     let file = &torrent.files()[number];
-    visit_file(shelf, torrent, file, bits, buffer)
-}
-
-// Opens a file, checks it, and hands it back; the bits tell which of its pieces are whole and good.
-fn visit_file<S: Shelf>(
-    shelf: &mut S,
-    torrent: &Torrent<'_>,
-    file: &File<'_>,
-    bits: &mut Vec<u8>,
-    buffer: &mut [u8],
-) -> Verdicts
-    requires some { 0 < length buffer.old }
-    requires file { IsFileOf torrent.now (file_entry file.now) }
-    ensures found { FindsWhole torrent.now (file_entry file.now)
-        ((S.contents shelf.old).under file.now.path) bits.new.items result }
-    ensures visits { Visits S.Shelf S.File.seen torrent.now shelf.old (file_entry file.now)
-        result.file shelf.new }
-    ensures counts { S.faults shelf.new ≡ more (S.faults shelf.old) (fault_count result.file) }
-    ensures room { pieces_in torrent.now (file_entry file.now) ≤ 8 * vec_capacity bits.old
-        → pieces_in torrent.now (file_entry file.now) ≤ 8 * length bits.new.items }
-    ensures capacity { vec_capacity bits.new ≡ vec_capacity bits.old }
-    ensures stays { S.contents shelf.new ≡ S.contents shelf.old }
-{
-    torrent.recall_sound();
-    let count = piece_count(torrent, file);
-    clear_bits(bits, count);
-    let mut reader = PieceReader {
-        torrent,
-        file,
-        span: Span {
-            from: 0,
-            to: count,
-            ends: true,
-        },
-        bits: taken(bits),
-    };
-    let visited = visit(shelf, &file.path.parts(), &mut reader, buffer);
-    *bits = reader.bits;
-    match visited {
-        Ok(Some(found)) => Verdicts::of_whole(file, found),
-        Ok(None) => Verdicts::not_whole(FileVerdict::Missing),
-        Err(_) => Verdicts::not_whole(FileVerdict::Unreadable),
-    }
+    WholeFiles.visit(shelf, torrent, file, bits, buffer)
 }
 
 // The visits of whole files.
@@ -219,6 +170,17 @@ impl<S: Shelf> Visitor<S> for WholeFiles {
         bits: &mut Vec<u8>,
         buffer: &mut [u8],
     ) -> Verdicts {
-        visit_file(shelf, torrent, file, bits, buffer)
+        torrent.recall_sound();
+        let span = Span::of_all(torrent, file);
+        clear_bits(bits, span.to);
+        let mut reader = PieceReader {
+            torrent,
+            file,
+            span,
+            bits: taken(bits),
+        };
+        let visited = visit(shelf, &file.path.parts(), &mut reader, buffer);
+        *bits = reader.bits;
+        Verdicts::of_visit(file, visited, true)
     }
 }

@@ -1,6 +1,6 @@
 //! A small file that is read whole, to be judged together with others.
 ghost use Rattle.std.specs.Prelude.{◌≡◌, ℕ, ◌+◌, ◌≤◌, length, take, ◌<◌, ◌^◌};
-ghost use Rattle.block_windows.specs.Files.{bytes_at};
+ghost use Rattle.file_windows.specs.Files.{bytes_at};
 ghost use Rattle.folders.specs.Verdicts.{IsFileOf};
 ghost use Rattle.opening.specs.Seen.{file_entry};
 ghost use Rattle.parts.specs.Held.{IsHeldFor, Promises};
@@ -46,21 +46,21 @@ pub(crate) fn hold_file<S: Shelf>(
     };
     let visited = visit(shelf, &file.path.parts(), &mut reader, &mut [0; 1]);
     *room = reader.room;
-    match visited {
-        Ok(Some(read)) => held_of(read, file.length as usize),
-        Ok(None) => HeldVisit::Missing,
-        Err(_) => HeldVisit::Unreadable,
-    }
+    held_of(visited, file.length as usize)
 }
 
-// What is held of a file of this stated size, of which this many bytes were read.
-fn held_of(read: Result<usize, DeviceFault>, size: usize) -> HeldVisit
-    ensures { IsHeldFor read size result }
+// What is held of a file of this stated size, of which this many bytes were read, if it was there.
+fn held_of(
+    visited: Result<Option<Result<usize, DeviceFault>>, DeviceFault>,
+    size: usize,
+) -> HeldVisit
+    ensures { IsHeldFor visited size result }
 {
-    match read {
-        Ok(count) if count == size => HeldVisit::Whole,
-        Ok(_) => HeldVisit::Other,
-        Err(_) => HeldVisit::Unreadable,
+    match visited {
+        Ok(Some(Ok(count))) if count == size => HeldVisit::Whole,
+        Ok(Some(Ok(_))) => HeldVisit::Other,
+        Ok(None) => HeldVisit::Missing,
+        Ok(Some(Err(_))) | Err(_) => HeldVisit::Unreadable,
     }
 }
 

@@ -1,8 +1,8 @@
 //! How a file that is held is judged: by the root of its tree and its version 1 pieces, and if one
 //! of these is another than is listed, as a row of pieces.
 ghost use Rattle.std.specs.Prelude.{◌≡◌, ◌+◌, ◌<◌, ◌≤◌, [], IsTrue, length, slice_range, Some};
-ghost use Rattle.block_windows.specs.Files.{bytes_at};
-ghost use Rattle.cut_windows.specs.Windows.{AreCutsHashed, HasCuts, length_of_cuts};
+ghost use Rattle.file_windows.specs.Files.{bytes_at};
+ghost use Rattle.file_windows.specs.Windows.{AreCutsHashed, HasCuts, length_of_cuts};
 ghost use Rattle.folders.specs.Verdicts.{IsFileOf};
 ghost use Rattle.opening.specs.Description.{Version1};
 ghost use Rattle.opening.specs.Seen.{file_entry};
@@ -15,7 +15,7 @@ use crate::places::{Span, piece_count};
 use crate::row::read_pieces;
 use crate::verdicts::Verdicts;
 use crate::windows::{Firsts, Windows};
-use cut_windows::CutWindow;
+use file_windows::CutWindow;
 use folders::FileVerdict;
 use opening::{File, Torrent};
 use pieces::V1;
@@ -143,14 +143,10 @@ fn judge_bytes(
     ensures none { bits.new.items ≡ [] }
 {
     torrent.recall_sound();
-    let span = Span {
-        from: 0,
-        to: piece_count(torrent, file),
-        ends: true,
-    };
+    let span = Span::of_all(torrent, file);
     let mut source = HeldBytes { rest: bytes };
     match read_pieces(&mut source, torrent, file, span, bits, buffer) {
-        Ok(found) => Verdicts::of_whole(file, Ok(found)),
+        Ok(found) => Verdicts::of_visit(file, Ok(Some(Ok(found))), true),
         Err(_) => unreachable!(),
     }
 }

@@ -22,6 +22,6 @@ pub use lines::OutFault as CheckFault;
 pub use part::{check_part, say_check_part_with_bad_pieces};
 pub use part_lines::{say_part, strip_answer};
 pub use places::{Places, piece_count, touches};
-pub use telling::{Telling, has_runs, say_run, strip_run};
+pub use telling::{PieceBits, Telling, has_runs, say_run, say_runs, strip_run};
 pub use verdicts::{join, worse, worse_v1};
 pub use whole::{check, say_check, say_check_with_bad_pieces};

@@ -1,17 +1,13 @@
 //! The check of some of a torrent's places, and that of a part with a report of its bad pieces as
 //! it goes.
-ghost use Rattle.std.specs.Prelude.{◌≡◌, ◌*◌, ◌^◌, ◌<◌, length, IfOk, OnErr};
-ghost use Rattle.std.specs.Vec.{vec_capacity};
+ghost use Rattle.std.specs.Prelude.{◌≡◌, ◌*◌, ◌^◌, ◌<◌, IfOk, OnErr};
 ghost use Rattle.chains.specs.Chain.{Chain};
 ghost use Rattle.folders.specs.Shelf.{more};
-ghost use Rattle.folders.specs.Verdicts.{HasVerdicts, IsFileOf, fault_count, unreadable_count};
-ghost use Rattle.hashtree.specs.Bits.{AreClear};
-ghost use Rattle.opening.specs.Seen.{file_entry};
+ghost use Rattle.folders.specs.Verdicts.{HasVerdicts, unreadable_count};
 ghost use Rattle.parts.specs.Checking.{shelf_and_sink};
-ghost use Rattle.parts.specs.Finding.{FindsFile, IsTrueOfPlaces};
+ghost use Rattle.parts.specs.Finding.{IsTrueOfPlaces};
 ghost use Rattle.parts.specs.MarkedChecks.{ChecksMarkedAs, SaysMarked};
-ghost use Rattle.parts.specs.PartVisits.{OpensPart, VisitsPart};
-ghost use Rattle.parts.specs.Spans.{IsSpanOf};
+ghost use Rattle.parts.specs.PartVisits.{VisitsPart};
 
 use crate::part_lines::{say_bad_head, say_end};
 use crate::places::{Places, Span, piece_count, span_of};
@@ -20,7 +16,7 @@ use crate::row::PieceReader;
 use crate::telling::Telling;
 use crate::verdicts::Verdicts;
 use crate::visiting::{Visitor, visit_files};
-use folders::{FileVerdict, NoMemory, Report, SeekShelf, taken, visit_at};
+use folders::{NoMemory, Report, SeekShelf, taken, visit_at};
 use lines::{LineSink, Nowhere, OutFault as CheckFault, finish_after};
 use opening::{File, Torrent};
 use std::alloc::Global;
@@ -81,36 +77,21 @@ impl<S: SeekShelf> Visitor<S> for Places {
         bits: &mut Vec<u8>,
         buffer: &mut [u8],
     ) -> Verdicts {
+        torrent.recall_sound();
         clear_bits(bits, piece_count(torrent, file));
-        visit_part_of(shelf, torrent, file, *self, bits, buffer)
-    }
-}
-
-// Checks the places of one file.
-fn visit_part_of<S: SeekShelf>(
-    shelf: &mut S,
-    torrent: &Torrent<'_>,
-    file: &File<'_>,
-    places: Places,
-    bits: &mut Vec<u8>,
-    buffer: &mut [u8],
-) -> Verdicts
-    requires some { 0 < length buffer.old }
-    requires file { IsFileOf torrent.now (file_entry file.now) }
-    requires clear { AreClear bits.old.items }
-    ensures found { FindsFile torrent.now places (file_entry file.now)
-        ((S.Shelf.contents shelf.old).under file.now.path) bits.new.items result }
-    ensures visits { VisitsPart S.opens_at S.Shelf.closes S.File.seen torrent.now places shelf.old
-        (file_entry file.now) result.file shelf.new }
-    ensures counts { S.Shelf.faults shelf.new
-        ≡ more (S.Shelf.faults shelf.old) (fault_count result.file) }
-    ensures length { length bits.new.items ≡ length bits.old.items }
-    ensures capacity { vec_capacity bits.new ≡ vec_capacity bits.old }
-    ensures stays { S.Shelf.contents shelf.new ≡ S.Shelf.contents shelf.old }
-{
-    match span_of(torrent, file, places) {
-        Some(span) => visit_span(shelf, torrent, file, places, span, bits, buffer),
-        None => Verdicts::of_other(),
+        let Some(span) = span_of(torrent, file, *self) else {
+            return Verdicts::of_other();
+        };
+        let offset = first_byte(torrent, span);
+        let mut reader = PieceReader {
+            torrent,
+            file,
+            span,
+            bits: taken(bits),
+        };
+        let visited = visit_at(shelf, &file.path.parts(), offset, &mut reader, buffer);
+        *bits = reader.bits;
+        Verdicts::of_visit(file, visited, false)
     }
 }
 
@@ -120,47 +101,6 @@ fn first_byte(torrent: &Torrent<'_>, span: Span) -> u64
     ensures { result ≡ torrent.now.piece_length * span.from }
 {
     torrent.piece_length() * span.from
-}
-
-// Opens a file at the first of these pieces, checks them, and hands it back.
-fn visit_span<S: SeekShelf>(
-    shelf: &mut S,
-    torrent: &Torrent<'_>,
-    file: &File<'_>,
-    _places: Places,
-    span: Span,
-    bits: &mut Vec<u8>,
-    buffer: &mut [u8],
-) -> Verdicts
-    requires some { 0 < length buffer.old }
-    requires file { IsFileOf torrent.now (file_entry file.now) }
-    requires clear { AreClear bits.old.items }
-    requires span { IsSpanOf torrent.now _places (file_entry file.now) span }
-    ensures found { FindsFile torrent.now _places (file_entry file.now)
-        ((S.Shelf.contents shelf.old).under file.now.path) bits.new.items result }
-    ensures visits { OpensPart S.opens_at S.Shelf.closes S.File.seen torrent.now _places shelf.old
-        (file_entry file.now) result.file shelf.new }
-    ensures counts { S.Shelf.faults shelf.new
-        ≡ more (S.Shelf.faults shelf.old) (fault_count result.file) }
-    ensures length { length bits.new.items ≡ length bits.old.items }
-    ensures capacity { vec_capacity bits.new ≡ vec_capacity bits.old }
-    ensures stays { S.Shelf.contents shelf.new ≡ S.Shelf.contents shelf.old }
-{
-    torrent.recall_sound();
-    let offset = first_byte(torrent, span);
-    let mut reader = PieceReader {
-        torrent,
-        file,
-        span,
-        bits: taken(bits),
-    };
-    let visited = visit_at(shelf, &file.path.parts(), offset, &mut reader, buffer);
-    *bits = reader.bits;
-    match visited {
-        Ok(Some(found)) => Verdicts::of_found(file, found),
-        Ok(None) => Verdicts::not_whole(FileVerdict::Missing),
-        Err(_) => Verdicts::not_whole(FileVerdict::Unreadable),
-    }
 }
 
 /// Checks the places of one of this many parts of a torrent on a shelf, numbered from 0, as

@@ -110,6 +110,21 @@ pub(crate) struct Span {
     pub(crate) ends: bool,
 }
 
+impl Span {
+    ghost use Rattle.parts.specs.Spans.{IsWholeSpan};
+
+    /// All pieces of a file, up to its end.
+    pub(crate) fn of_all(torrent: &Torrent<'_>, file: &File<'_>) -> Span
+        ensures { IsWholeSpan torrent.now (file_entry file.now) result }
+    {
+        Span {
+            from: 0,
+            to: piece_count(torrent, file),
+            ends: true,
+        }
+    }
+}
+
 /// What of a file is among these places, if any is. Condition: the torrent has the file.
 pub(crate) fn span_of(torrent: &Torrent<'_>, file: &File<'_>, places: Places) -> Option<Span>
     requires { IsFileOf torrent.now (file_entry file.now) }

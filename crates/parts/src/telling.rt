@@ -9,7 +9,7 @@ ghost use Rattle.lines.specs.Table.{row_of};
 ghost use Rattle.lines.specs.Texts.{text_of};
 ghost use Rattle.opening.specs.Seen.{file_entry};
 ghost use Rattle.parts.specs.Parts.{piece_count as pieces_in};
-ghost use Rattle.parts.specs.Runs.{WritesRuns, run_row};
+ghost use Rattle.parts.specs.Runs.{IsSetIfIn, WritesRuns, run_row};
 ghost use Rattle.parts.specs.Telling.{IsMostPieces, NeedsBits, TellsFile, TellsNothing, has_runs};
 ghost use Rattle.parts.specs.declared.telling.Telling.TheVariants as telling;
 
@@ -32,6 +32,15 @@ pub enum Telling {
     LineAndRuns(Lines),
     /// Its line, if it has one of these places, and the lines of its bad pieces among them.
     RunsIn(Places),
+}
+
+/// Bits of pieces in a row.
+#[derive(Clone, Copy)]
+pub struct PieceBits<'a> {
+    /// The bits.
+    pub bits: &'a [u8],
+    /// The number of the bit of the first piece.
+    pub first: usize,
 }
 
 impl Telling {
@@ -75,6 +84,7 @@ impl Telling {
                 say_wanted(lines, verdict, file, out)?;
                 if has_runs(verdict) {
                     let count = piece_count(torrent, file);
+                    let bits = PieceBits { bits, first: 0 };
                     say_runs(torrent, file, 0, count, bits, out)?;
                 }
                 Ok(())
@@ -104,6 +114,7 @@ fn say_marked<L: LineSink>(
     };
     say_verdict(verdict, file, out)?;
     if has_runs(verdict) {
+        let bits = PieceBits { bits, first: 0 };
         say_runs(torrent, file, span.from, span.to, bits, out)?;
     }
     Ok(())
@@ -129,28 +140,33 @@ pub fn has_runs(verdict: FileVerdict) -> bool
     matches!(verdict, FileVerdict::WrongLength | FileVerdict::Bad(_))
 }
 
-// Says the line of each run of bits that are not set, in ascending order. They are those of the
-// file's pieces from one up to another.
-fn say_runs<L: LineSink>(
+/// Says the line of each run of a file's pieces, from one up to another, whose bits are not set, in
+/// ascending order. After a fault a prefix of these lines went out. Conditions: the torrent has the
+/// file, the pieces are some of its own, and the first one's bit has no higher number than the
+/// file's first piece has in the torrent.
+pub fn say_runs<L: LineSink>(
     torrent: &Torrent<'_>,
     file: &File<'_>,
     from: u64,
     to: u64,
-    bits: &[u8],
+    bits: PieceBits<'_>,
     out: &mut L,
 ) -> Result<(), DeviceFault>
     requires file { IsFileOf torrent.now (file_entry file.now) }
     requires order { from ≤ to }
     requires inside { to ≤ pieces_in torrent.now (file_entry file.now) }
-    ensures { WritesRuns L.spelled torrent.now (file_entry file.now) from to bits.now
+    requires first { bits.first ≤ file.now.first_piece }
+    ensures { WritesRuns L.spelled torrent.now (file_entry file.now)
+        (IsSetIfIn bits.entry.first from to bits.entry.bits.now)
         (L.seen out.old) (L.seen out.new) result }
 {
     torrent.recall_sound();
-    let count = (to - from) as usize;
-    let mut at: usize = 0;
-    'runs: while let Some((first, end)) = clear_run(bits, at, count) {
+    let end_bit = bits.first + (to - from) as usize;
+    let mut at = bits.first;
+    'runs: while let Some((first_bit, next_bit)) = clear_run(bits.bits, at, end_bit) {
+        let (first, end) = (first_bit - bits.first, next_bit - bits.first);
         say_run(torrent, file, from + first as u64, from + end as u64, out)?;
-        at = end;
+        at = next_bit;
     }
     Ok(())
 }

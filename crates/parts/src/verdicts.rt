@@ -1,12 +1,13 @@
 //! What is said of a file and of its version 1 pieces, also of several files at once; and how what
 //! parts say is joined.
-ghost use Rattle.std.specs.Prelude.{◌≡◌, ℕ, ◌+◌, ◌<◌, ◌≤◌, [], ◌∷◌, ◌++◌, length, min, slice_get, is_some, IfSome, IsNone, Some};
+ghost use Rattle.std.specs.Prelude.{◌≡◌, ℕ, ◌+◌, ◌<◌, ◌≤◌, [], ◌∷◌, ◌++◌, length, min, slice_get, is_some, IfOk, IfSome, IsNone, Some};
 ghost use Rattle.folders.specs.declared.report.FileVerdict.{FileVerdict as OfFile};
 ghost use Rattle.folders.specs.declared.report.V1Verdict.{V1Verdict as OfV1};
-ghost use Rattle.parts.specs.Saying.{IsSmallFrom, file_says, v1_says, whole_says};
+ghost use Rattle.parts.specs.Saying.{IsSmallFrom, file_says, v1_says};
 ghost use Rattle.parts.specs.Worse.{worse, worse_v1};
 
 use crate::row::Read;
+use benc::DeviceFault;
 use folders::{FileVerdict, Report, V1Verdict};
 use opening::File;
 
@@ -20,7 +21,7 @@ pub(crate) struct Verdicts {
 }
 
 impl Verdicts {
-    ghost use Rattle.parts.specs.Saying.{HasSmallPieces, SaysFound, SaysWhole};
+    ghost use Rattle.parts.specs.Saying.{HasSmallPieces, IsNotWhole, SaysVisit};
 
     /// Of a file that has no place among the part's.
     pub(crate) fn of_other() -> Verdicts
@@ -35,8 +36,7 @@ impl Verdicts {
 
     /// Of a file that is missing, unreadable, or of another length.
     pub(crate) fn not_whole(file: FileVerdict) -> Verdicts
-        ensures file { result.file ≡ file }
-        ensures v1 { result.v1 ≡ V1Verdict.NotChecked }
+        ensures { IsNotWhole file result }
     {
         Verdicts {
             file,
@@ -44,58 +44,36 @@ impl Verdicts {
         }
     }
 
-    /// Of a file of which the pieces of a part were read.
-    pub(crate) fn of_found(file: &File<'_>, found: Read) -> Verdicts
-        requires { HasSmallPieces file.now.first_piece found }
-        ensures { SaysFound file.now.first_piece found result }
+    /// Of a file that was visited. One that was read whole is judged by its root, too.
+    pub(crate) fn of_visit(
+        file: &File<'_>,
+        visited: Result<Option<Read>, DeviceFault>,
+        by_root: bool,
+    ) -> Verdicts
+        requires { IfOk visited (λ o. IfSome o (HasSmallPieces file.now.first_piece)) }
+        ensures { SaysVisit by_root file.now.first_piece visited result }
     {
-        match found {
-            Ok(Some(found)) => Verdicts {
-                file: file_verdict(file.first_piece, found.bad),
+        match visited {
+            Ok(Some(Ok(Some(found)))) => Verdicts {
+                file: file_verdict(file.first_piece, by_root && found.root_is, found.bad),
                 v1: v1_verdict(file.first_piece, found.bad_cut),
             },
-            Ok(None) => Verdicts::not_whole(FileVerdict::WrongLength),
-            Err(_) => Verdicts::not_whole(FileVerdict::Unreadable),
-        }
-    }
-
-    /// Of a file that was read from its first piece to its end: it is good if its root is the
-    /// tree's.
-    pub(crate) fn of_whole(file: &File<'_>, found: Read) -> Verdicts
-        requires { HasSmallPieces file.now.first_piece found }
-        ensures { SaysWhole file.now.first_piece found result }
-    {
-        match found {
-            Ok(Some(found)) => Verdicts {
-                file: whole_verdict(file.first_piece, found.root_is, found.bad),
-                v1: v1_verdict(file.first_piece, found.bad_cut),
-            },
-            Ok(None) => Verdicts::not_whole(FileVerdict::WrongLength),
-            Err(_) => Verdicts::not_whole(FileVerdict::Unreadable),
+            Ok(Some(Ok(None))) => Verdicts::not_whole(FileVerdict::WrongLength),
+            Ok(None) => Verdicts::not_whole(FileVerdict::Missing),
+            Ok(Some(Err(_))) | Err(_) => Verdicts::not_whole(FileVerdict::Unreadable),
         }
     }
 }
 
-// The verdict on a whole file, whose root is the tree's or not.
-fn whole_verdict(first: u64, root_is: bool, bad: Option<u64>) -> FileVerdict
+// The verdict on a file that begins at this piece: it is good if its root is the tree's, and else
+// of the first of its own pieces that is bad.
+fn file_verdict(first: u64, root_is: bool, bad: Option<u64>) -> FileVerdict
     requires { IsSmallFrom first bad }
-    ensures { result ≡ whole_says first root_is bad }
-{
-    if root_is {
-        FileVerdict::Good
-    } else {
-        file_verdict(first, bad)
-    }
-}
-
-// The verdict on a file that begins at this piece, whose first bad piece is this one of its own.
-fn file_verdict(first: u64, bad: Option<u64>) -> FileVerdict
-    requires { IsSmallFrom first bad }
-    ensures { result ≡ file_says first bad }
+    ensures { result ≡ file_says first root_is bad }
 {
     match bad {
-        Some(number) => FileVerdict::Bad(first + number),
-        None => FileVerdict::Good,
+        Some(number) if !root_is => FileVerdict::Bad(first + number),
+        _ => FileVerdict::Good,
     }
 }
 

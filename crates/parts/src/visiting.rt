@@ -2,8 +2,7 @@
 //! done.
 ghost use Rattle.std.specs.Prelude.{◌≡◌, ◌*◌, ◌<◌, ◌≤◌, length};
 ghost use Rattle.std.specs.Vec.{vec_capacity};
-ghost use Rattle.folders.specs.Shelf.{more};
-ghost use Rattle.folders.specs.Verdicts.{IsFileOf, fault_count};
+ghost use Rattle.folders.specs.Verdicts.{IsFileOf};
 ghost use Rattle.opening.specs.Seen.{file_entry};
 ghost use Rattle.parts.specs.Checking.{shelf_and_sink};
 ghost use Rattle.parts.specs.Parts.{piece_count};
@@ -21,7 +20,7 @@ use opening::{File, Torrent};
 /// Visits the files of a torrent on a shelf of this type.
 pub(crate) trait Visitor<S> {
     ghost use Rattle.opening.specs.Description.{Description};
-    ghost use Rattle.parts.specs.Visiting.{Finds, Visiting};
+    ghost use Rattle.parts.specs.Visiting.{Visiting, VisitsFile};
 
     // How it does.
     ghost visiting: { Self → Description → Visiting S };
@@ -39,18 +38,11 @@ pub(crate) trait Visitor<S> {
     ) -> Verdicts
         requires some { 0 < length buffer.old }
         requires file { IsFileOf torrent.now (file_entry file.now) }
-        ensures found { Finds (visiting self.now torrent.now) torrent.now (file_entry file.now)
-            (((visiting self.now torrent.now).contents shelf.old).under file.now.path)
-            bits.new.items result }
-        ensures visits { (visiting self.now torrent.now).visits shelf.old (file_entry file.now)
-            result.file shelf.new }
-        ensures counts { (visiting self.now torrent.now).faults shelf.new
-            ≡ more ((visiting self.now torrent.now).faults shelf.old) (fault_count result.file) }
+        ensures visited { VisitsFile (visiting self.now torrent.now) torrent.now shelf.old
+            (file_entry file.now) bits.new.items result shelf.new }
         ensures room { piece_count torrent.now (file_entry file.now) ≤ 8 * vec_capacity bits.old
             → piece_count torrent.now (file_entry file.now) ≤ 8 * length bits.new.items }
-        ensures capacity { vec_capacity bits.new ≡ vec_capacity bits.old }
-        ensures stays { (visiting self.now torrent.now).contents shelf.new
-            ≡ (visiting self.now torrent.now).contents shelf.old };
+        ensures capacity { vec_capacity bits.new ≡ vec_capacity bits.old };
 }
 
 /// Visits each file of a torrent, and says what is wanted of it before the next one is visited.

@@ -2,8 +2,7 @@
 ghost use Rattle.std.specs.Prelude.{◌≡◌, ℕ, ◌+◌, ◌^◌, ◌<◌, ◌≤◌, ◌↔◌, IsTrue, length};
 ghost use Rattle.opening.specs.Description.{Description};
 
-use block_windows::Window;
-use cut_windows::CutWindow;
+use file_windows::{CutWindow, Window};
 use opening::Torrent;
 
 /// Where a file's blocks begin in their window, and its version 1 pieces in theirs.

@@ -6,8 +6,7 @@ use benc::FromWrite;
 use commands::{creations, outcomes};
 use drafts::Draft;
 use printing::Fault;
-use real_files::{Noted, System, create_output};
-use std::alloc::AllocError;
+use real_files::{Noted, StandardOutput, System, create_output};
 use std::io::BufWriter;
 
 // How many bytes a part may have: 1 GiB, of which the nodes and digests of a torrent of 64 MiB take
@@ -22,7 +21,7 @@ pub(crate) fn perform_assemble<'a>(system: &System, asked: &Assemble<'a>) -> Res
         .iter()
         .map(|text| text.as_slice())
         .collect::<Vec<&[u8]>>(system.alloc())?;
-    let mut out = FromWrite::new(system.output());
+    let mut out = StandardOutput::unbuffered(system);
     match creations::assemble(system.alloc(), slices.as_slice(), &mut out)? {
         Ok(Ok(draft)) => write_assembled(system, asked, &draft),
         Ok(Err(status)) => Ok(status),
@@ -35,7 +34,9 @@ fn read_parts<'a>(system: &System, paths: &[&'a str]) -> Result<Vec<Vec<u8>>, Fa
     let mut texts = Vec::new(system.alloc());
     for path in paths {
         let text = read_part(system, path)?;
-        texts.push(text).map_err(AllocError::from)?;
+        if texts.push(text).is_err() {
+            return Err(Fault::NoMemory);
+        }
     }
     Ok(texts)
 }
@@ -59,6 +60,6 @@ fn write_assembled<'a>(
     let Ok(buffered) = BufWriter::new(system.alloc(), Noted::new(file, system)) else {
         return Err(Fault::NoMemory);
     };
-    let mut out = FromWrite::new(system.output());
+    let mut out = StandardOutput::unbuffered(system);
     outcomes::write_torrent(draft, asked.out, &mut FromWrite::new(buffered), &mut out)
 }

@@ -1,8 +1,7 @@
 //! `check`: whether a folder holds the files of a torrent.
 use crate::extra::print_extra;
 use crate::folder_hints::hint_at_folder;
-use crate::hints::are_told;
-use crate::printed::{buffered_output, line_output, refuse, say_to};
+use crate::printed::{refuse, say_to};
 use crate::sizes::all_bytes;
 use crate::summary::print_summary;
 use crate::told_lengths::ToldLengths;
@@ -10,61 +9,32 @@ use crate::torrent_file::{open_torrent, read_torrent};
 use crate::verdict_counts::VerdictCounts;
 use crate::watched::Watched;
 use actions::Check;
-use benc::Sink;
 use commands::checks;
 use folders::Lines;
 use lines::LineSink;
 use opening::Torrent;
 use printing::Fault;
-use real_files::{Cleared, Folder, Progress, System, TerminalPace};
-use std::io::IsTerminal;
+use real_files::{Folder, Progress, StandardOutput, System, TerminalPace};
 use std::time::Instant;
 
 /// Checks that a folder holds the files of a torrent. A terminal gets a line at a time, at the pace
 /// of [`TerminalPace`]; all else gets full buffers. Gives the exit status.
 pub(crate) fn perform_check<'a>(system: &System, asked: &Check<'a>) -> Result<u8, Fault<'a>> {
     let bytes = read_torrent(system, asked.torrent)?;
-    if system.rt().stdout().is_terminal() {
-        judge_torrent(system, bytes.as_slice(), asked, line_output(system)?)
-    } else {
-        judge_torrent(system, bytes.as_slice(), asked, buffered_output(system)?)
-    }
-}
-
-fn judge_torrent<'a, W: Sink + Drop>(
-    system: &System,
-    bytes: &[u8],
-    asked: &Check<'a>,
-    out: W,
-) -> Result<u8, Fault<'a>> {
-    match open_torrent(system, bytes) {
+    let out = StandardOutput::live(system)?;
+    match open_torrent(system, bytes.as_slice()) {
         Ok(torrent) => {
             let progress = Progress::new(system.rt(), Some(all_bytes(&torrent)));
-            let cleared = Cleared::new(out, &progress);
-            print_check(system, &torrent, asked, &progress, cleared)
+            say_to!(asked.json, out.below(&progress), lines => {
+                report_folder(system, &torrent, asked, &progress, lines)
+            })
         }
-        Err(refusal) => refuse(system, bytes, &refusal, asked.json, out),
+        Err(refusal) => refuse(system, bytes.as_slice(), &refusal, asked.json, out),
     }
-}
-
-fn print_check<'a, W: Sink + Drop>(
-    system: &System,
-    torrent: &Torrent<'_>,
-    asked: &Check<'a>,
-    progress: &Progress,
-    out: W,
-) -> Result<u8, Fault<'a>> {
-    say_to!(asked.json, out, lines => {
-        if asked.summary || are_told(system) {
-            explain_folder(system, torrent, asked, progress, lines)
-        } else {
-            judge_folder(system, torrent, asked, progress, &mut lines)
-        }
-    })
 }
 
 // Prints the report, and on standard error what else is told of it.
-fn explain_folder<'a, L: LineSink + Drop>(
+fn report_folder<'a, L: LineSink + Drop>(
     system: &System,
     torrent: &Torrent<'_>,
     asked: &Check<'a>,

@@ -1,21 +1,18 @@
 //! `check --part`: one part of a check.
 use crate::folder_hints::hint_at_folder;
-use crate::hints::are_told;
-use crate::printed::{buffered_output, line_output, refuse, say_to};
+use crate::printed::{refuse, say_to};
 use crate::sizes::bytes_in;
 use crate::told_lengths::ToldLengths;
 use crate::torrent_file::{open_torrent, read_torrent};
 use crate::verdict_counts::VerdictCounts;
 use crate::watched::Watched;
 use actions::CheckPart;
-use benc::Sink;
 use commands::part_checks;
 use lines::LineSink;
 use opening::Torrent;
 use parts::Places;
 use printing::Fault;
-use real_files::{Cleared, Folder, Progress, System};
-use std::io::IsTerminal;
+use real_files::{Folder, Progress, StandardOutput, System};
 
 /// Checks one part of a torrent's files, and prints what `join` needs of it. With its bad pieces a
 /// terminal gets each line as soon as it is known, all else gets full buffers. Gives the exit
@@ -25,48 +22,25 @@ pub(crate) fn perform_check_part<'a>(
     asked: &CheckPart<'a>,
 ) -> Result<u8, Fault<'a>> {
     let bytes = read_torrent(system, asked.torrent)?;
-    if asked.bad && system.rt().stdout().is_terminal() {
-        judge_torrent(system, bytes.as_slice(), asked, line_output(system)?)
+    let out = if asked.bad {
+        StandardOutput::live(system)?
     } else {
-        judge_torrent(system, bytes.as_slice(), asked, buffered_output(system)?)
-    }
-}
-
-fn judge_torrent<'a, W: Sink + Drop>(
-    system: &System,
-    bytes: &[u8],
-    asked: &CheckPart<'a>,
-    out: W,
-) -> Result<u8, Fault<'a>> {
-    match open_torrent(system, bytes) {
+        StandardOutput::buffered(system)?
+    };
+    match open_torrent(system, bytes.as_slice()) {
         Ok(torrent) => {
             let places = Places::of_part(&torrent, asked.part.number - 1, asked.part.count);
             let progress = Progress::new(system.rt(), Some(bytes_in(&torrent, places)));
-            let cleared = Cleared::new(out, &progress);
-            print_part(system, &torrent, asked, &progress, cleared)
+            say_to!(asked.json, out.below(&progress), lines => {
+                report_part(system, &torrent, asked, &progress, lines)
+            })
         }
-        Err(refusal) => refuse(system, bytes, &refusal, asked.json, out),
+        Err(refusal) => refuse(system, bytes.as_slice(), &refusal, asked.json, out),
     }
 }
 
-fn print_part<'a, W: Sink + Drop>(
-    system: &System,
-    torrent: &Torrent<'_>,
-    asked: &CheckPart<'a>,
-    progress: &Progress,
-    out: W,
-) -> Result<u8, Fault<'a>> {
-    say_to!(asked.json, out, lines => {
-        if are_told(system) {
-            explain_part(system, torrent, asked, progress, lines)
-        } else {
-            judge_part(system, torrent, asked, progress, &mut lines)
-        }
-    })
-}
-
 // Prints the report, and on standard error what else is told of it.
-fn explain_part<'a, L: LineSink + Drop>(
+fn report_part<'a, L: LineSink + Drop>(
     system: &System,
     torrent: &Torrent<'_>,
     asked: &CheckPart<'a>,

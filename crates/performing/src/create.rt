@@ -2,7 +2,7 @@
 use crate::excluded::refuse_globs;
 use crate::origin::{choice_of, folder_of, is_file, may_leave_out, path_of, shelf_at};
 use actions::{Create, NewTorrent, PieceLengthChoice, auto_length};
-use benc::{FromWrite, Sink};
+use benc::FromWrite;
 use commands::outcomes;
 use drafts::Draft;
 use excluding::Excluding;
@@ -12,8 +12,8 @@ use globs::{Glob, read_globs};
 use lines::Nowhere;
 use printing::Fault;
 use real_files::{
-    Cause, Cleared, Folder, FolderLengths, Noted, Progress, System, bytes_of, create_new_output,
-    create_output, refuse_if_there,
+    Cause, Cleared, Folder, FolderLengths, Noted, Progress, StandardOutput, System, bytes_of,
+    create_new_output, create_output, refuse_if_there,
 };
 use std::alloc::AllocError;
 use std::fs::File;
@@ -23,7 +23,7 @@ use std::io::BufWriter;
 /// Gives the exit status.
 pub(crate) fn perform_create<'a>(system: &System, asked: &NewTorrent<'a>) -> Result<u8, Fault<'a>> {
     let progress = Progress::new(system.rt(), None);
-    let mut out = Cleared::new(FromWrite::new(system.output()), &progress);
+    let mut out = StandardOutput::unbuffered(system).below(&progress);
     if asked.exclude.is_empty() {
         return create_of_all(system, asked, &progress, &mut out);
     }
@@ -33,11 +33,11 @@ pub(crate) fn perform_create<'a>(system: &System, asked: &NewTorrent<'a>) -> Res
     }
 }
 
-fn create_of_all<'a, 's, W: Sink>(
+fn create_of_all<'a, 's>(
     system: &'s System,
     asked: &NewTorrent<'a>,
     progress: &'s Progress,
-    out: &mut W,
+    out: &mut StandardOutput<'_>,
 ) -> Result<u8, Fault<'a>> {
     refuse_clobbering(system, asked)?;
     let (path, alone) = (path_of(asked.origin), is_file(asked.origin));
@@ -47,12 +47,12 @@ fn create_of_all<'a, 's, W: Sink>(
 }
 
 // Without the files that the globs leave out.
-fn create_without<'a, 's, W: Sink>(
+fn create_without<'a, 's>(
     system: &'s System,
     asked: &NewTorrent<'a>,
     globs: &'s [Glob],
     progress: &'s Progress,
-    out: &mut W,
+    out: &mut StandardOutput<'_>,
 ) -> Result<u8, Fault<'a>> {
     refuse_clobbering(system, asked)?;
     let (path, alone) = (path_of(asked.origin), is_file(asked.origin));
@@ -64,12 +64,12 @@ fn create_without<'a, 's, W: Sink>(
 }
 
 // Gathers what a shelf lists without the files that the globs leave out, and gives the shelf back.
-fn gather_without<'a, S: Shelf + Drop, W: Sink>(
+fn gather_without<'a, S: Shelf + Drop>(
     system: &System,
     asked: &NewTorrent<'a>,
     shelf: S,
     globs: &[Glob],
-    out: &mut W,
+    out: &mut StandardOutput<'_>,
 ) -> Result<(Result<Draft, u8>, S), Fault<'a>> {
     let mut kept = Excluding::new(system.alloc(), shelf, globs);
     let draft = gather(system, asked, &mut kept, out)?;
@@ -88,11 +88,11 @@ pub(crate) fn refuse_clobbering<'a>(
 }
 
 // Gathers what a shelf lists.
-fn gather<'a, S: Shelf, W: Sink>(
+fn gather<'a, S: Shelf>(
     system: &System,
     asked: &NewTorrent<'a>,
     shelf: &mut S,
-    out: &mut W,
+    out: &mut StandardOutput<'_>,
 ) -> Result<Result<Draft, u8>, Fault<'a>> {
     let create = Create {
         dir: path_of(asked.origin),
@@ -130,13 +130,13 @@ fn all_bytes<S: Shelf>(system: &System, dir: &str, shelf: &mut S) -> Result<u64,
 
 // The torrent's file is opened once all files are hashed, and stays untouched if one is refused or
 // all are left out. It is none of those files.
-fn write_gathered<'a, W: Sink>(
+fn write_gathered<'a>(
     system: &System,
     asked: &NewTorrent<'a>,
     gathered: Result<Draft, u8>,
     folder: &Folder<'_>,
     progress: &Progress,
-    out: &mut W,
+    out: &mut StandardOutput<'_>,
 ) -> Result<u8, Fault<'a>> {
     match gathered {
         Ok(draft) => {
@@ -159,8 +159,8 @@ fn is_of_nothing(draft: &Draft) -> bool {
     matches!(draft.finish(&mut Nowhere::new()), Err(Refusal::NoFiles))
 }
 
-// The torrent's file.
-fn open_output<'a>(system: &System, asked: &NewTorrent<'a>) -> Result<File, Fault<'a>> {
+/// The file that is written.
+pub(crate) fn open_output<'a>(system: &System, asked: &NewTorrent<'a>) -> Result<File, Fault<'a>> {
     if asked.no_clobber {
         create_new_output(system, asked.out)
     } else {
@@ -168,17 +168,17 @@ fn open_output<'a>(system: &System, asked: &NewTorrent<'a>) -> Result<File, Faul
     }
 }
 
-fn write_torrent<'a, W: Sink>(
+fn write_torrent<'a>(
     system: &System,
     draft: &Draft,
     file: File,
     path: &'a str,
     progress: &Progress,
-    out: &mut W,
+    out: &mut StandardOutput<'_>,
 ) -> Result<u8, Fault<'a>> {
     let Ok(buffered) = BufWriter::new(system.alloc(), Noted::new(file, system)) else {
         return Err(Fault::NoMemory);
     };
-    let mut torrent = Cleared::new(FromWrite::new(buffered), progress);
+    let mut torrent = Cleared::new(FromWrite::new(buffered), Some(progress));
     outcomes::write_torrent(draft, path, &mut torrent, out)
 }

@@ -1,9 +1,9 @@
 //! `create --part`: one part of the making of a torrent.
-use crate::create::{piece_length, refuse_clobbering};
+use crate::create::{open_output, piece_length, refuse_clobbering};
 use crate::excluded::refuse_globs;
 use crate::origin::{choice_of, folder_of, is_file, may_leave_out, path_of, shelf_at};
 use actions::{Create, NewTorrent, NumberedPart, auto_length};
-use benc::{FromWrite, Sink};
+use benc::FromWrite;
 use commands::{creations, outcomes};
 use excluding::Excluding;
 use filetree::Refusal;
@@ -12,11 +12,9 @@ use globs::{Glob, read_globs};
 use part_texts::{Listing, listed_files};
 use printing::Fault;
 use real_files::{
-    Cause, Cleared, Folder, Noted, Progress, System, create_new_output, create_output, is_below,
-    lengths_of,
+    Cause, Cleared, Folder, Noted, Progress, StandardOutput, System, is_below, lengths_of,
 };
 use std::alloc::AllocError;
-use std::fs::File;
 
 // What was listed, in order, or the exit status of a refusal.
 type Listed = Result<Vec<Vec<String>>, u8>;
@@ -32,7 +30,7 @@ pub(crate) fn perform_create_part<'a>(
     part: NumberedPart,
 ) -> Result<u8, Fault<'a>> {
     let progress = Progress::new(system.rt(), None);
-    let mut out = Cleared::new(FromWrite::new(system.output()), &progress);
+    let mut out = StandardOutput::unbuffered(system).below(&progress);
     if asked.exclude.is_empty() {
         return part_of_all(system, asked, part, &progress, &mut out);
     }
@@ -42,12 +40,12 @@ pub(crate) fn perform_create_part<'a>(
     }
 }
 
-fn part_of_all<'a, 's, W: Sink>(
+fn part_of_all<'a, 's>(
     system: &'s System,
     asked: &NewTorrent<'a>,
     part: NumberedPart,
     progress: &'s Progress,
-    out: &mut W,
+    out: &mut StandardOutput<'_>,
 ) -> Result<u8, Fault<'a>> {
     refuse_clobbering(system, asked)?;
     let (path, alone) = (path_of(asked.origin), is_file(asked.origin));
@@ -60,13 +58,13 @@ fn part_of_all<'a, 's, W: Sink>(
 }
 
 // Without the files that the globs leave out.
-fn part_without<'a, 's, W: Sink>(
+fn part_without<'a, 's>(
     system: &'s System,
     asked: &NewTorrent<'a>,
     part: NumberedPart,
     globs: &'s [Glob],
     progress: &'s Progress,
-    out: &mut W,
+    out: &mut StandardOutput<'_>,
 ) -> Result<u8, Fault<'a>> {
     refuse_clobbering(system, asked)?;
     let (path, alone) = (path_of(asked.origin), is_file(asked.origin));
@@ -80,12 +78,12 @@ fn part_without<'a, 's, W: Sink>(
 }
 
 // Lists a shelf without the files that the globs leave out, and gives the shelf back.
-fn list_without<'a, S: Shelf + Drop, W: Sink>(
+fn list_without<'a, S: Shelf + Drop>(
     system: &System,
     asked: &NewTorrent<'a>,
     shelf: S,
     globs: &[Glob],
-    out: &mut W,
+    out: &mut StandardOutput<'_>,
 ) -> Result<(Listed, S), Fault<'a>> {
     let mut kept = Excluding::new(system.alloc(), shelf, globs);
     let paths = list(system, asked, &mut kept, out)?;
@@ -93,11 +91,11 @@ fn list_without<'a, S: Shelf + Drop, W: Sink>(
 }
 
 // Lists a shelf.
-fn list<'a, S: Shelf, W: Sink>(
+fn list<'a, S: Shelf>(
     system: &System,
     asked: &NewTorrent<'a>,
     shelf: &mut S,
-    out: &mut W,
+    out: &mut StandardOutput<'_>,
 ) -> Result<Listed, Fault<'a>> {
     let create = Create {
         dir: path_of(asked.origin),
@@ -109,13 +107,13 @@ fn list<'a, S: Shelf, W: Sink>(
 }
 
 // Hashes one part of what was listed. Where all is left out there is nothing to hash.
-fn hash_listed<'a, W: Sink>(
+fn hash_listed<'a>(
     system: &System,
     asked: &NewTorrent<'a>,
     part: NumberedPart,
     paths: Listed,
     folder: &mut Folder<'_>,
-    out: &mut W,
+    out: &mut StandardOutput<'_>,
 ) -> Result<Hashed, Fault<'a>> {
     let paths = match paths {
         Ok(paths) => paths,
@@ -167,16 +165,7 @@ fn write_part<'a>(
         Ok(text) => text,
         Err(status) => return Ok(status),
     };
-    let file = open_part(system, asked)?;
-    let mut written = Cleared::new(FromWrite::new(Noted::new(file, system)), progress);
+    let file = open_output(system, asked)?;
+    let mut written = Cleared::new(FromWrite::new(Noted::new(file, system)), Some(progress));
     creations::write_part(text.as_slice(), asked.out, &mut written)
-}
-
-// The part's file.
-fn open_part<'a>(system: &System, asked: &NewTorrent<'a>) -> Result<File, Fault<'a>> {
-    if asked.no_clobber {
-        create_new_output(system, asked.out)
-    } else {
-        create_output(system, asked.out, &[])
-    }
 }

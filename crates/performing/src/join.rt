@@ -1,35 +1,27 @@
 //! `join`: what all parts of a check say together.
 use crate::join_faults::refuse_join;
-use crate::printed::{buffered_output, refuse, say_to};
+use crate::printed::{refuse, say_to};
 use crate::report_files::read_reports;
 use crate::torrent_file::{open_torrent, read_torrent};
 use actions::Join;
-use benc::Sink;
 use commands::outcomes;
 use lines::LineSink;
 use opening::Torrent;
 use printing::Fault;
-use real_files::System;
+use real_files::{StandardOutput, System};
 
 /// Prints what all parts of a check say together. The reports are read once the torrent is taken.
 /// Gives the exit status.
 pub(crate) fn perform_join<'a>(system: &System, asked: &Join<'a>) -> Result<u8, Fault<'a>> {
     let bytes = read_torrent(system, asked.torrent)?;
-    let out = buffered_output(system)?;
+    let paths = asked.reports.as_slice();
+    let out = StandardOutput::buffered(system)?;
     match open_torrent(system, bytes.as_slice()) {
-        Ok(torrent) => print_join(system, &torrent, asked, out),
+        Ok(torrent) => {
+            say_to!(asked.json, out, lines => join_files(system, &torrent, paths, &mut lines))
+        }
         Err(refusal) => refuse(system, bytes.as_slice(), &refusal, asked.json, out),
     }
-}
-
-fn print_join<'a, W: Sink + Drop>(
-    system: &System,
-    torrent: &Torrent<'_>,
-    asked: &Join<'a>,
-    out: W,
-) -> Result<u8, Fault<'a>> {
-    let paths = asked.reports.as_slice();
-    say_to!(asked.json, out, lines => join_files(system, torrent, paths, &mut lines))
 }
 
 fn join_files<'a, L: LineSink>(

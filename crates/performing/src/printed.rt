@@ -1,14 +1,12 @@
-//! Standard output, and what every command prints there.
+//! What every command prints on standard output.
 ghost use Rattle.std.specs.Prelude.{◌≢◌};
 
 use crate::hints::hint_at_version;
-use benc::{FromWrite, Sink};
 use commands::outcomes;
 use filetree::Refusal;
 use lines::LineSink;
 use printing::Fault;
-use real_files::{Output, System};
-use std::io::{BufWriter, LineWriter};
+use real_files::{StandardOutput, System};
 
 /// Says lines to a sink, as texts, or with `--json` as JSON objects.
 macro_rules! say_to {
@@ -25,34 +23,14 @@ macro_rules! say_to {
 
 pub(crate) use say_to;
 
-/// Standard output with a buffer, for text of many small parts.
-pub(crate) fn buffered_output<'s>(
-    system: &'s System,
-) -> Result<FromWrite<BufWriter<Output<'s>>>, Fault<'static>> {
-    match BufWriter::new(system.alloc(), system.output()) {
-        Ok(buffered) => Ok(FromWrite::new(buffered)),
-        Err(_) => Err(Fault::NoMemory),
-    }
-}
-
-/// Standard output a line at a time, for text of many small parts.
-pub(crate) fn line_output<'s>(
-    system: &'s System,
-) -> Result<FromWrite<LineWriter<Output<'s>>>, Fault<'static>> {
-    match LineWriter::new(system.alloc(), system.output()) {
-        Ok(buffered) => Ok(FromWrite::new(buffered)),
-        Err(_) => Err(Fault::NoMemory),
-    }
-}
-
 /// Prints the refusal of a torrent with these bytes, as its line or as the object of that. Gives
 /// the exit status.
-pub(crate) fn refuse<'a, W: Sink + Drop>(
+pub(crate) fn refuse<'a>(
     system: &System,
     bytes: &[u8],
     refusal: &Refusal,
     json: bool,
-    out: W,
+    out: StandardOutput<'_>,
 ) -> Result<u8, Fault<'a>>
     requires { refusal.now ≢ Refusal.Write }
 {

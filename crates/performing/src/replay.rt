@@ -1,25 +1,25 @@
 //! `replay`: which messages of a record are right.
 use crate::folder_hints::hint_at_folder;
 use crate::holding::{OpenRecord, hold_onto};
-use crate::printed::{buffered_output, refuse, say_to};
+use crate::printed::{refuse, say_to};
 use crate::refused_counts::RefusedCounts;
 use crate::replay_summary::print_replayed;
 use crate::sizes::all_bytes;
 use crate::torrent_file::{open_torrent, read_torrent};
 use crate::watched::Watched;
 use actions::Replay;
-use benc::{FromRead, FromWrite, Sink};
+use benc::{FromRead, FromWrite};
 use commands::answer_sink::AnswerSink;
 use commands::outcomes;
 use lines::LineSink;
 use opening::Torrent;
 use printing::Fault;
 use real_files::{
-    Cause, Cleared, Folder, Noted, Output, Progress, System, TerminalPace, create_output,
+    Cause, Folder, Noted, Progress, StandardOutput, System, TerminalPace, create_output,
 };
 use session::{Paged, Session};
 use std::fs::File;
-use std::io::{BufWriter, IsTerminal};
+use std::io::IsTerminal;
 
 // How many bytes a block has.
 const BLOCK: u64 = 16_384;
@@ -28,42 +28,17 @@ const BLOCK: u64 = 16_384;
 /// record is opened. Gives the exit status.
 pub(crate) fn perform_replay<'a>(system: &System, asked: &Replay<'a>) -> Result<u8, Fault<'a>> {
     let bytes = read_torrent(system, asked.torrent)?;
-    let out = FromWrite::new(system.output());
-    replay_torrent(system, bytes.as_slice(), asked, out)
-}
-
-fn replay_torrent<'a, W: Sink + Drop>(
-    system: &System,
-    bytes: &[u8],
-    asked: &Replay<'a>,
-    out: W,
-) -> Result<u8, Fault<'a>> {
-    match open_torrent(system, bytes) {
+    let out = StandardOutput::unbuffered(system);
+    match open_torrent(system, bytes.as_slice()) {
         Ok(torrent) => {
             let progress = Progress::new(system.rt(), Some(all_bytes(&torrent)));
-            print_replay(
-                system,
-                &torrent,
-                asked,
-                &progress,
-                Cleared::new(out, &progress),
-            )
+            let counts = RefusedCounts::none();
+            say_to!(asked.json, out.below(&progress), lines => {
+                replay_file(system, &torrent, asked, &progress, &mut Watched::new(lines, counts))
+            })
         }
-        Err(refusal) => refuse(system, bytes, &refusal, asked.json, out),
+        Err(refusal) => refuse(system, bytes.as_slice(), &refusal, asked.json, out),
     }
-}
-
-fn print_replay<'a, W: Sink + Drop>(
-    system: &System,
-    torrent: &Torrent<'_>,
-    asked: &Replay<'a>,
-    progress: &Progress,
-    out: W,
-) -> Result<u8, Fault<'a>> {
-    let counts = RefusedCounts::none();
-    say_to!(asked.json, out, lines => {
-        replay_file(system, torrent, asked, progress, &mut Watched::new(lines, counts))
-    })
 }
 
 // The record is opened before the file of the answers, which is not touched if it fails. After that
@@ -78,7 +53,7 @@ fn replay_file<'a, L: LineSink>(
     let file = system.open(asked.record)?;
     let answers = answers_file(system, torrent, asked, progress)?;
     let mut session = outcomes::new_session(system.alloc(), torrent, asked.info_only)?;
-    seed(system, torrent, asked, progress, &mut session, out)?;
+    seed(system, torrent, asked, progress, &mut session)?;
     let record = OpenRecord {
         file,
         padded: asked.padded,
@@ -110,19 +85,18 @@ fn judge<'a, L: LineSink>(
 
 // Fills the session from the folder, if there is one, and tells on standard error if another one
 // may be meant.
-fn seed<'a, L: LineSink>(
+fn seed<'a>(
     system: &System,
     torrent: &Torrent<'_>,
     asked: &Replay<'a>,
     progress: &Progress,
     session: &mut Session<'_, Paged>,
-    out: &mut L,
 ) -> Result<(), Fault<'a>> {
     let Some(dir) = asked.seed else {
         return Ok(());
     };
     let mut folder = Folder::with_torrent(system, dir, torrent, progress);
-    seed_from(system, &mut folder, asked.json, progress, session, out)?;
+    seed_from(system, &mut folder, asked.json, progress, session)?;
     progress.clear();
     hint_at_folder(system, torrent, dir, &["try --seed"]);
     Ok(())
@@ -130,41 +104,28 @@ fn seed<'a, L: LineSink>(
 
 // Fills the session from this folder. Its lines go out by full buffers, all of them before the
 // record is read; on a terminal line by line, at its pace.
-fn seed_from<'a, L: LineSink>(
+fn seed_from<'a>(
     system: &System,
     folder: &mut Folder<'_>,
     json: bool,
     progress: &Progress,
     session: &mut Session<'_, Paged>,
-    out: &mut L,
 ) -> Result<(), Fault<'a>> {
     let mut pace = TerminalPace::new(system);
-    let Some(buffered) = buffer_for_seeds(system) else {
-        return seed_onto(system, session, folder, &mut pace, out);
-    };
-    let cleared = Cleared::new(buffered, progress);
-    say_to!(json, cleared, lines => {
-        seed_onto(system, session, folder, &mut pace, &mut lines)
+    let out = output_of_seeds(system).below(progress);
+    say_to!(json, out, lines => {
+        outcomes::seed(system.alloc(), session, folder, &mut pace, &mut lines)
     })
 }
 
-// The same onto these lines. One call of what is proved of it serves all kinds of lines.
-fn seed_onto<'a, L: LineSink>(
-    system: &System,
-    session: &mut Session<'_, Paged>,
-    folder: &mut Folder<'_>,
-    pace: &mut TerminalPace<'_>,
-    out: &mut L,
-) -> Result<(), Fault<'a>> {
-    outcomes::seed(system.alloc(), session, folder, pace, out)
-}
-
 // Standard output with a buffer, unless it is a terminal or memory is refused.
-fn buffer_for_seeds<'s>(system: &'s System) -> Option<FromWrite<BufWriter<Output<'s>>>> {
-    if system.rt().stdout().is_terminal() {
-        return None;
+fn output_of_seeds<'s>(system: &'s System) -> StandardOutput<'s> {
+    if !system.rt().stdout().is_terminal() {
+        if let Ok(buffered) = StandardOutput::buffered(system) {
+            return buffered;
+        }
     }
-    buffered_output(system).ok()
+    StandardOutput::unbuffered(system)
 }
 
 // Replays the record, and writes the answers to their file, if they are wanted.

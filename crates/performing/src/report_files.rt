@@ -5,7 +5,6 @@ use folders::{FileVerdict, say_verdict};
 use opening::Torrent;
 use printing::Fault;
 use real_files::System;
-use std::alloc::AllocError;
 
 /// How many bytes the first line of a report and the lines behind those of its files have at most:
 /// `part `, two numbers and an info-hash with what stands between them, ` bad` and a line feed;
@@ -27,7 +26,9 @@ pub(crate) fn read_reports<'a>(
     let mut texts = Vec::new(system.alloc());
     for path in paths {
         let text = read_bytes(system, path, most.saturating_add(1))?;
-        texts.push(text).map_err(AllocError::from)?;
+        if texts.push(text).is_err() {
+            return Err(Fault::NoMemory);
+        }
     }
     Ok(texts)
 }

@@ -1,10 +1,10 @@
 //! `root`: the length and the pieces root of a file.
 use crate::printed::say_to;
 use crate::sizes::length_of;
-use benc::{FromRead, FromWrite, Sink, Source};
+use benc::FromRead;
 use commands::outcomes;
 use printing::Fault;
-use real_files::{Cleared, Counted, Noted, Progress, System};
+use real_files::{Counted, Noted, Progress, StandardOutput, System};
 
 /// Prints the length and the pieces root of the file with this path. Gives the exit status.
 pub(crate) fn perform_root<'a>(
@@ -15,16 +15,6 @@ pub(crate) fn perform_root<'a>(
     let file = system.open(path)?;
     let progress = Progress::new(system.rt(), length_of(&file));
     let mut source = Counted::new(FromRead::new(Noted::new(file, system)), path, 0, &progress);
-    let out = Cleared::new(FromWrite::new(system.output()), &progress);
-    print_root(system, path, &mut source, json, out)
-}
-
-fn print_root<'a, R: Source, W: Sink + Drop>(
-    system: &System,
-    path: &'a str,
-    source: &mut R,
-    json: bool,
-    out: W,
-) -> Result<u8, Fault<'a>> {
-    say_to!(json, out, lines => outcomes::root(system.alloc(), path, source, &mut lines))
+    let out = StandardOutput::unbuffered(system).below(&progress);
+    say_to!(json, out, lines => outcomes::root(system.alloc(), path, &mut source, &mut lines))
 }

@@ -1,12 +1,11 @@
 //! `show`: what a torrent holds.
 use crate::long::print_long;
-use crate::printed::{buffered_output, say_refusal, say_to};
+use crate::printed::{say_refusal, say_to};
 use crate::torrent_file::{open_torrent, read_torrent};
-use benc::Sink;
 use commands::outcomes;
 use lines::LineSink;
 use printing::Fault;
-use real_files::System;
+use real_files::{StandardOutput, System};
 
 /// Prints what the torrent with this path holds. Gives the exit status.
 pub(crate) fn perform_show<'a>(
@@ -16,18 +15,8 @@ pub(crate) fn perform_show<'a>(
     long: bool,
 ) -> Result<u8, Fault<'a>> {
     let bytes = read_torrent(system, path)?;
-    let out = buffered_output(system)?;
-    print_show(system, bytes.as_slice(), json, long, out)
-}
-
-fn print_show<'a, W: Sink + Drop>(
-    system: &System,
-    bytes: &[u8],
-    json: bool,
-    long: bool,
-    out: W,
-) -> Result<u8, Fault<'a>> {
-    say_to!(json, out, lines => show_torrent(system, bytes, long, &mut lines))
+    let out = StandardOutput::buffered(system)?;
+    say_to!(json, out, lines => show_torrent(system, bytes.as_slice(), long, &mut lines))
 }
 
 fn show_torrent<'a, L: LineSink>(

@@ -2,10 +2,7 @@
 ghost use Rattle.std.specs.Prelude.{◌≡◌};
 
 use crate::system::{Cause, System};
-use std::io::{self, Printer, Read, Write};
-
-/// Standard output, whose failures are noted.
-pub type Output<'s> = Noted<'s, Printer<'s, HostRuntime>>;
+use std::io::{self, Read, Write};
 
 /// A reader or writer whose failures are noted.
 #[derive(Drop)]

@@ -21,7 +21,9 @@ pub fn others_below(
     let mut others = Vec::new(alloc);
     'files: for path in listed(system, dir)? {
         if !named.contains(&path_below(alloc, "", path.as_slice())?) {
-            others.push(path).map_err(AllocError::from)?;
+            if others.push(path).is_err() {
+                return Err(ShelfFault::NoMemory);
+            }
         }
     }
     others.sort_unstable();
@@ -58,9 +60,10 @@ fn named(alloc: Global, torrent: &Torrent<'_>) -> Result<BTreeSet<String>, Alloc
     let mut named = BTreeSet::new(alloc);
     'files: for file in torrent.files() {
         let mut path = String::new(alloc);
-        for part in file.path.parts() {
+        let parts = file.path.parts();
+        for part in parts.as_slice() {
             path.push('/')?;
-            path.push_str(part)?;
+            path.push_str(*part)?;
             named.insert(path.clone()?)?;
         }
     }

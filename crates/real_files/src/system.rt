@@ -1,7 +1,6 @@
 //! The system that a command runs on, and why its last call that failed did so.
 ghost use Rattle.std.specs.Prelude.{◌≡◌, IfErr};
 
-use crate::noted::{Noted, Output};
 use printing::Fault;
 use std::alloc::Global;
 use std::cell::Cell;
@@ -99,11 +98,6 @@ impl System {
                 Err(Fault::Read(path))
             }
         }
-    }
-
-    /// Standard output.
-    pub fn output(&self) -> Output<'_> {
-        Noted::new(io::writer(&self.rt), self)
     }
 }
 

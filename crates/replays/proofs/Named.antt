@@ -1,10 +1,13 @@
--- The trees of a torrent's files.
+-- The trees of a torrent's files, and of a message's blocks.
 use Rattle.std.proofs.Common.{◌≡◌, ◌⊎◌, ℕ, ◌<◌, ◌≤◌, List, length, Option, Some, None, IfSome, inl, inr, refl, get_or, sym, ap, ◌∙◌, arith}
 use Rattle.std.specs.Prelude.{slice_get}
+use Rattle.std.proofs.lemmas.List.{length-map}
 use Rattle.std.proofs.lemmas.Option.{none-some, slice_get_cases, slice_get_within}
 use Rattle.opening.specs.Description.{Description, FileEntry}
 use Rattle.opening.specs.Sound.{IsSound}
-use Rattle.session.specs.Layouts.{tree_number}
+use Rattle.session.specs.Blocks.{BlocksSeen}
+use Rattle.session.specs.Layouts.{SessionSeen, root_of_entry, roots, tree_number}
+use Rattle.replays.specs.Held.{IsRunOf}
 
 -- a file's tree is one of the torrent's
 pub tree-there : (d : Description) (file : ℕ) (r : Option ℕ) → IsSound d → file < length d.files
@@ -27,3 +30,7 @@ file-there d file n has = by (slice_get d.files file) refl has
     by : (o : Option FileEntry) → slice_get d.files file ≡ o → tree_number o ≡ Some n → file < length d.files
     by None at has = absurd (none-some n has)
     by (Some f) at has = slice_get_within d.files file f at
+
+-- the tree of a message's blocks is one of the torrent's
+pub run-there : {S : SessionSeen} {v : BlocksSeen} {bytes : List ℕ} {n : ℕ} → IsRunOf S v bytes n → n < length S.torrent.trees
+run-there {S} {v} {bytes} {n} run = omega (arith, slice_get_within (roots S) n run.tree run.is_tree, length-map S.torrent.trees root_of_entry)

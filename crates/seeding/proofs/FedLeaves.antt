@@ -1,26 +1,21 @@
 -- What takes a file's bytes for its leaves: how many leaves its tree has, and what stands at the end.
-use Rattle.std.proofs.Common.{◌≡◌, ◌⊎◌, ℕ, ◌+◌, ◌-◌, ◌/◌, ◌<◌, ◌≤◌, ◌++◌, List, [], ◌∷◌, length, Option, Some, None, OnSome, Result, Ok, Err}
-use Rattle.std.proofs.Common.{IfErr, inl, inr, refl, sym, ap, ◌∙◌, subst, arith, div-one, option_map}
+use Rattle.std.proofs.Common.{◌≡◌, ◌⊎◌, ℕ, ◌+◌, ◌-◌, ◌/◌, ◌<◌, ◌≤◌, ◌++◌, List, [], ◌∷◌, length, Option, Some, None, OnSome, Result, Ok}
+use Rattle.std.proofs.Common.{inl, inr, refl, sym, ap, ◌∙◌, subst, arith, div-one}
 use Rattle.std.specs.Option.{option_to_list}
+use Rattle.std.specs.declared.alloc.AllocError.{AllocError}
 use Rattle.std.proofs.lemmas.List.{length-append}
 use Rattle.benc.specs.Device.{SourceSeen}
-use Rattle.folders.specs.TakeAll.{TookAll}
-use Rattle.folders.proofs.Pieces.{all_given}
+use Rattle.folders.specs.TakeAll.{IsReadWithin, ReadAll, TookAll}
+use Rattle.folders.proofs.Pieces.{all_given, longer_content}
 use Rattle.hashtree.specs.declared.root.RootBuilder.{RootBuilder}
 use Rattle.hashtree.specs.Complete.{complete_nodes}
 use Rattle.hashtree.specs.RootBuilder.{Feeds, IsFed}
-use Rattle.hashtree.specs.Tree.{block_count, layer_of, root_of}
+use Rattle.hashtree.specs.Tree.{block_count, layer_of}
 use Rattle.hashtree.proofs.Comparing.{length-layer_of}
 use Rattle.hashtree.proofs.Complete.{length-complete_nodes}
-use Rattle.opening.specs.Description.{TreeEntry}
 use Rattle.partial_tree.specs.Grown.{GrownTree}
-use Rattle.seeding.specs.Leaves.{EndsWithTree, HadFitting, HaveLeavesRefused, IsFedLeaves, IsFull, Pushes, ReadsLeaves}
+use Rattle.seeding.specs.Leaves.{FindsWholeTree, HaveLeavesRefused, IsFedLeaves, IsFull, Pushes, ReadsTree}
 use Rattle.seeding.specs.declared.leaves.Leaves.{Leaves}
-
--- what holds of each error holds of the one that is answered
-pub at_err : {A E : Type 0} (P : E → Type 0) (r : Result A E) → ((why : E) → P why) → IfErr r P
-at_err P (Ok x) all = tt
-at_err P (Err why) all = all why
 
 -- one leaf for each block that is complete
 complete-length : (content : List ℕ) → length (complete_nodes content 0) ≡ (length content - 1) / 16384
@@ -106,10 +101,29 @@ pub all-there : {N : Type 0} (l : Leaves N) (t : GrownTree) (content : List ℕ)
 all-there l t content last full works nodes is same =
     ap length (all-leaves l t content last full works nodes is) ∙ length-leaves content ∙ ap block_count (full.length_is ∙ sym same)
 
--- a source of the right length was read
-module _ {N : Type 0} (e : TreeEntry) (len : ℕ) (of : len ≡ e.length) (source source' : SourceSeen) (before after : Leaves N)
-    (read : TookAll Pushes source source' len before after len)
-    (nothing : IsFedLeaves before []) (length_is : before.tree.length ≡ len) (some : 0 < len) where
+-- ---- a source that was read
+
+-- it has another length
+pub other_length : {T : Type 0} (len : ℕ) (root : List ℕ) (took : T → List ℕ → T → Type 0) (source source' : SourceSeen) (before after : T) (r : Option ℕ)
+    → ReadAll took source source' len before after r → IsReadWithin (len + 1) source source' → (r ≡ Some len → ⊥) → ReadsTree len root source source' (Ok None)
+other_length len root took source source' before after None (bytes, gave, more) within other =
+    let longer = longer_content source.left source'.left bytes gave.given in (
+      longer.0,
+      record { agrees = longer.2; is_read = omega (arith, longer.1, more, gave.falls, within) },
+      λ fits. omega (arith, longer.1, more, fits.same_length),
+    )
+other_length len root took source source' before after (Some count) read within other = (
+  read.bytes,
+  record {
+    agrees = λ known is. all_given source source' read.bytes known read.gave read.ended is;
+    is_read = omega (arith, read.count_is, read.within, read.gave.falls);
+  },
+  λ fits. other (ap Some (sym read.count_is ∙ fits.same_length)),
+)
+
+-- it has the right one
+module _ {N : Type 0} (len : ℕ) (root : List ℕ) (source source' : SourceSeen) (before after : Leaves N)
+    (read : TookAll Pushes source source' len before after len) (nothing : IsFedLeaves before []) (length_is : before.tree.length ≡ len) (some : 0 < len) where
   pub full : IsFull after read.bytes
   full = record {
     fed = read.taken.fed [] nothing;
@@ -117,24 +131,14 @@ module _ {N : Type 0} (e : TreeEntry) (len : ℕ) (of : len ≡ e.length) (sourc
     some = omega (arith, read.count_is, some);
   }
 
-  pub fitting : ((content : List ℕ) → IsFull after content → e.root ≡ root_of content) → HadFitting e source.left
-  fitting same = (
+  pub reads_tree : (found : Result (Option GrownTree) AllocError)
+      → ((content : List ℕ) → IsFull after content → FindsWholeTree after.tree.length root content found)
+      → ReadsTree len root source source' found
+  reads_tree found finds = (
     read.bytes,
-    λ known is. all_given source source' read.bytes known read.gave read.ended is,
-    record { same_length = read.count_is ∙ of; same_root = sym (same read.bytes full) },
-  )
-
-  pub found : (t : Option GrownTree) → ((content : List ℕ) → IsFull after content → EndsWithTree after e.root content t)
-      → ReadsLeaves e source.left (option_map (λ (x : GrownTree). x.leaves) t)
-  found (Some t) ends =
-      let end = ends read.bytes full in (
-        read.bytes,
-        λ known is. all_given source source' read.bytes known read.gave read.ended is,
-        record { same_length = read.count_is ∙ of; same_root = sym end.0 },
-        end.2,
-      )
-  found None ends = (
-    read.bytes,
-    λ known is. all_given source source' read.bytes known read.gave read.ended is,
-    λ fits. ends read.bytes full (sym fits.same_root),
+    record {
+      agrees = λ known is. all_given source source' read.bytes known read.gave read.ended is;
+      is_read = omega (arith, read.count_is, read.gave.falls);
+    },
+    subst (λ n. FindsWholeTree n root read.bytes found) (read.taken.same_length ∙ length_is) (finds read.bytes full),
   )

@@ -1,9 +1,5 @@
 pub mod FedLeaves
-pub mod GivenFiles
-pub mod GivenLeaves
-pub mod HeldReads
-pub mod HeldSeeds
-pub mod HeldTogether
-pub mod LeafReads
-pub mod Seeds
+pub mod Filled
+pub mod Looked
+pub mod Passed
 pub mod Trees

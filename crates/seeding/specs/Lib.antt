@@ -1,8 +1,5 @@
 -- What contracts of seeding a session from a shelf cite.
-pub mod Giving
-pub mod Held
 pub mod Leaves
 pub mod LeavesLaws
+pub mod Passing
 pub mod Seeding
-pub mod Together
-pub mod OwnTrees

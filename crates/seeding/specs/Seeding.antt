@@ -99,12 +99,6 @@ module _ {S F : Type 0} (shelf : Ghosts S F) (seen : F → SourceSeen) where
       pub answer : Result (Option F) DeviceFault
       pub opened : Opened shelf seen (IsReadToSeed len fits) s path answer s'
 
-  -- the same by what was answered: a content that fits, or nothing; or memory was refused for one
-  -- that does
-  abbrev pub OpensToFind : {A E : Type 0} → S → List (List ℕ) → ℕ → S → Result (Option A) E → Type 0
-  OpensToFind s path len s' (Ok found) = OpensToSeed s path len (is_some found) s'
-  OpensToFind s path len s' (Err e) = OpensToSeed s path len true s'
-
   -- a file of tree n was looked for on the shelf, and its leaves were filled in if it is whole
   pub record SeedsTree (old : S × SessionSeen) (f : FileEntry) (n : ℕ) (seeded : Bool)
       (new : S × SessionSeen) : Type 0 where

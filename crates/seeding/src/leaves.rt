@@ -1,14 +1,13 @@
 //! The leaves of a file's tree, from a source.
-ghost use Rattle.std.specs.Prelude.{◌≡◌, ◌⊎◌, ℕ, ◌+◌, ◌^◌, ◌<◌, ◌≤◌, ◌++◌, [], List, false, length, option_map, IfErr, IfOk, IfSome, OnErr, OnSome};
+ghost use Rattle.std.specs.Prelude.{◌≡◌, ◌⊎◌, ℕ, ◌+◌, ◌^◌, ◌<◌, ◌≤◌, ◌++◌, [], List, false, length, IfOk, OnErr, OnSome};
 ghost use Rattle.std.specs.Option.{option_to_list};
-ghost use Rattle.hashtree.specs.Tree.{block_count, root_of};
-ghost use Rattle.opening.specs.Seen.{tree_entry};
-ghost use Rattle.folders.specs.TakeAll.{CountsReading};
-ghost use Rattle.folders.specs.declared.taking.ReadFault.TheVariants as fault;
-ghost use Rattle.seeding.specs.Leaves.{EndsWithTree, HadFitting, HaveLeavesRefused, IsFedLeaves, IsFull, ReadsLeaves, ReadsSoFar};
+ghost use Rattle.benc.specs.Device.{CountsFault};
+ghost use Rattle.folders.specs.TakeAll.{IsReadWithin};
+ghost use Rattle.hashtree.specs.Tree.{block_count};
+ghost use Rattle.seeding.specs.Leaves.{FindsWholeTree, HaveLeavesRefused, IsFedLeaves, IsFull, ReadsTree};
 
-use benc::Source;
-use folders::{Consumer, FileReader, ReadFault, take_all};
+use benc::{DeviceFault, Source};
+use folders::{Consumer, take_all};
 use hashtree::{Hash, NoMemory, Parts, RootBuilder, Shape};
 use node_maps::NodeMap;
 use opening::TreeInfo;
@@ -79,12 +78,10 @@ impl<N: NodeMap> Leaves<N> {
 
     // The whole tree, if it has this root, in which case memory may be refused. Condition: as many
     // bytes as the file has were taken.
-    fn finish(self, root: &Hash) -> Result<Option<GrownTree<N>>, NoMemory>
+    fn finish(self, root: &Hash) -> Found<N>
         requires { (content : List ℕ) × IsFull self content }
-        ensures ends { IfOk result (λ found. (content : List ℕ) → IsFull self content
-            → EndsWithTree self root.now content found) }
-        ensures no_memory { OnErr result ((content : List ℕ) → IsFull self content
-            → root.now ≡ root_of content) }
+        ensures { (content : List ℕ) → IsFull self content
+            → FindsWholeTree self.tree.length root.now content result }
     {
         let (_, found, last) = self.builder.finish_layer(0);
         if found != *root {
@@ -101,54 +98,50 @@ impl<N: NodeMap> Leaves<N> {
     }
 }
 
-/// The whole tree over a content's leaves if that fits the tree of a file, and else `None`.
-pub(crate) type Grown<N> = Result<Option<GrownTree<N>>, ReadFault>;
+/// What is found of a file: the whole tree over its leaves if it fits its own, and else `None`; or
+/// that memory was refused for the leaves of one that fits.
+pub(crate) type Found<N> = Result<Option<GrownTree<N>>, NoMemory>;
 
-/// Reads files for the leaves of this tree.
-#[derive(Drop)]
-pub(crate) struct TreeReader<'a, 't> {
-    pub(crate) alloc: Global,
-    pub(crate) tree: &'a TreeInfo<'t>,
-}
-
-impl<N: NodeMap, F: Source> FileReader<F, Grown<N>> for TreeReader<'_, '_> {
-    ghost use Rattle.seeding.specs.Leaves.{ReadsTree};
-
-    ghost may_read = { λ r. (0 < r.tree.now.length) × (r.tree.now.length ≤ 2 ^ 46) };
-
-    ghost reads = { λ r _. ReadsTree (tree_entry r.tree.now) };
-
-    fn read(&mut self, file: &mut F, buffer: &mut [u8]) -> Grown<N> {
-        read_tree(self.alloc, file, self.tree, buffer)
-    }
-}
-
-// Reads a source through the buffer to its end and no further, or to one byte past the length of
-// the tree's files: the whole tree over its content's leaves if that fits the tree, and else
-// `None`. Memory for the leaves is taken as they come; that it was refused is answered only of a
-// content that fits.
-fn read_tree<N: NodeMap, F: Source>(
+/// Reads a source through the buffer to its end and no further, or to one byte past the length of
+/// the tree's files, and finds its leaves. Memory for them is taken as they come; that it was
+/// refused is answered only of a content that fits.
+pub(crate) fn read_tree<N: NodeMap, F: Source>(
     alloc: Global,
     source: &mut F,
     tree: &TreeInfo<'_>,
     buffer: &mut [u8],
-) -> Grown<N>
+) -> Result<Found<N>, DeviceFault>
     requires some { 0 < length buffer.old }
     requires tree { (0 < tree.now.length) × (tree.now.length ≤ 2 ^ 46) }
-    ensures read { IfOk result (λ found. ReadsLeaves (tree_entry tree.now) (F.seen source.old).left
-        (option_map (λ grown. grown.leaves) found)) }
-    ensures length { IfOk result (λ found. IfSome found (λ grown.
-        grown.length ≡ tree.now.length)) }
-    ensures memory { IfErr result (λ why. why ≡ fault.NoMemory
-        → HadFitting (tree_entry tree.now) (F.seen source.old).left) }
-    ensures counts { CountsReading (F.seen source.old).faults (F.seen source.new).faults result }
-    ensures no_further { ReadsSoFar tree.now.length (F.seen source.old) (F.seen source.new)
-        result }
+    ensures read { IfOk result (ReadsTree tree.now.length tree.now.root (F.seen source.old)
+        (F.seen source.new)) }
+    ensures early { OnErr result
+        (IsReadWithin tree.now.length (F.seen source.old) (F.seen source.new)) }
+    ensures counts { CountsFault (F.seen source.old).faults (F.seen source.new).faults result }
 {
     let shape = Shape::of(tree.length).unwrap();
     let mut leaves = Leaves::new(alloc, shape);
     if take_all(source, tree.length, buffer, &mut leaves)? != Some(tree.length) {
-        return Ok(None);
+        return Ok(Ok(None));
     }
-    Ok(leaves.finish(&tree.root)?)
+    Ok(leaves.finish(&tree.root))
+}
+
+/// The whole tree over these leaves, of files of this length. Condition: they are as many.
+pub(crate) fn grow<N: NodeMap>(
+    alloc: Global,
+    size: u64,
+    leaves: &[Hash],
+) -> Result<GrownTree<N>, NoMemory>
+    requires bounds { (0 < size) × (size ≤ 2 ^ 46) }
+    requires all { length leaves.now ≡ block_count size }
+    ensures length { IfOk result (λ t. t.length ≡ size) }
+    ensures leaves { IfOk result (λ t. t.leaves ≡ leaves.now) }
+{
+    let shape = Shape::of(size).unwrap();
+    let mut tree = GrowingTree::new(alloc, shape);
+    'leaves: for leaf in leaves {
+        tree.push(*leaf)?;
+    }
+    Ok(tree.finish()?)
 }

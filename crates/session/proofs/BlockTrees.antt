@@ -14,7 +14,7 @@ use Rattle.session.specs.Asks.{AskSet}
 use Rattle.session.specs.BlockTree.{HasBlockAt, HasBlockTree}
 use Rattle.session.specs.Layouts.{AreKept, HasBlock, SessionSeen, seen, tree_number}
 use Rattle.session.specs.Session.{IsInFile, IsMarkedBlock, IsUnmarkedBlock}
-use Rattle.session.proofs.KeptTrees.{IsKeptTree, number_within, tree-after, tree-stays}
+use Rattle.session.proofs.KeptTrees.{IsKeptTree, tree-after, tree-stays}
 use Rattle.session.proofs.Sessions.{tree_at, tree_for}
 
 -- this is what the torrent says of the tree of a file
@@ -42,10 +42,6 @@ some_tree d sound file block has tree is =
 -- ---- what callers see of a block's tree
 
 module _ (o : AskSet) (d : Description) (ts : List KeptTree) (kept : AreKept d ts) (v : SessionSeen) (is : seen d o ts ≡ v) where
-  -- it is among the trees
-  pub kept_within : (file block number : ℕ) → HasBlockTree v file block number → number < length ts
-  kept_within file block number at = number_within o d ts kept v is number at.within
-
   module _ (sound : IsSound d) where
     pub block_tree : (file b n : ℕ) (f : FileEntry) → slice_get d.files file ≡ Some f → b < block_count f.length → f.tree ≡ Some n
         → HasBlockTree v file b n

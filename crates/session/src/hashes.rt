@@ -36,7 +36,6 @@ impl<T: HoldsTorrent, N: NodeMap> SessionOf<T, N> {
     }
 
     // Apart from `take_hashes`, so that what follows of closed trees is proved of one result.
-    #[tactic(auto, using(crate::proofs::KeptTrees::number_within))]
     fn join_hashes(&mut self, ask: &Ask, hashes: &[Hash]) -> Result<u64, HashRefusal>
         ensures stored { IfOk result (λ c. IsStored self.old ask.now hashes.now c self.new) }
         ensures refused { IfErr result (λ r. IsHashRefused self.old ask.now hashes.now r
@@ -63,7 +62,6 @@ impl<T: HoldsTorrent, N: NodeMap> SessionOf<T, N> {
     }
 
     // Apart from `fill`, so that what follows of a layer is proved of one result.
-    #[tactic(auto, using(crate::proofs::KeptTrees::number_within))]
     fn join_layer(&mut self, tree: usize, layer: u32, hashes: &[Hash]) -> Result<u64, HashRefusal>
         requires { tree < length self.old.torrent.trees }
         ensures filled { IfOk result (λ c. IsFilled self.old tree layer hashes.now c self.new) }
@@ -93,7 +91,6 @@ impl<T: HoldsTorrent, N: NodeMap> SessionOf<T, N> {
     }
 
     // Apart from `adopt`, so that what follows of a tree is proved of one result.
-    #[tactic(auto, using(crate::proofs::KeptTrees::number_within))]
     fn take_over(&mut self, tree: usize, grown: GrownTree<N>) -> Result<u64, HashRefusal>
         requires inside { tree < length self.old.torrent.trees }
         requires length { (e : TreeEntry) → slice_get self.old.torrent.trees tree ≡ Some e

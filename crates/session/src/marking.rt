@@ -148,7 +148,6 @@ impl<T: HoldsTorrent, N: NodeMap> SessionOf<T, N> {
     }
 
     // Whether the leaves of eight blocks of a file are known, from one on.
-    #[tactic(auto, using(crate::proofs::BlockTrees::kept_within))]
     fn knows_eight(&self, file: usize, block: u64) -> bool
         requires { HasBlock self.now.torrent file block }
     {
@@ -177,7 +176,6 @@ impl<T: HoldsTorrent, N: NodeMap> SessionOf<T, N> {
     }
 
     // Marks a block of a file if its digest, which may be given, is its known leaf.
-    #[tactic(auto, using(crate::proofs::BlockTrees::kept_within))]
     fn mark_in_file(
         &mut self,
         file: usize,

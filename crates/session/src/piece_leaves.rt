@@ -85,7 +85,6 @@ impl<T: HoldsTorrent, N: NodeMap> SessionOf<T, N> {
     }
 
     // Apart from `take_leaves`, so that what follows of closed trees is proved of one result.
-    #[tactic(auto, using(crate::proofs::KeptTrees::number_within))]
     fn join_leaves(&mut self, tree: usize, first: u64, leaves: &[Hash]) -> Result<u64, PieceRefusal>
         requires tree { tree < length self.old.torrent.trees }
         requires piece { HasPiece self.old tree first (length leaves.now) }
@@ -102,7 +101,6 @@ impl<T: HoldsTorrent, N: NodeMap> SessionOf<T, N> {
     /// Marks a leaf of a tree, and returns true, if this digest is known there: that of a block
     /// which came. Else nothing changes. Takes no memory. Condition: there are more than `tree`
     /// trees.
-    #[tactic(auto, using(crate::proofs::KeptTrees::number_within))]
     pub fn mark_leaf(&mut self, tree: usize, block: u64, digest: &Hash) -> bool
         requires { tree < length self.old.torrent.trees }
         ensures marked { OnTrue result (IsLeafMarked self.old tree block digest.now self.new) }

@@ -57,7 +57,6 @@ impl<T: HoldsTorrent, N: NodeMap> SessionOf<T, N> {
     }
 
     // Takes the bytes of the piece that begins with a block of a file.
-    #[tactic(auto, using(crate::proofs::BlockTrees::kept_within))]
     fn take_from(&mut self, file: usize, first: u64, bytes: &[u8]) -> Result<(), PieceRefusal>
         requires block { HasBlock self.old.torrent file first }
         requires aligned { first % 2 ^ piece_layer self.old.torrent.piece_length ≡ 0 }

@@ -1,5 +1,5 @@
 -- Why no frame came.
-use Rattle.std.proofs.Common.{◌≡◌, ◌≢◌, ℕ, ◌+◌, ◌^◌, ◌<◌, List, [], ◌∷◌, ◌++◌, length, Result, Ok, Err, IsErrAnd, IsErrOf, ap, refl, subst, sym, arith, ◌∙◌}
+use Rattle.std.proofs.Common.{◌≡◌, ◌≢◌, ℕ, ◌+◌, ◌^◌, ◌<◌, List, [], ◌∷◌, ◌++◌, length, Err, IsErrOf, ap, refl, subst, sym, arith, ◌∙◌}
 use Rattle.std.specs.Io.KnownBytes.{Keeps}
 use Rattle.std.proofs.lemmas.List.{append-nil, length-append}
 use Rattle.wire.specs.declared.fault.FrameFault.{FrameFault}
@@ -11,11 +11,6 @@ use Rattle.wire.specs.Reading.{CountsRead, GaveFaultless, StopsInBody, StopsInFr
 use Rattle.wire.proofs.FourBytes.{length-four_bytes}
 use Rattle.wire.proofs.Giving.{Failed-at_once, Gave-nil, Gave-until}
 use Rattle.wire.proofs.Partial.{IsPartial-from_short, IsPartial-from_unfinished}
-
--- what a `?` hands on
-pub handed_on : {A E : Type 0} (r : Result A E) (why : E) → IsErrAnd r (λ e. e ≡ why) → r ≡ Err why
-handed_on (Ok x) why h = absurd h
-handed_on (Err e) why h = ap Err h
 
 -- before the first byte of a length
 pub StopsInLength-at_start : (a b : SourceSeen) (why : FrameFault) → why ≡ fault.Read → Keeps a.left b.left → b.limit ≡ a.limit → b.faults ≡ one_more a.faults

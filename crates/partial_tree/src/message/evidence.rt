@@ -17,7 +17,7 @@
 ghost use Rattle.std.specs.Prelude.{◌≡◌, ℕ, ◌+◌, ◌-◌, ◌*◌, ◌/◌, ◌%◌, ◌^◌, ◌<◌, ◌≤◌, ◌++◌};
 ghost use Rattle.partial_tree.specs.Claims.{sibling, base_hash, uncle_hash, given, claims};
 
-use crate::message::row::{Row, RowHashes};
+use crate::message::row::{HashRow, RowHashes};
 use hashtree::Hash;
 
 /// Hashes as evidence: a base range of `2 ^ span` places, whose hashes may stop early, and then the
@@ -75,7 +75,7 @@ impl<'a> Evidence<'a> {
     }
 
     /// The hashes of a row of the base range.
-    pub(crate) fn base_row(&self, row: &Row) -> RowHashes
+    pub(crate) fn base_row(&self, row: &HashRow) -> RowHashes
         requires index { self.now.index < 2 ^ 32 }
         requires base { self.now.base ≤ 32 }
         requires span { self.now.span ≤ 32 }

@@ -10,7 +10,7 @@ ghost use Rattle.partial_tree.specs.Visits.{AdmitsAll, StopsAtClaim, VisitsAll, 
 
 use crate::message::evidence::{Evidence, sibling};
 use crate::message::found::Claim;
-use crate::message::row::{EIGHT_DEPTH, Row, RowHashes, parents_of_row, parents_of_rows};
+use crate::message::row::{EIGHT_DEPTH, HashRow, RowHashes, parents_of_row, parents_of_rows};
 use crate::message::visitor::Visitor;
 use hashtree::{Hash, parent};
 
@@ -24,7 +24,7 @@ pub(crate) fn fold<V: Visitor>(visitor: &mut V, evidence: &Evidence, layer: u32)
     ensures stopped { IfNone result
         (StopsAtClaim V.stops (claimed_by evidence.now) visitor.old) }
 {
-    let cover = Row {
+    let cover = HashRow {
         layer: evidence.base + evidence.span,
         depth: 0,
         node: evidence.index >> evidence.span,
@@ -84,7 +84,7 @@ fn parent_of(node: u64, hash: &Hash, other: &Hash) -> Hash
 
 // Hands the claims of a row and below it to the visitor, and returns the row's hashes.
 #[cycle(fold)]
-fn fold_row<V: Visitor>(visitor: &mut V, evidence: &Evidence, row: Row) -> Option<RowHashes>
+fn fold_row<V: Visitor>(visitor: &mut V, evidence: &Evidence, row: HashRow) -> Option<RowHashes>
     requires at { IsClaimedRow evidence.now row }
     requires admits { AdmitsAll V.admits (claimed_by evidence.now) visitor.old }
     ensures value { IfSome result (AreClaimedIn (claimed_by evidence.now) row) }
@@ -106,7 +106,7 @@ fn fold_row<V: Visitor>(visitor: &mut V, evidence: &Evidence, row: Row) -> Optio
 
 // Hands the claims below a row to the visitor, and returns the row's hashes, given or computed.
 #[cycle(fold)]
-fn fold_below<V: Visitor>(visitor: &mut V, evidence: &Evidence, row: Row) -> Option<RowHashes>
+fn fold_below<V: Visitor>(visitor: &mut V, evidence: &Evidence, row: HashRow) -> Option<RowHashes>
     requires at { IsClaimedRow evidence.now row }
     requires admits { AdmitsAll V.admits (claimed_by evidence.now) visitor.old }
     ensures value { IfSome result (AreClaimedIn (claimed_by evidence.now) row) }
@@ -122,13 +122,13 @@ fn fold_below<V: Visitor>(visitor: &mut V, evidence: &Evidence, row: Row) -> Opt
     if row.depth < EIGHT_DEPTH {
         let depth = row.depth + 1;
         let node = row.node;
-        let below = fold_row(visitor, evidence, Row { layer, depth, node })?;
+        let below = fold_row(visitor, evidence, HashRow { layer, depth, node })?;
         return Some(parents_of_row(&below, row.count() as usize));
     }
     let depth = row.depth;
     let node = 2 * row.node;
-    let left = fold_row(visitor, evidence, Row { layer, depth, node })?;
+    let left = fold_row(visitor, evidence, HashRow { layer, depth, node })?;
     let node = 2 * row.node + 1;
-    let right = fold_row(visitor, evidence, Row { layer, depth, node })?;
+    let right = fold_row(visitor, evidence, HashRow { layer, depth, node })?;
     Some(parents_of_rows(&left, &right))
 }

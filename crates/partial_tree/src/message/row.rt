@@ -14,13 +14,13 @@ pub(crate) const EIGHT_DEPTH: u32 = 3;
 
 /// The places of a layer under the node that stands `depth` layers above: `2 ^ depth` of them.
 #[derive(Clone, Copy)]
-pub(crate) struct Row {
+pub(crate) struct HashRow {
     pub(crate) layer: u32,
     pub(crate) depth: u32,
     pub(crate) node: u64,
 }
 
-impl Row {
+impl HashRow {
     /// How many places it has.
     pub(crate) fn count(&self) -> u64
         requires { self.now.depth ≤ 3 }

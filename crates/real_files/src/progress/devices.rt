@@ -55,16 +55,16 @@ impl<'p, R: Source, N: AsStr> Source for Counted<'p, R, N> {
     ghost finite = { λ s. R.finite s.source };
 }
 
-/// A sink before whose writes the line is taken away.
+/// A sink before whose writes the line is taken away, if there is one.
 #[derive(Drop)]
 pub struct Cleared<'p, W: Sink> {
-    sink: W,
-    progress: &'p Progress,
+    pub(crate) sink: W,
+    progress: Option<&'p Progress>,
 }
 
 impl<'p, W: Sink> Cleared<'p, W> {
     /// This sink.
-    pub fn new(sink: W, progress: &'p Progress) -> Cleared<'p, W>
+    pub fn new(sink: W, progress: Option<&'p Progress>) -> Cleared<'p, W>
         ensures { ⟦<Cleared<'p, W> as Sink>⟧.seen result ≡ W.seen sink }
     {
         Cleared { sink, progress }
@@ -75,7 +75,9 @@ impl<'p, W: Sink> Sink for Cleared<'p, W> {
     ghost seen = { λ s. W.seen s.sink };
 
     fn write(&mut self, buf: &[u8]) -> Result<usize, DeviceFault> {
-        self.progress.clear();
+        if let Some(progress) = self.progress {
+            progress.clear();
+        }
         self.sink.write(buf)
     }
 

@@ -1,5 +1,4 @@
-use Rattle.std.proofs.Common.{ap, ◌∙◌, subst, inl}
-use Rattle.filetree.proofs.Folders.{texts}
+use Rattle.std.proofs.Common.{◌∙◌, subst, inl}
 use Rattle.opening.specs.Seen.{file_entry}
 use Rattle.opening.proofs.Placing.{file_there}
 use Rattle.c_layouts.specs.Paths.{joined_path_text, HasPath}
@@ -11,5 +10,5 @@ returns-in-Some-clause-done c = inl (
   file_there c.args.torrent.now c.files.result.now c.args.number c.in-Some.file.now c.files.ensures c.in-Some.ensures.lookup.3.0
       (c.in-Some.ensures.lookup.3.1 c.in-Some.file.now),
   subst (λ p. HasPath (joined_path_text p) c.write_path.result c.args.room.now c.write_path.new.room c.write_path.new.length)
-      (ap texts c.deref.ensures.0 ∙ c.parts.ensures) c.write_path.ensures.done,
+      (c.deref.ensures ∙ c.parts.ensures) c.write_path.ensures.done,
 )

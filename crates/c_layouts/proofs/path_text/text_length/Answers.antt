@@ -1,6 +1,6 @@
 use Rattle.std.proofs.Common.{◌≡◌, ◌+◌, ◌-◌, ◌^◌, ◌∷◌, drop, length, min, arith}
 use Rattle.filetree.specs.FileTree.{slash}
-use Rattle.filetree.proofs.Folders.{texts}
+use Rattle.filetree.proofs.Texts.{texts}
 use Rattle.c_layouts.proofs.Joining.{tail_text, from_first, part_at, part_next, counted_next}
 use Rattle.c_layouts.proofs.path_text.text_length.Goals as goal
 

@@ -1,5 +1,5 @@
 use Rattle.std.proofs.Common.{drop}
-use Rattle.filetree.proofs.Folders.{texts}
+use Rattle.filetree.proofs.Texts.{texts}
 use Rattle.c_layouts.specs.Paths.{joined_path_text}
 use Rattle.c_layouts.proofs.Joining.{tail_text, IsCounted}
 use Rattle.c_layouts.proofs.path_text.text_length.Given as goal

@@ -1,7 +1,7 @@
 use Rattle.std.proofs.Common.{◌+◌, ◌∷◌, [], ◌++◌, drop, length, length-append, sym, ap, ◌∙◌, arith}
 use Rattle.c_layouts.specs.Paths.{joined_path_text}
 use Rattle.filetree.specs.FileTree.{slash}
-use Rattle.filetree.proofs.Folders.{texts}
+use Rattle.filetree.proofs.Texts.{texts}
 use Rattle.c_layouts.proofs.Joining.{tail_text, from_first, part_at, part_next, written_next, written_none, left_fits}
 use Rattle.c_layouts.proofs.path_text.write_text.Goals as goal
 

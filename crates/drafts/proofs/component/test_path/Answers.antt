@@ -6,7 +6,7 @@ use Rattle.std.proofs.lemmas.List.{length-map}
 use Rattle.std.proofs.lemmas.Option.{same_Some, slice_get-map, slice_get-get_or, slice_get_within}
 use Rattle.chains.proofs.Cases.{last_or_before}
 use Rattle.filetree.specs.Paths.{IsComponent}
-use Rattle.filetree.proofs.Folders.{texts}
+use Rattle.filetree.proofs.Texts.{texts}
 use Rattle.drafts.proofs.component.test_path.Goals as goal
 
 at : (xs : List (Bor (List ℕ))) (i : ℕ) (d : Bor (List ℕ)) → i < length xs → slice_get (texts xs) i ≡ Some (get_or xs i d).now

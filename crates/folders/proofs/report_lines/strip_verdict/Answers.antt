@@ -1,4 +1,4 @@
-use Rattle.std.proofs.Common.{◌≡◌, ◌++◌, ap, map, subst}
+use Rattle.std.proofs.Common.{◌≡◌, ◌++◌, ◌∙◌, ap, map, subst, sym}
 use Rattle.std.specs.Option.{MatchOption}
 use Rattle.lines.specs.Reading.{BeginsWith}
 use Rattle.lines.specs.Texts.{text_of}
@@ -9,6 +9,6 @@ pub returns : goal.returns
 returns c =
     let f = file_entry c.args.file.now in
     let text = c.args.text.now in
-    let path : f.path ≡ map (λ s. s.now) c.deref.result.now = cc (c.parts.ensures, c.deref.ensures.0) in
+    let path : f.path ≡ map (λ s. s.now) c.deref.result.now = sym (c.deref.ensures ∙ c.parts.ensures) in
     subst (λ l. MatchOption c.strip_line.result (BeginsWith l text → ⊥) (λ rest. text ≡ l ++ rest.now))
     (ap text_of (c.verdict_line.ensures f path)) c.strip_line.ensures

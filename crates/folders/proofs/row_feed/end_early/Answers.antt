@@ -1,6 +1,6 @@
 use Rattle.std.proofs.Common.{rules, arith, ◌≡◌, ◌∙◌, ◌*◌, ◌%◌, ◌^◌, ◌<◌, refl, ap, sym, length}
 use Rattle.hashtree.specs.PieceCheck.{chosen_layer, given_hashes}
-use Rattle.piece_marks.proofs.WholePieces.{marks_complete, marks_whole}
+use Rattle.pieces.proofs.WholePieces.{marks_complete, marks_whole}
 use Rattle.folders.proofs.row_feed.end_early.Goals as goal
 
 pub returns-then-ends_with_piece-clause-ended : goal.returns-then-ends_with_piece-clause-ended

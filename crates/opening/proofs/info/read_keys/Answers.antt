@@ -6,7 +6,7 @@ use Rattle.filetree.specs.Tests.{First, NoneHolds}
 use Rattle.opening.specs.Refusals.{top_rows, layers_rows, info_in}
 use Rattle.filetree.proofs.Tables.{none_both, first_front, first_behind}
 use Rattle.opening.proofs.KeyTests.{value_found}
-use Rattle.opening.proofs.Handed.{handed_on}
+use Rattle.benc.proofs.Handed.{handed_on}
 use Rattle.opening.proofs.info.read_keys.Goals as goal
 
 pub returns-in_err-tree : goal.returns-in_err-tree

@@ -18,7 +18,7 @@ use Rattle.opening.specs.Seen.{described, file_entry}
 use Rattle.opening.specs.Trees.{root_of_tree, roots_in}
 use Rattle.opening.proofs.Assembling.{IsReadFrom, files_refused, fits_stream, hybrid_refused, is_described, none_holds, sizes_of}
 use Rattle.opening.proofs.Growing.{plain_pass}
-use Rattle.opening.proofs.Handed.{handed_on}
+use Rattle.benc.proofs.Handed.{handed_on}
 use Rattle.opening.proofs.Rooting.{roots_back}
 use Rattle.opening.proofs.Sounding.{sound, tree_paths}
 use Rattle.opening.proofs.KeyTests.{tree_fits}

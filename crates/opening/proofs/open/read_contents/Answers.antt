@@ -13,7 +13,7 @@ use Rattle.opening.specs.Rooted.{AreNumbers, AreRoots, AreTrees}
 use Rattle.opening.specs.Trees.{IsIn, entries_from, pieces_in, roots_in}
 use Rattle.opening.specs.declared.torrent.Contents.{Contents}
 use Rattle.opening.specs.declared.roots.Root.{Root}
-use Rattle.opening.proofs.Handed.{handed_on}
+use Rattle.benc.proofs.Handed.{handed_on}
 use Rattle.opening.proofs.open.read_contents.Goals as goal
 
 read_at : (xs : List Root) (k : ℕ) (d : Root) → k < length xs → slice_get xs k ≡ Some (slice_index_or xs k d)

@@ -9,7 +9,7 @@ use Rattle.pieces.specs.Pieces.{IsPieceLength}
 use Rattle.opening.specs.Refusals.{head_rows, all_key_rows, number_in, piece_length_in, piece_length_rows}
 use Rattle.opening.proofs.Assembling.{keys_refused, tree_refused}
 use Rattle.opening.proofs.Growing.{keys_take_none, plain_pass}
-use Rattle.opening.proofs.Handed.{handed_on}
+use Rattle.benc.proofs.Handed.{handed_on}
 use Rattle.opening.proofs.KeyTests.{tree_fits}
 use Rattle.opening.proofs.open.read_listed.Goals as goal
 use Rattle.opening.proofs.open.read_listed.Goals.{In_err-keys, In_err-piece_length, In_ok-piece_length}

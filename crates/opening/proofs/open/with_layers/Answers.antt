@@ -6,7 +6,7 @@ use Rattle.opening.specs.PieceLayers.{tree_at}
 use Rattle.opening.specs.Refusals.{layer_rows}
 use Rattle.opening.specs.declared.roots.Root.{Root}
 use Rattle.opening.proofs.Growing.{layers_take_none}
-use Rattle.opening.proofs.Handed.{handed_on}
+use Rattle.benc.proofs.Handed.{handed_on}
 use Rattle.opening.proofs.open.with_layers.Goals as goal
 
 pub test-requires : goal.test-requires

@@ -1,7 +1,7 @@
 use Rattle.std.proofs.Common.{◌≡◌, ◌+◌, take, None, sym, subst, inl, inr, arith}
 use Rattle.opening.specs.Rooted.{AreRoots}
 use Rattle.opening.proofs.Rooting.{roots_none, roots_some, reused, take_next, item_in, taken_in, none_left}
-use Rattle.opening.proofs.Handed.{handed_on}
+use Rattle.benc.proofs.Handed.{handed_on}
 use Rattle.opening.proofs.roots.distinct.Goals as goal
 use Rattle.opening.proofs.roots.distinct.Goals.{in-Some+in_ok-add, in_default}
 

@@ -2,7 +2,7 @@ use Rattle.std.proofs.Common.{◌≡◌, inl, inr, arith, ◌≤◌, ◌^◌, �
 use Rattle.filetree.specs.declared.refusal.Refusal.TheVariants as refusals
 use Rattle.opening.specs.Trees.{pieces_in}
 use Rattle.opening.proofs.Rooting.{none_reused, some_files}
-use Rattle.opening.proofs.Handed.{handed_on}
+use Rattle.benc.proofs.Handed.{handed_on}
 use Rattle.opening.proofs.roots.roots_of.Goals as goal
 
 no_files_is_other : refusals.NoFiles ≡ refusals.NoMemory → ⊥

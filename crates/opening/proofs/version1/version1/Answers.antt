@@ -4,7 +4,7 @@ use Rattle.opening.specs.PieceLayers.{as_digests}
 use Rattle.opening.specs.Seen.{file_entry}
 use Rattle.opening.specs.Stream.{parts_in}
 use Rattle.opening.proofs.Streams.{Streamed, streamed, no_hybrid, stream_refused, cuts_refused, hybrid_read}
-use Rattle.opening.proofs.Handed.{handed_on}
+use Rattle.benc.proofs.Handed.{handed_on}
 use Rattle.opening.proofs.version1.version1.Goals as goal
 
 pub returns-in_default : goal.returns-in_default

@@ -7,8 +7,8 @@ use Rattle.opening.specs.Description.{FileEntry}
 use Rattle.parts.specs.Joins.{IsJoin}
 use Rattle.parts.specs.Parts.{PartReport, place_count}
 use Rattle.parts.specs.Shares.{share, start}
+use Rattle.part_reports.specs.Joined.{AreReadAs, IsReadAs, report_text_of}
 use Rattle.part_reports.specs.Lines.{MarkedPart, part_of}
-use Rattle.part_reports.specs.MarkedJoins.{AreReadAs, IsReadAs, report_text_of}
 use Rattle.part_reports.specs.Marks.{HasMarkRoom}
 use Rattle.part_reports.specs.Reasons.{AreNamed, StopsBehind}
 use Rattle.part_reports.proofs.Faults.{is_missing, reason_of_text, some_parts}
@@ -99,17 +99,19 @@ returns-clause-joined c =
     let reports : List PartReport = map part_of parts in
     let count_is : length reports ≡ length parts = length-map parts part_of in
     record {
-      parts = parts;
-      some = any;
-      small = few_parts k t (texts s) numbers parts named (all s) are any;
-      are = are;
-      all = c.shares_have_all_places.ensures t reports (omega (arith, any, count_is)) (λ i p at.
-          let m = part_at parts i p at in
-          ap (λ (x : PartReport). x.places) (sym m.2) ∙ (are i m.0 m.1).places ∙ ap (share t i) (sym count_is));
-      join = c.parts.invariant.3;
-      number_of = λ i. get_or numbers i 0;
-      no_other = no_other_text k t (texts s) numbers parts named (all s) are;
-      once = each_once k t (texts s) numbers (length parts) named (all s);
+      verdicts = record {
+        parts = parts;
+        some = any;
+        small = few_parts k t (texts s) numbers parts named (all s) are any;
+        are = are;
+        all = c.shares_have_all_places.ensures t reports (omega (arith, any, count_is)) (λ i p at.
+            let m = part_at parts i p at in
+            ap (λ (x : PartReport). x.places) (sym m.2) ∙ (are i m.0 m.1).places ∙ ap (share t i) (sym count_is));
+        join = c.parts.invariant.3;
+        number_of = λ i. get_or numbers i 0;
+        no_other = no_other_text k t (texts s) numbers parts named (all s) are;
+        once = each_once k t (texts s) numbers (length parts) named (all s);
+      };
       marks = c.parts.invariant.6;
       room =
           let pieces : c.of-division.result.pieces ≡ place_count t - 1 = omega (arith, c.of-division.ensures.pieces_is) in

@@ -1,8 +1,9 @@
 use Rattle.std.proofs.Common.{◌≡◌, ◌*◌, List, length, map}
 use Rattle.parts.specs.Joins.{IsJoin}
 use Rattle.parts.specs.Shares.{start}
+use Rattle.part_reports.specs.Joined.{AreReadAs}
 use Rattle.part_reports.specs.Lines.{MarkedPart, part_of}
-use Rattle.part_reports.specs.MarkedJoins.{AreMarksOf, AreReadAs}
+use Rattle.part_reports.specs.MarkedJoins.{AreMarksOf}
 use Rattle.part_reports.specs.Marks.{HasMarkRoom}
 use Rattle.part_reports.specs.Starts.{IsPassed}
 use Rattle.part_reports.proofs.joining.join_parts.Given as goal

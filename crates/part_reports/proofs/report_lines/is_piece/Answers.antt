@@ -1,22 +1,12 @@
 use Rattle.std.proofs.Common.{arith}
-use Rattle.opening.specs.Description.{FileEntry}
 use Rattle.opening.specs.Seen.{file_entry}
-use Rattle.parts.specs.Parts.{piece_count}
-use Rattle.parts.proofs.SharedPlaces.{sum_next}
+use Rattle.parts.proofs.SharedPlaces.{few_pieces}
 use Rattle.part_reports.proofs.report_lines.is_piece.Goals as goal
 
 pub overflow_add-end : goal.overflow_add-end
 overflow_add-end c =
-    let t = c.args.torrent.now in
-    let f = file_entry c.args.file.now in
-    let end = sum_next (λ (g : FileEntry). piece_count t g) t c.requires.0 f c.requires.1 in
-    omega (
-      arith,
-      c.piece_count.ensures,
-      end.1,
-      c.recall_sound.ensures.laid_out.first_pieces c.requires.0 f c.requires.1,
-      c.recall_sound.ensures.laid_out.pieces,
-    )
+    let few = few_pieces c.args.torrent.now (file_entry c.args.file.now) c.recall_sound.ensures c.requires in
+    omega (arith, few, c.piece_count.ensures)
 
 pub returns : goal.returns
 returns c = (

@@ -1,14 +1,31 @@
-use Rattle.std.proofs.Common.{◌≡◌, inl, inr, ◌+◌, ◌-◌, ◌++◌, ◌∷◌, ℕ, List, [], refl, sym, ap, ◌∙◌, subst, append_assoc, arith}
+use Rattle.std.proofs.Common.{◌≡◌, inl, inr, ◌+◌, ◌-◌, ◌++◌, ◌∷◌, ◌<◌, ◌^◌, ℕ, List, [], refl, sym, ap, ◌∙◌, subst, append_assoc, arith}
 use Rattle.lines.specs.Texts.{text_of}
 use Rattle.opening.specs.Seen.{file_entry}
-use Rattle.parts.specs.Runs.{Run}
+use Rattle.parts.specs.Runs.{Run, run_row, runs_rows}
 use Rattle.parts.proofs.Runs.{text_push}
-use Rattle.part_reports.specs.ReadLines.{run_text, runs_text}
+use Rattle.lines.specs.Rows.{spell}
 use Rattle.part_reports.specs.Marks.{IsInRuns}
 use Rattle.part_reports.specs.RunLines.{HasOneRun, IsRunWithin}
 use Rattle.part_reports.proofs.RunLines.{greedy, next_push, stopped, within_push}
 use Rattle.part_reports.proofs.RunMarks.{IsBetween, in_more, in_none, marks_both, marks_none, more_in}
+use Rattle.parts.proofs.SharedPlaces.{few_pieces}
+use Rattle.part_reports.proofs.runs.read_all.Goals.{In-Some}
 use Rattle.part_reports.proofs.runs.read_all.Goals as goal
+
+-- the numbers of the run that was read are small
+small : (c : In-Some) → (file_entry c.args.file.now).first_piece + c.in-Some.end + 1 < 2 ^ 64
+small c =
+    let few = few_pieces c.args.torrent.now (file_entry c.args.file.now) c.recall_sound.ensures c.requires.file in
+    omega (arith, few, c.in-Some.ensures.1.inside, c.requires.inside)
+
+pub overflow_add-file : goal.overflow_add-file
+overflow_add-file c = omega (arith, small (goal.at.overflow_add-file c).In-Some, c.in-Some.ensures.0)
+
+pub overflow_add-file-in-Some : goal.overflow_add-file-in-Some
+overflow_add-file-in-Some c = omega (arith, small (goal.at.overflow_add-file-in-Some c).In-Some)
+
+pub overflow_add-at : goal.overflow_add-at
+overflow_add-at c = omega (arith, small (goal.at.overflow_add-at c).In-Some)
 
 pub runs-init : goal.runs-init
 runs-init c = ([], tt, refl, refl, marks_none (IsInRuns (file_entry c.args.file.now) []) c.args.bad.now (in_none (file_entry c.args.file.now)))
@@ -30,8 +47,8 @@ runs-preserved c =
       within_push c.args.from c.args.to runs r c.runs.invariant.1
           (subst (λ n. IsRunWithin n c.args.to r) c.runs.invariant.2 read.1),
       next ∙ sym (next_push c.args.from runs r),
-      c.runs.invariant.3 ∙ ap (λ x. runs_text t f runs ++ x) read.2
-          ∙ sym (append_assoc (runs_text t f runs) (run_text t f r) behind)
+      c.runs.invariant.3 ∙ ap (λ x. spell text_of (runs_rows t f runs) ++ x) read.2
+          ∙ sym (append_assoc (spell text_of (runs_rows t f runs)) (text_of (run_row t f r)) behind)
           ∙ ap (λ x. x ++ behind) (sym (text_push text_of t f runs r)),
       marks_both (IsInRuns f runs) (IsBetween (f.first_piece + first) (f.first_piece + end)) (IsInRuns f more) c.args.bad.now c.runs.bad c.mark.new.self
           c.runs.invariant.4 c.mark.ensures

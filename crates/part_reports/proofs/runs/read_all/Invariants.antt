@@ -1,7 +1,8 @@
 use Rattle.std.proofs.Common.{◌≡◌, ◌+◌, ◌-◌, ◌++◌, List}
 use Rattle.opening.specs.Seen.{file_entry}
-use Rattle.parts.specs.Runs.{Run}
-use Rattle.part_reports.specs.ReadLines.{runs_text}
+use Rattle.parts.specs.Runs.{Run, runs_rows}
+use Rattle.lines.specs.Rows.{spell}
+use Rattle.lines.specs.Texts.{text_of}
 use Rattle.part_reports.specs.Marks.{AreRunsWithin, IsInRuns, MarksMore}
 use Rattle.part_reports.proofs.RunLines.{next_piece}
 use Rattle.part_reports.proofs.runs.read_all.Given as goal
@@ -9,7 +10,7 @@ use Rattle.part_reports.proofs.runs.read_all.Given as goal
 -- these runs were read, and their pieces marked
 abbrev pub invariant-runs : goal.invariant-runs
 invariant-runs l = (runs : List Run) × AreRunsWithin l.from l.to runs × (l.at ≡ next_piece l.from runs)
-    × (l.text ≡ runs_text l.torrent (file_entry l.file) runs ++ l.rest)
+    × (l.text ≡ spell text_of (runs_rows l.torrent (file_entry l.file) runs) ++ l.rest)
     × MarksMore (IsInRuns (file_entry l.file) runs) l.fn.bad l.bad
 
 abbrev pub decreases-runs : goal.decreases-runs

@@ -1,7 +1,7 @@
 use Rattle.std.proofs.Common.{◌≡◌, ◌+◌, ◌-◌, ◌++◌, ℕ, sym, ap, ap₂, ◌∙◌, arith}
 use Rattle.opening.specs.Seen.{file_entry}
-use Rattle.parts.specs.Runs.{Run}
-use Rattle.part_reports.specs.ReadLines.{run_text}
+use Rattle.parts.specs.Runs.{Run, run_row}
+use Rattle.lines.specs.Texts.{text_of}
 use Rattle.part_reports.specs.RunLines.{HasOneRun}
 use Rattle.part_reports.proofs.RunLines.{no_numbers, numbers_are}
 use Rattle.part_reports.proofs.runs.read_run.Goals.{then-from-at-via-then-from-at, then-from-at-via-else-from-at+then-end-from}
@@ -57,7 +57,7 @@ returns-in_err-rest c = rw c.from_residual-in_err-rest.ensures (λ has.
     let first : c.in_ok-from.from ≡ r.first = omega (arith, are.0, c.in_ok-from.ensures.1) in
     let last : c.in_ok-end.end - 1 ≡ r.last = omega (arith, are.1, c.in_ok-checked_sub.ensures.1, c.in_ok-end.ensures.1) in
     let run : ℕ → ℕ → Run = λ a b. record { first = a; last = b } in
-    c.in_err-rest.ensures (has.2.0, has.2.1 ∙ ap (λ s. run_text t f s ++ has.2.0) (sym (ap₂ run first last))))
+    c.in_err-rest.ensures (has.2.0, has.2.1 ∙ ap (λ s. text_of (run_row t f s) ++ has.2.0) (sym (ap₂ run first last))))
 
 pub returns : goal.returns
 returns c = (

@@ -1,7 +1,8 @@
 use Rattle.std.proofs.Common.{◌≡◌, ◌++◌, Option, Some, None}
 use Rattle.std.specs.Option.{MatchOption}
 use Rattle.opening.specs.Seen.{file_entry}
-use Rattle.part_reports.specs.ReadLines.{file_verdict_text}
+use Rattle.folders.specs.Printed.{verdict_row}
+use Rattle.lines.specs.Texts.{text_of}
 use Rattle.part_reports.specs.Lines.{IsSmall}
 use Rattle.part_reports.proofs.Tried.{are_small, none_there}
 use Rattle.part_reports.proofs.words.file_verdict.Goals as goal
@@ -17,5 +18,5 @@ tried (Some x) P read more = read
 pub returns : goal.returns
 returns c =
     let f = file_entry c.args.file.now in
-    tried c.one_of.result (λ x. IsSmall x.0 × (c.args.text.now ≡ file_verdict_text x.0 f ++ x.1.now)) c.one_of.ensures
+    tried c.one_of.result (λ x. IsSmall x.0 × (c.args.text.now ≡ text_of (verdict_row x.0 f) ++ x.1.now)) c.one_of.ensures
     (none_there f c.args.text.now c.number_or_zero.result c.number_or_zero.ensures.number)

@@ -4,7 +4,8 @@ use Rattle.chains.proofs.Cases.{last_or_before}
 use Rattle.lines.specs.Reading.{BeginsWith}
 use Rattle.opening.specs.Seen.{file_entry}
 use Rattle.folders.specs.declared.report.FileVerdict.TheVariants.{Good}
-use Rattle.part_reports.specs.ReadLines.{file_verdict_text}
+use Rattle.folders.specs.Printed.{verdict_row}
+use Rattle.lines.specs.Texts.{text_of}
 use Rattle.part_reports.proofs.words.one_of.Goals as goal
 
 pub verdicts-preserved : goal.verdicts-preserved
@@ -15,7 +16,7 @@ verdicts-preserved c = λ n v lt is begins.
       | inl before ↦ c.verdicts.invariant n v before is begins
       | inr last ↦
           let same : get_or xs i Good ≡ v = get_or_from_slice_get xs i v Good (ap (slice_get xs) (sym last) ∙ is) in
-          c.in_default.ensures (subst (λ w. BeginsWith (file_verdict_text w (file_entry c.args.file.now)) c.args.text.now) (sym same) begins)
+          c.in_default.ensures (subst (λ w. BeginsWith (text_of (verdict_row w (file_entry c.args.file.now))) c.args.text.now) (sym same) begins)
     ]
 
 pub returns-in-Some : goal.returns-in-Some

@@ -16,7 +16,7 @@ files-preserved c =
     let path : ArePath (map string_bytes file.path.items) = subst (λ items. ArePath (map string_bytes items)) c.deref.ensures.value put in
     let is : IsFile (listed file) = record { small = search rules; path = path } in
     record {
-      put = first_of (search rules, grind (arith, common_steps));
+      put = grind (arith, common_steps);
       each = λ i d. below_more (λ k. IsFile (get_or (map listed files) k d)) _ (λ k low. c.files.invariant.each k d low)
           (subst IsFile (ap listed c.file-item.is ∙ sym (get_or-map listed files c.files.file-index file d lt)) is) i;
     }

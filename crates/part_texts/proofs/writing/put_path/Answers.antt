@@ -1,4 +1,4 @@
-use Rattle.std.proofs.Common.{◌≡◌, ◌∙◌, ◌<◌, [], ap, arith, get_or, length, map, rules, subst, sym}
+use Rattle.std.proofs.Common.{◌≡◌, ◌∙◌, ◌<◌, [], ap, arith, get_or, length, map, subst, sym}
 use Rattle.std.proofs.lemmas.Grind.{common_steps}
 use Rattle.std.proofs.lemmas.List.{get_or-map, length-map}
 use Rattle.std.specs.String.{string_bytes}
@@ -13,12 +13,12 @@ parts-preserved c =
     c.as_str.ensures.value ∙ ap string_bytes c.part-item.is
     ∙ sym (get_or-map string_bytes c.args.path.now c.parts.part-index c.part-item.result [] lt) in
     record {
-      put = first_of (search rules, grind (arith, common_steps));
+      put = grind (arith, common_steps);
       texts = below_more _ _ c.parts.invariant.texts (subst IsText here c.put_text.ensures.can);
     }
 
 pub returns-clause-can : goal.returns-clause-can
 returns-clause-can c = record {
-  few = first_of (search rules, grind (arith, common_steps), omega (arith, length-map c.args.path.now string_bytes));
+  few = omega (arith, length-map c.args.path.now string_bytes);
   texts = λ i lt. c.parts.invariant.texts i (omega (arith, lt, length-map c.args.path.now string_bytes, c.parts-test.false));
 }

@@ -23,8 +23,8 @@ returns-in-Some-take-clause-visits g c mid visits =
     (subst (λ vs. VisitsFrom g.S.Shelf seen t c.args.number c.args.shelf.now vs c.look_ahead.new.shelf) c.in-Some-take.ensures.some
     c.look_ahead.ensures.visits))
 
-pub visit_file-requires-clause-file : goal.visit_file-requires-clause-file
-visit_file-requires-clause-file g c = (
+pub visit-requires-clause-file : goal.visit-requires-clause-file
+visit-requires-clause-file g c = (
   c.args.number,
   file_there c.args.torrent.now c.files.result.now c.args.number c.index-files-number.result c.files.ensures
       (omega (arith, c.requires.there, ap length c.files.ensures, length-map c.files.result.now file_entry)) c.index-files-number.is,
@@ -41,17 +41,16 @@ returns-clause-visits g c mid visits =
     c.look_ahead.ensures.visits in
     let is = file_there t c.files.result.now c.args.number c.index-files-number.result c.files.ensures
     (omega (arith, c.requires.there, ap length c.files.ensures, length-map c.files.result.now file_entry)) c.index-files-number.is in (
-      c.visit_file.new.shelf,
+      c.visit.new.shelf,
       f,
       is,
-      subst (λ s. VisitsFound g.S.Shelf seen t s f c.visit_file.result c.visit_file.new.shelf) (still ∙ there) (record {
-        finds = no_bits t f ((g.S.Shelf.contents c.look_ahead.new.shelf).under f.path) c.visit_file.new.bits.items c.visit_file.result
-            c.visit_file.ensures.found;
-        visits = c.visit_file.ensures.visits;
-        counts = c.visit_file.ensures.counts;
-        stays = c.visit_file.ensures.stays;
-      }),
-      subst (λ vs. VisitsFrom g.S.Shelf seen t (c.args.number + 1) c.visit_file.new.shelf vs c.visit_file.new.shelf)
+      subst (λ s. VisitsFound g.S.Shelf seen t s f c.visit.result c.visit.new.shelf) (still ∙ there)
+          (no_bits g.S.Shelf seen t c.look_ahead.new.shelf f c.visit.new.bits.items c.visit.result c.visit.new.shelf
+          c.visit.ensures.visited),
+      subst (λ vs. VisitsFrom g.S.Shelf seen t (c.args.number + 1) c.visit.new.shelf vs c.visit.new.shelf)
           (sym (c.in_default-take.ensures.none refl ∙ c.in_default-take.ensures.ended refl))
-          (from_none g.S.Shelf seen t (c.args.number + 1) c.visit_file.new.shelf (omega (arith, c.requires.there))),
+          (from_none g.S.Shelf seen t (c.args.number + 1) c.visit.new.shelf (omega (arith, c.requires.there))),
     )
+
+pub returns-clause-stays : goal.returns-clause-stays
+returns-clause-stays g c = c.visit.ensures.visited.stays ∙ c.look_ahead.ensures.stays

@@ -1,7 +1,7 @@
 use Rattle.std.proofs.Common.{◌≡◌, ◌∙◌, ◌+◌, get_or, length, slice_get, Some, inl, inr, ap, sym, subst, arith}
 use Rattle.std.proofs.lemmas.List.{length-map, length_push}
 use Rattle.std.proofs.lemmas.Option.{same_Some, slice_get-get_or, slice_get_within}
-use Rattle.block_windows.specs.Files.{bytes_at}
+use Rattle.file_windows.specs.Files.{bytes_at}
 use Rattle.chains.proofs.Cases.{pushed_at}
 use Rattle.opening.specs.Seen.{file_entry}
 use Rattle.opening.proofs.Placing.{file_there}

@@ -1,5 +1,5 @@
 use Rattle.std.proofs.Common.{◌≡◌, ◌<◌, ℕ, [], length, slice_get, Some, ◌+◌}
-use Rattle.block_windows.specs.Files.{bytes_at}
+use Rattle.file_windows.specs.Files.{bytes_at}
 use Rattle.opening.specs.Description.{FileEntry}
 use Rattle.parts.specs.Batches.{left}
 use Rattle.parts.specs.Held.{IsFileJudged}

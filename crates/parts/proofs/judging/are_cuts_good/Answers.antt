@@ -2,8 +2,8 @@ use Rattle.std.proofs.Common.{◌≡◌, ◌∙◌, ℕ, ◌+◌, ◌-◌, ◌*�
 use Rattle.std.specs.Option.{option_map}
 use Rattle.std.proofs.lemmas.List.{length-drop, length-take}
 use Rattle.std.proofs.lemmas.Option.{same_Some}
-use Rattle.block_windows.specs.Files.{bytes_at}
-use Rattle.cut_windows.specs.Windows.{AreFileCutsListed, length_of_cuts}
+use Rattle.file_windows.specs.Files.{bytes_at}
+use Rattle.file_windows.specs.Windows.{AreFileCutsListed, length_of_cuts}
 use Rattle.opening.specs.Seen.{file_entry, version1}
 use Rattle.pieces.specs.Pieces.{pieces_of}
 use Rattle.parts.specs.Parts.{IsVersion1Good, piece_count}

@@ -2,7 +2,7 @@ use Rattle.std.proofs.Common.{rules, ◌≡◌, ◌∙◌, ℕ, List, length, dr
 use Rattle.std.proofs.lemmas.List.{length-drop, length-take}
 use Rattle.std.proofs.lemmas.Option.{same_Some}
 use Rattle.std.proofs.lemmas.Slice.Eq.{bytes_eq-Decides}
-use Rattle.block_windows.specs.Files.{bytes_at}
+use Rattle.file_windows.specs.Files.{bytes_at}
 use Rattle.opening.specs.Seen.{file_entry}
 use Rattle.folders.proofs.Places.{tree_inside, tree_there}
 use Rattle.parts.proofs.Judged.{judged_good}

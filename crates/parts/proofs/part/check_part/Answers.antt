@@ -1,6 +1,6 @@
 use Rattle.parts.specs.Visiting.{part_visiting}
 use Rattle.parts.specs.declared.telling.Telling.TheVariants as telling
-use Rattle.parts.proofs.PartVisited.{true_of_contents}
+use Rattle.parts.proofs.MarkedVisits.{true_of_contents}
 use Rattle.parts.proofs.ToldFirst.{visits_once}
 use Rattle.parts.proofs.part.check_part.Goals as goal
 

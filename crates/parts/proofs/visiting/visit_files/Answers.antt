@@ -6,7 +6,7 @@ use Rattle.chains.proofs.Cases.{same_some}
 use Rattle.opening.specs.Seen.{file_entry, version1}
 use Rattle.opening.proofs.Placing.{file_there, all_passed}
 use Rattle.parts.specs.Checking.{shelf_and_sink}
-use Rattle.parts.specs.Visiting.{EndsVisits, VisitsFile}
+use Rattle.parts.specs.Visiting.{EndsVisits}
 use Rattle.benc.specs.Device.{Broke, Sent}
 use Rattle.parts.specs.Telling.{HasBits, Tells, TellsFirst, Told}
 use Rattle.parts.specs.Worse.{worse_v1}
@@ -63,18 +63,12 @@ files-preserved g c =
     let mid = shelf_and_sink c.files.shelf (g.L.LineSink.seen c.files.out) in
     let new = shelf_and_sink found.new.shelf (g.L.LineSink.seen c.tell.new.out) in
     let there = file_there t c.files-entries.result.now n c.file-item.result c.files-entries.ensures c.files-test.true c.file-item.is in
-    let next : VisitsFile V t c.files.shelf f found.new.bits.items found.result found.new.shelf = record {
-      finds = found.ensures.found;
-      visits = found.ensures.visits;
-      counts = found.ensures.counts;
-      stays = found.ensures.stays;
-    } in
     let told = subst (λ b. Told (λ content. Tells
     g.L.LineSink.spelled t c.args.telling f content found.result.file) t c.args.telling f found.result.file b
     (Sent mid.1 (g.L.LineSink.seen c.tell.new.out)))
     c.deref.ensures.value c.in_ok-tell.ensures.tells in
     let checked = told_one V g.L.LineSink.spelled t c.args.telling old mid n c.files.files.items c.files.v1 f found.result found.new.bits.items
-    found.new.shelf (g.L.LineSink.seen c.tell.new.out) c.requires.own there next told c.files.invariant.checked in
+    found.new.shelf (g.L.LineSink.seen c.tell.new.out) c.requires.own there found.ensures.visited told c.files.invariant.checked in
     record {
       room = omega (arith, c.files.invariant.room, c.push_reserved.ensures.capacity);
       bits = subst (λ k. HasBits t c.args.telling k) (sym found.ensures.capacity) c.files.invariant.bits;
@@ -94,12 +88,6 @@ returns-in_err-tell-clause-ends g c =
     let old = shelf_and_sink c.args.shelf.now (g.L.LineSink.seen c.args.out.now) in
     let mid = shelf_and_sink c.files.shelf (g.L.LineSink.seen c.files.out) in
     let there = file_there t c.files-entries.result.now n c.file-item.result c.files-entries.ensures c.files-test.true c.file-item.is in
-    let next : VisitsFile V t c.files.shelf f found.new.bits.items found.result found.new.shelf = record {
-      finds = found.ensures.found;
-      visits = found.ensures.visits;
-      counts = found.ensures.counts;
-      stays = found.ensures.stays;
-    } in
     let so_far = c.files.invariant.checked in
     let long : length c.files.files.items ≡ n = ap length (sym so_far.verdicts_are) ∙ length-told so_far.told
     ∙ so_far.count in
@@ -109,7 +97,7 @@ returns-in_err-tell-clause-ends g c =
     found.result.file b
     (Broke mid.1 (g.L.LineSink.seen c.tell.new.out))) c.deref.ensures.value c.in_err-tell.ensures.tells in
     let stops = stops_at V g.L.LineSink.spelled t c.args.telling old mid n c.files.files.items c.files.v1 f found.result found.new.bits.items
-    found.new.shelf (g.L.LineSink.seen c.tell.new.out) few c.in_err-tell.ensures.some c.requires.own there next told so_far in
+    found.new.shelf (g.L.LineSink.seen c.tell.new.out) few c.in_err-tell.ensures.some c.requires.own there found.ensures.visited told so_far in
     subst (λ r. EndsVisits V g.L.LineSink.spelled t c.args.telling old (shelf_and_sink found.new.shelf (g.L.LineSink.seen c.tell.new.out)) r)
     (sym p.1) stops
 
@@ -145,3 +133,6 @@ returns-clause-ends g c =
 
 pub returns-clause-stays : goal.returns-clause-stays
 returns-clause-stays g c = c.files.invariant.checked.stays
+
+pub returns-in_err-tell-clause-stays : goal.returns-in_err-tell-clause-stays
+returns-in_err-tell-clause-stays g c = c.visit-found.ensures.visited.stays ∙ c.files.invariant.checked.stays

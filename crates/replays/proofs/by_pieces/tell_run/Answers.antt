@@ -1,3 +1,5 @@
+use Rattle.std.proofs.Common.{arith}
+use Rattle.replays.proofs.Named.{run-there}
 use Rattle.replays.proofs.ToldByPieces.{run-broke, run-says}
 use Rattle.replays.proofs.by_pieces.tell_run.Goals as goal
 
@@ -15,3 +17,6 @@ returns-in-Err g c =
     g.L.LineSink.spelled c.args.number (g.L.LineSink.seen c.args.out.now) (g.L.LineSink.seen c.tell_entries.new.out) c.args.outcome.now
     c.tell_entries.new.outcome c.in-Err.fault
     c.in-Err.ensures
+
+pub tell_settled-requires-clause-there : goal.tell_settled-requires-clause-there
+tell_settled-requires-clause-there g c = omega (arith, run-there c.requires, c.pieces_of.ensures.tree)

@@ -6,7 +6,8 @@ use Rattle.wire.specs.declared.frame.Head.TheVariants.{KeepAlive, Kept, BadSize,
 use Rattle.wire.specs.Room.{RoomAfter}
 use Rattle.wire.proofs.Heads.{single, length-kept, Holds-kept, Holds-skipped}
 use Rattle.wire.proofs.Giving.{Faultless-trans}
-use Rattle.wire.proofs.Stopping.{StopsInBody-after, StopsInBody-at_start, device, handed_on}
+use Rattle.benc.proofs.Handed.{handed_on}
+use Rattle.wire.proofs.Stopping.{StopsInBody-after, StopsInBody-at_start, device}
 use Rattle.wire.proofs.framing.read_body.Goals as goal
 
 pub returns-in_err-read_exact-clause-bytes : goal.returns-in_err-read_exact-clause-bytes

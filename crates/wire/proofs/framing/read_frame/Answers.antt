@@ -1,6 +1,7 @@
 use Rattle.wire.specs.Frames.{four_bytes, frame}
 use Rattle.wire.proofs.Giving.{Faultless-trans}
-use Rattle.wire.proofs.Stopping.{StopsInFrame-in_body, StopsInFrame-in_length, device, handed_on}
+use Rattle.benc.proofs.Handed.{handed_on}
+use Rattle.wire.proofs.Stopping.{StopsInFrame-in_body, StopsInFrame-in_length, device}
 use Rattle.wire.proofs.framing.read_frame.Goals as goal
 
 pub returns-in_err-read_length-clause-bytes : goal.returns-in_err-read_length-clause-bytes

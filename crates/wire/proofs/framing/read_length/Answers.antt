@@ -5,7 +5,8 @@ use Rattle.std.proofs.lemmas.Grind.{common_steps}
 use Rattle.wire.specs.Frames.{four_bytes}
 use Rattle.wire.specs.Reading.{GaveFaultless}
 use Rattle.wire.proofs.Giving.{Faultless-take, Faultless-trans, take-put_all}
-use Rattle.wire.proofs.Stopping.{StopsInLength-after, StopsInLength-at_start, handed_on}
+use Rattle.benc.proofs.Handed.{handed_on}
+use Rattle.wire.proofs.Stopping.{StopsInLength-after, StopsInLength-at_start}
 use Rattle.wire.proofs.framing.read_length.Given.{Over}
 use Rattle.wire.proofs.framing.read_length.Goals as goal
 use Rattle.wire.proofs.framing.read_length.Goals.{In_ok-first}

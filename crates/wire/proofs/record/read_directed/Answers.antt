@@ -1,6 +1,6 @@
 use Rattle.std.proofs.Common.{refl}
 use Rattle.wire.proofs.RecordParts.{frame_directed, stops_directed}
-use Rattle.wire.proofs.Stopping.{handed_on}
+use Rattle.benc.proofs.Handed.{handed_on}
 use Rattle.wire.proofs.record.read_directed.Goals as goal
 
 pub returns-in_err-read_body-in-Some-clause-bytes : goal.returns-in_err-read_body-in-Some-clause-bytes

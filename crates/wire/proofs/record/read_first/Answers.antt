@@ -1,7 +1,8 @@
 use Rattle.std.proofs.Common.{refl}
 use Rattle.wire.specs.declared.form.Direction.TheVariants.{In}
 use Rattle.wire.proofs.RecordParts.{first_frame, stops_in_body, stops_in_length}
-use Rattle.wire.proofs.Stopping.{device, handed_on}
+use Rattle.benc.proofs.Handed.{handed_on}
+use Rattle.wire.proofs.Stopping.{device}
 use Rattle.wire.proofs.record.read_first.Goals as goal
 
 pub returns-in_err-read_length-clause-bytes : goal.returns-in_err-read_length-clause-bytes

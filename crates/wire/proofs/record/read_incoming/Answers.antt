@@ -2,7 +2,7 @@ use Rattle.std.proofs.Common.{refl}
 use Rattle.wire.proofs.RecordParts.{frame_later, ends_later, stops_later}
 use Rattle.wire.specs.declared.form.Direction.TheVariants.{In}
 use Rattle.wire.specs.declared.form.Form.TheVariants.{One}
-use Rattle.wire.proofs.Stopping.{handed_on}
+use Rattle.benc.proofs.Handed.{handed_on}
 use Rattle.wire.proofs.record.read_incoming.Goals as goal
 
 pub returns-in_err-read_frame-clause-bytes : goal.returns-in_err-read_frame-clause-bytes

@@ -2,7 +2,8 @@ use Rattle.std.proofs.Common.{refl, ◌++◌}
 use Rattle.wire.specs.declared.form.Direction.TheVariants.{In}
 use Rattle.wire.proofs.Heads.{Holds-longest}
 use Rattle.wire.proofs.RecordParts.{longest_frame, next_after_header, stops_after_header, stops_behind_half, stops_in_half, gave_header, half_is, half_is_not}
-use Rattle.wire.proofs.Stopping.{device, handed_on}
+use Rattle.benc.proofs.Handed.{handed_on}
+use Rattle.wire.proofs.Stopping.{device}
 use Rattle.wire.specs.RecordReader.{HasDirectedHead}
 use Rattle.wire.proofs.record.read_marked.Goals as goal
 

@@ -4,7 +4,8 @@ use Rattle.std.proofs.lemmas.Grind.{common_steps}
 use Rattle.wire.specs.Reading.{GaveFaultless}
 use Rattle.wire.proofs.Giving.{Faultless-take}
 use Rattle.wire.proofs.RecordParts.{start_gave, stops_at_other, stops_in_start}
-use Rattle.wire.proofs.Stopping.{device, handed_on}
+use Rattle.benc.proofs.Handed.{handed_on}
+use Rattle.wire.proofs.Stopping.{device}
 use Rattle.wire.proofs.record.read_start.Given.{Over}
 use Rattle.wire.proofs.record.read_start.Goals as goal
 use Rattle.wire.proofs.record.read_start.Goals.{In_ok-count}

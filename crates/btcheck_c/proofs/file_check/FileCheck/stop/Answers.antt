@@ -1,5 +1,5 @@
 use Rattle.std.proofs.Common.{true≢false, ◌≡◌, ◌<◌, ◌*◌, ◌%◌, ◌^◌, length, refl, sym, ap, ◌∙◌, subst, arith}
-use Rattle.piece_marks.proofs.WholePieces.{marks_complete, marks_whole}
+use Rattle.pieces.proofs.WholePieces.{marks_complete, marks_whole}
 use Rattle.short_pushes.specs.RowChecks as rows
 use Rattle.btcheck_c.proofs.EarlyEnds.{short_of}
 use Rattle.btcheck_c.proofs.FileVerdicts.{anew}

@@ -1,5 +1,6 @@
-use Rattle.std.proofs.Common.{◌+◌, ◌∙◌, sym, subst, arith}
+use Rattle.std.proofs.Common.{◌+◌, ◌∙◌, sym, subst, arith, rules}
 use Rattle.node_maps.specs.Known.{Known, look}
+use Rattle.node_maps.specs.Room.{HasRoomFor}
 use Rattle.node_maps.proofs.Nodes.{known-of}
 use Rattle.partial_tree.specs.Claims.{joined, HasNew}
 use Rattle.partial_tree.specs.EndPads.{end_pads}
@@ -19,6 +20,11 @@ find_new-requires g c = record {
 pub put_found-gained-requires-clause-leads : goal.put_found-gained-requires-clause-leads
 put_found-gained-requires-clause-leads g c =
     leads-up _ c.args.evidence.now c.args.layer c.args.index c.requires.low c.requires.inside c.requires.place c.requires.leads
+
+pub put_end_pads-pads-requires-clause-room : goal.put_end_pads-pads-requires-clause-room
+put_end_pads-pads-requires-clause-room g c =
+    let room : HasRoomFor (end_pads c.args.shape) (g.N.NodeMap.has_room c.reserve_to_end.new.map) = search rules in
+    λ l i is. c.put_found-gained.ensures.keeps l i (room l i is)
 
 pub returns-then-padded-clause-stored : goal.returns-then-padded-clause-stored
 returns-then-padded-clause-stored g c =

@@ -5,7 +5,7 @@ use Rattle.folders.specs.Printed.{wanted_rows}
 use Rattle.opening.specs.Seen.{file_entry}
 use Rattle.parts.specs.Parts.{piece_count}
 use Rattle.parts.specs.RowBits.{HasGoodPiece}
-use Rattle.parts.specs.Runs.{WritesRuns}
+use Rattle.parts.specs.Runs.{IsSetIfIn, WritesRuns}
 use Rattle.parts.specs.Telling.{TellsFile}
 use Rattle.parts.proofs.Tellings.{front_and_runs, front_broke, needs_bits, runs_broke, whole_asks}
 use Rattle.parts.proofs.Tellings.{whole_first, whole_row, whole_told}
@@ -44,7 +44,8 @@ returns-in_err-say_runs-in-LineAndRuns-clause-tells g c =
     let r = c.from_residual-in_err-say_runs-in-LineAndRuns in
     let p = err_from_is_err_and r.result r.ensures.1 in
     let room = c.requires.room (needs_bits c.args.self lines c.in-LineAndRuns.is) in
-    let ran = subst (λ n. WritesRuns spelled t f 0 n bits mid new (Err p.0)) c.piece_count-count.ensures c.in_err-say_runs-in-LineAndRuns.ensures in
+    let ran = subst (λ n. WritesRuns spelled t f (IsSetIfIn 0 0 n bits) mid new
+    (Err p.0)) c.piece_count-count.ensures c.in_err-say_runs-in-LineAndRuns.ensures in
     subst (TellsFile spelled t c.args.self f v bits old new) (sym p.1)
     (subst (λ s. TellsFile spelled t s f v bits old new (Err p.0)) (sym c.in-LineAndRuns.is)
     (whole_first spelled t lines f v bits old new p.0
@@ -64,7 +65,7 @@ returns-in_ok-say_runs-in-LineAndRuns-clause-tells g c =
     let mid = g.L.LineSink.seen c.say_wanted-in-LineAndRuns.new.out in
     let new = g.L.LineSink.seen c.say_runs.new.out in
     let room = c.requires.room (needs_bits c.args.self lines c.in-LineAndRuns.is) in
-    let ran = subst (λ n. WritesRuns {E = DeviceFault} spelled t f 0 n bits mid new
+    let ran = subst (λ n. WritesRuns {E = DeviceFault} spelled t f (IsSetIfIn 0 0 n bits) mid new
     (Ok tt)) c.piece_count-count.ensures c.in_ok-say_runs-in-LineAndRuns.ensures in
     subst (λ s. TellsFile spelled t s f v bits old new (Ok tt)) (sym c.in-LineAndRuns.is)
     (whole_told spelled t lines f v bits old new

@@ -1,5 +1,5 @@
 use Rattle.std.proofs.Common.{◌≡◌, ◌%◌, sym, subst}
-use Rattle.cut_windows.proofs.Lengths.{whole_blocks}
+use Rattle.file_windows.proofs.Lengths.{whole_blocks}
 use Rattle.parts.proofs.windows.Windows.none.Goals as goal
 
 pub new-requires-2-clause-whole_blocks : goal.new-requires-2-clause-whole_blocks

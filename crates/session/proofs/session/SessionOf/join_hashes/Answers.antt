@@ -1,6 +1,6 @@
-use Rattle.std.proofs.Common.{refl}
+use Rattle.std.proofs.Common.{refl, arith}
 use Rattle.tree_laws.proofs.Keeping.{good_after_take}
-use Rattle.session.proofs.KeptTrees.{IsKeptTree, tree_of_number, tree-kept}
+use Rattle.session.proofs.KeptTrees.{IsKeptTree, number_within, tree_of_number, tree-kept}
 use Rattle.session.proofs.Numbering.{no_root, stored_all, refused_all}
 use Rattle.session.proofs.session.SessionOf.join_hashes.Given.{Over}
 use Rattle.session.proofs.session.SessionOf.join_hashes.Goals as goal
@@ -10,6 +10,10 @@ here : (g : Over) (c : After-index_mut g) → IsKeptTree (g.T.HoldsTorrent.descr
     c.args.self.now c.in-Some.number c.index_mut.result.now
 here g c = tree_of_number c.self.inside.asks _ _ c.self.invariant _ c.self.view_is _ c.in-Some.ensures.within c.index_mut.result.now
     c.index_mut.ensures.value
+
+pub index_mut-requires : goal.index_mut-requires
+index_mut-requires g c =
+    omega (arith, c.self.inside.trees.ok, number_within c.self.inside.asks _ _ c.self.invariant _ c.self.view_is _ c.in-Some.ensures.within)
 
 pub take-requires : goal.take-requires
 take-requires g c = (here g (goal.at.take-requires g c).After-index_mut).good

@@ -1,5 +1,6 @@
+use Rattle.std.proofs.Common.{arith}
 use Rattle.tree_laws.proofs.Keeping.{good_after_fill}
-use Rattle.session.proofs.KeptTrees.{IsKeptTree, tree_of_number, tree-kept}
+use Rattle.session.proofs.KeptTrees.{IsKeptTree, number_within, tree_of_number, tree-kept}
 use Rattle.session.proofs.SessionCalls.{filled_all, fill_refused_all}
 use Rattle.session.proofs.session.SessionOf.join_layer.Given.{Over}
 use Rattle.session.proofs.session.SessionOf.join_layer.Goals as goal
@@ -9,6 +10,9 @@ here : (g : Over) (c : After-index_mut g) → IsKeptTree (g.T.HoldsTorrent.descr
     c.args.self.now c.args.tree c.index_mut.result.now
 here g c =
     tree_of_number c.self.inside.asks _ _ c.self.invariant _ c.self.view_is c.args.tree c.requires c.index_mut.result.now c.index_mut.ensures.value
+
+pub index_mut-requires : goal.index_mut-requires
+index_mut-requires g c = omega (arith, c.self.inside.trees.ok, number_within c.self.inside.asks _ _ c.self.invariant _ c.self.view_is _ c.requires)
 
 pub fill-requires : goal.fill-requires
 fill-requires g c = (here g (goal.at.fill-requires g c).After-index_mut).good

@@ -1,6 +1,6 @@
-use Rattle.std.proofs.Common.{◌≡◌}
+use Rattle.std.proofs.Common.{◌≡◌, arith}
 use Rattle.session.specs.Pieces.{piece_span}
-use Rattle.session.proofs.KeptTrees.{IsKeptTree, tree_of_number, tree-kept}
+use Rattle.session.proofs.KeptTrees.{IsKeptTree, number_within, tree_of_number, tree-kept}
 use Rattle.session.proofs.LeavesOfTrees.{span_there, piece_there, leaves_taken, leaves_refused, good_after_leaves}
 use Rattle.session.proofs.session.SessionOf.join_leaves.Given.{Over}
 use Rattle.session.proofs.session.SessionOf.join_leaves.Goals as goal
@@ -15,6 +15,9 @@ module _ (g : Over) (c : After-index_mut g) where
 
   span : c.piece_span-span.result ≡ piece_span c.args.self.now.torrent.piece_length c.index_mut.result.now.length
   span = span_there here c.piece_span-span.result c.piece_span-span.ensures.value
+
+pub index_mut-requires : goal.index_mut-requires
+index_mut-requires g c = omega (arith, c.self.inside.trees.ok, number_within c.self.inside.asks _ _ c.self.invariant _ c.self.view_is _ c.requires.tree)
 
 pub take_leaves-requires-clause-good : goal.take_leaves-requires-clause-good
 take_leaves-requires-clause-good g c = (here g (goal.at.take_leaves-requires-clause-good g c).After-index_mut).good

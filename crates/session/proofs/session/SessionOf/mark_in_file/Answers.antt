@@ -1,6 +1,7 @@
+use Rattle.std.proofs.Common.{arith}
 use Rattle.tree_laws.proofs.Keeping.{good_after_block}
 use Rattle.session.proofs.BlockTrees.{block_inside, marked_all, unmarked_all}
-use Rattle.session.proofs.KeptTrees.{IsKeptTree, tree_of_number, tree-kept}
+use Rattle.session.proofs.KeptTrees.{IsKeptTree, number_within, tree_of_number, tree-kept}
 use Rattle.session.proofs.session.SessionOf.mark_in_file.Given.{Over}
 use Rattle.session.proofs.session.SessionOf.mark_in_file.Goals as goal
 use Rattle.session.proofs.session.SessionOf.mark_in_file.Goals.{After-index_mut}
@@ -10,6 +11,10 @@ here : (g : Over) (c : After-index_mut g) → IsKeptTree (g.T.HoldsTorrent.descr
 here g c =
     tree_of_number c.self.inside.asks _ _ c.self.invariant _ c.self.view_is _ c.tree_of_block-tree.ensures.within c.index_mut.result.now
     c.index_mut.ensures.value
+
+pub index_mut-requires : goal.index_mut-requires
+index_mut-requires g c =
+    omega (arith, c.self.inside.trees.ok, number_within c.self.inside.asks _ _ c.self.invariant _ c.self.view_is _ c.tree_of_block-tree.ensures.within)
 
 pub take_hashed-requires-clause-good : goal.take_hashed-requires-clause-good
 take_hashed-requires-clause-good g c = (here g (goal.at.take_hashed-requires-clause-good g c).After-index_mut).good

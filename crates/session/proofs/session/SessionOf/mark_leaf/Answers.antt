@@ -1,4 +1,5 @@
-use Rattle.session.proofs.KeptTrees.{IsKeptTree, tree_of_number}
+use Rattle.std.proofs.Common.{arith}
+use Rattle.session.proofs.KeptTrees.{IsKeptTree, number_within, tree_of_number}
 use Rattle.session.proofs.MarkedLeaves.{TriesLeaf, tried-kept, tried-marked, tried-other, tried-stays, mark-keeps}
 use Rattle.session.proofs.session.SessionOf.mark_leaf.Given.{Over}
 use Rattle.session.proofs.session.SessionOf.mark_leaf.Goals as goal
@@ -18,6 +19,9 @@ tried g c = record {
   stays = c.mark_leaf.ensures.stays;
   good = c.mark_leaf.ensures.good;
 }
+
+pub index_mut-requires : goal.index_mut-requires
+index_mut-requires g c = omega (arith, c.self.inside.trees.ok, number_within c.self.inside.asks _ _ c.self.invariant _ c.self.view_is _ c.requires)
 
 pub mark_leaf-requires : goal.mark_leaf-requires
 mark_leaf-requires g c = record { good = (here g (goal.at.mark_leaf-requires g c).After-index_mut).good }

@@ -1,7 +1,7 @@
-use Rattle.std.proofs.Common.{◌≡◌, length, refl, sym, ap, ◌∙◌}
+use Rattle.std.proofs.Common.{◌≡◌, length, refl, sym, ap, ◌∙◌, arith}
 use Rattle.session.specs.Pieces.{piece_size, piece_span}
 use Rattle.session.proofs.BlockTrees.{in_file}
-use Rattle.session.proofs.KeptTrees.{IsKeptTree, tree_of_number, tree-kept}
+use Rattle.session.proofs.KeptTrees.{IsKeptTree, number_within, tree_of_number, tree-kept}
 use Rattle.session.proofs.LeavesOfTrees.{span_there}
 use Rattle.session.proofs.PieceRows.{piece_row, piece_taken, piece_refused, good_after_piece}
 use Rattle.session.proofs.session.SessionOf.take_from.Given.{Over}
@@ -20,6 +20,10 @@ module _ (g : Over) (c : After-index_mut g) where
 
   size : length c.args.bytes.now ≡ piece_size c.args.self.now.torrent.piece_length c.tree_of_block-tree.ensures.entry.length c.args.first
   size = c.if-bytes-size_of_piece.false ∙ c.size_of_piece.ensures c.tree_of_block-tree.ensures.entry c.tree_of_block-tree.ensures.there
+
+pub index_mut-requires : goal.index_mut-requires
+index_mut-requires g c =
+    omega (arith, c.self.inside.trees.ok, number_within c.self.inside.asks _ _ c.self.invariant _ c.self.view_is _ c.tree_of_block-tree.ensures.within)
 
 pub take_piece-requires-clause-good : goal.take_piece-requires-clause-good
 take_piece-requires-clause-good g c = (here g (goal.at.take_piece-requires-clause-good g c).After-index_mut).good

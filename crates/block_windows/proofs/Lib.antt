@@ -1,3 +1,0 @@
-mod FileBlocks
-mod FileLayers
-mod Orders

@@ -1,6 +1,0 @@
-use Rattle.std.proofs.Common.{◌≡◌, ℕ, ◌<◌, length, slice_index}
-use Rattle.block_windows.proofs.window.chosen.Given as goal
-
-abbrev pub invariant-lanes : goal.invariant-lanes
-invariant-lanes l = (length l.found ≡ 8)
-    × ((j : ℕ) → j < l.j → slice_index l.found j ≡ slice_index l.values (slice_index l.places j))

@@ -1,7 +1,0 @@
-use Rattle.std.proofs.Common.{◌≡◌, ℕ, ◌+◌, ◌<◌, length, slice_index}
-use Rattle.block_windows.proofs.window.next_eight.Given as goal
-
-abbrev pub invariant-lanes : goal.invariant-lanes
-invariant-lanes l = (length l.found ≡ 8)
-    × ((j : ℕ) → j < l.j → slice_index l.found j < l.count)
-    × ((j : ℕ) → j < l.j → l.from + j < l.count → slice_index l.found j ≡ slice_index l.order (l.from + j))

@@ -1,3 +1,0 @@
--- What contracts of windows of blocks cite.
-pub mod Files
-pub mod Window

@@ -1,4 +1,0 @@
--- Lemmas on windows of cuts.
-mod Cuts
-mod LaneParts
-pub mod Lengths

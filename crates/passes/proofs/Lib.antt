@@ -1,0 +1,6 @@
+mod HeldPlaces
+mod HeldReads
+mod HeldRows
+mod Looking
+mod Passed
+mod Taking

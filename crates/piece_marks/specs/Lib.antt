@@ -1,2 +1,0 @@
--- What the bits of a row of pieces tell.
-pub mod Marks
