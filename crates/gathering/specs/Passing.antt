@@ -1,4 +1,5 @@
--- The pass over listed paths that gathers a draft of the files there. Public clauses do not name these.
+-- The pass over listed paths that gathers a draft of the files there. Public clauses do not name
+-- these.
 use Rattle.std.specs.Prelude.{◌≡◌, ◌^◌, ℕ, Bool, true, List, slice_get, Option, Some, None, Result, Ok, Err, ⊤}
 use Rattle.benc.specs.declared.device.DeviceFault.{DeviceFault}
 use Rattle.drafts.specs.Outline.{Outline}
@@ -69,9 +70,10 @@ pub record HoldsFor (t : GatherTask) (cutting : Cutting) : Type 0 where
   pub piece_length_is : cutting.piece_length ≡ t.piece_length
   pub both : t.hybrid ≡ true → cutting.wanted ≡ cuts.Both
 
--- each listed path is opened, and read to its end, or to one byte past the longest file; one that is
--- missing or fails ends the pass at once
-abbrev pub gather_task : GatherTask → Task (List (List ℕ)) Outline (Result FileHashes FileFault) FileFault
+-- each listed path is opened, and read to its end, or to one byte past the longest file; one that
+-- is missing or fails ends the pass at once
+abbrev pub gather_task : GatherTask
+    → Task (List (List ℕ)) Outline (Result FileHashes FileFault) FileFault
 gather_task t = record {
   items = t.paths;
   wants = λ path. Some (record { path = path; most = 2 ^ 46 });

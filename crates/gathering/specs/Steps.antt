@@ -38,7 +38,8 @@ module _ {S F : Type 0} (shelf : Ghosts S F) (seen : F → SourceSeen) where
   -- the draft that was given is `empty`
   module _ (empty : Outline) where
     -- the first paths were added, and the draft did not take the next one
-    pub record StopsAdding (old : S) (paths : List (List (List ℕ))) (new : S) (stop : Stopped FileFault)
+    pub record StopsAdding (old : S) (paths : List (List (List ℕ))) (new : S)
+        (stop : Stopped FileFault)
         : Type 0 where
       pub path : List (List ℕ)
       pub there : slice_get paths stop.number ≡ Some path
@@ -49,7 +50,8 @@ module _ {S F : Type 0} (shelf : Ghosts S F) (seen : F → SourceSeen) where
           (drop (stop.number + 1) paths) new
 
     -- the first paths were added, some were read, and no file was read under the next one
-    pub record StopsVisiting (old : S) (paths : List (List (List ℕ))) (new : S) (stop : Stopped FileFault)
+    pub record StopsVisiting (old : S) (paths : List (List (List ℕ))) (new : S)
+        (stop : Stopped FileFault)
         : Type 0 where
       pub path : List (List ℕ)
       pub there : slice_get paths stop.number ≡ Some path
@@ -63,7 +65,8 @@ module _ {S F : Type 0} (shelf : Ghosts S F) (seen : F → SourceSeen) where
       pub why : FaultsWith stop.stop mid path new
 
     -- all paths were added, or it stopped at one
-    abbrev pub AddsAll : S → List (List (List ℕ)) → Outline → S → Result (Unit {0}) (Stopped FileFault)
+    abbrev pub AddsAll : S → List (List (List ℕ)) → Outline → S
+        → Result (Unit {0}) (Stopped FileFault)
         → Type 0
     AddsAll old paths d new (Ok u) = HasGathered shelf seen empty old old paths new d
     AddsAll old paths d new (Err stop) =

@@ -19,7 +19,8 @@ pub record IsRunWithin (at to : ℕ) (r : Run) : Type 0 where
 
 -- the line of such a run of a file stands at the front
 abbrev pub HasOneRun : Description → FileEntry → ℕ → ℕ → List ℕ → Type 0
-HasOneRun t f at to text = (r : Run) × IsRunWithin at to r × BeginsWith (text_of (run_row t f r)) text
+HasOneRun t f at to text = (r : Run) × IsRunWithin at to r
+    × BeginsWith (text_of (run_row t f r)) text
 
 -- if the verdict names a bad piece, the line of such a run that begins with it stands at the front
 abbrev pub BeginsRightly : Description → FileEntry → ℕ → ℕ → FileVerdict → List ℕ → Type 0
@@ -36,4 +37,5 @@ pub record ReadsAll (t : Description) (f : FileEntry) (from to : ℕ) (text more
   pub marks : MarksMore (IsInRuns f runs) old new
   pub some : runs ≡ [] → HasOneRun t f from to text → ⊥
   pub only : (others : List Run) (rest : List ℕ) → AreRunsWithin from to others
-      → text ≡ spell text_of (runs_rows t f others) ++ rest → HasNoRun rest → (runs ≡ others) × (more ≡ rest)
+      → text ≡ spell text_of (runs_rows t f others) ++ rest → HasNoRun rest → (runs ≡ others)
+      × (more ≡ rest)

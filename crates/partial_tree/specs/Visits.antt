@@ -47,7 +47,8 @@ abbrev pub places_below : HashRow → ℕ
 places_below row = 2 ^ suc (row.layer + row.depth) - 2 ^ suc row.depth
 
 -- the claims from the row down are visited
-abbrev pub VisitsRow : {V : Type 0} → (V → Claim → V → Type 0) → PartialTree → HashRow → V → V → Type 0
+abbrev pub VisitsRow : {V : Type 0} → (V → Claim → V → Type 0) → PartialTree → HashRow → V → V
+    → Type 0
 VisitsRow Visit C row v w = Visits Visit C (LiesUnderRow row) (places_under row) v w
 
 -- those below the row are visited

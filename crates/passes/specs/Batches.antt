@@ -18,14 +18,16 @@ KeepsLooked Finds a h h' (Ok (Some found)) = Finds a found × KeepsHeld h h' × 
 KeepsLooked Finds a h h' (Err why) = (a ≡ as_answer why) × KeepsHeld h h'
 
 -- what came of looking at a path, by that of reading the file that is there
-abbrev pub looked_of : {Found : Type 0} → Result (Option Found) DeviceFault → Result (Option Found) Nothing
+abbrev pub looked_of : {Found : Type 0} → Result (Option Found) DeviceFault
+    → Result (Option Found) Nothing
 looked_of (Ok found) = Ok found
 looked_of (Err fault) = Err none.Failed
 
 module _ {Item State Found Stop : Type 0} (t : Task Item State Found Stop) where
   -- these items may wait
   abbrev pub MayWait : ℕ → ℕ → Type 0
-  MayWait from to = (j : ℕ) (i : Item) → from ≤ j → j < to → slice_get t.items j ≡ Some i → t.waits i
+  MayWait from to = (j : ℕ) (i : Item) → from ≤ j → j < to → slice_get t.items j ≡ Some i
+      → t.waits i
 
   -- of the item of this number, of which this came, this was found
   pub record IsFoundAt (all : List Answer) (number : ℕ) (found : Found) : Type 0 where
@@ -40,7 +42,8 @@ module _ {Item State Found Stop : Type 0} (t : Task Item State Found Stop) where
   pub record AreBatch (from : ℕ) (held : List Answer) (last : Option Found) (all : List Answer)
       : Type 0 where
     pub inside : from + length held ≤ length t.items
-    pub held_are : (j : ℕ) (a : Answer) → slice_get held j ≡ Some a → slice_get all (from + j) ≡ Some a
+    pub held_are : (j : ℕ) (a : Answer) → slice_get held j ≡ Some a
+        → slice_get all (from + j) ≡ Some a
     pub last_is : IfSome last (IsFoundAt all (from + length held))
 
   -- behind these items, and the last one, if it was read alone
@@ -54,7 +57,8 @@ module _ {Item State Found Stop : Type 0} (t : Task Item State Found Stop) where
   TakesBatch k all from to k' (Err stopped) =
       (from ≤ stopped.number) × StopsTaking t k all stopped.number stopped.number stopped.stop k'
 
-module _ {S F : Type 0} (shelf : Ghosts S F) (seen : F → SourceSeen) {Item State Found Stop : Type 0}
+module _ {S F : Type 0} (shelf : Ghosts S F) (seen : F → SourceSeen)
+    {Item State Found Stop : Type 0}
     (t : Task Item State Found Stop) where
   -- the path of the item of this number was looked at, and this came of it
   pub record LooksAtOne (number : ℕ) (s : S) (a : Answer) (s' : S) : Type 0 where
@@ -62,14 +66,15 @@ module _ {S F : Type 0} (shelf : Ghosts S F) (seen : F → SourceSeen) {Item Sta
     pub item_is : slice_get t.items number ≡ Some item
     pub looks : LooksFor shelf seen t s item a s'
 
-  pub record LooksOnce (number : ℕ) (s : S) (h h' : HeldSeen) (found : Result (Option Found) Nothing)
+  pub record LooksOnce (number : ℕ) (s : S) (h h' : HeldSeen)
+      (found : Result (Option Found) Nothing)
       (s' : S) : Type 0 where
     pub answer : Answer
     pub looks : LooksAtOne number s answer s'
     pub keeps : KeepsLooked (t.finds looks.item) answer h h' found
 
-  -- it is held what came of it; or this was found of it, and what is held stays; or it is missing or
-  -- failed, and that ends the pass at once
+  -- it is held what came of it; or this was found of it, and what is held stays; or it is missing
+  -- or failed, and that ends the pass at once
   abbrev pub EndsAs : Item → Answer → HeldSeen → HeldSeen → Result (Option Found) Stop → Type 0
   EndsAs i a h h' (Ok None) = HoldsMore h a h' × StopsFor t i a None
   EndsAs i a h h' (Ok (Some found)) = t.finds i a found × KeepsHeld h h' × StopsFor t i a None
@@ -91,16 +96,19 @@ module _ {S F : Type 0} (shelf : Ghosts S F) (seen : F → SourceSeen) {Item Sta
     pub wait : 1 < length answers → MayWait t from (from + length answers)
 
   -- the path of the last one was looked at, and it is not held what came of it
-  pub record LooksLast (from : ℕ) (s : S) (held : List Answer) (item : Item) (a : Answer) (s' : S) : Type 0 where
+  pub record LooksLast (from : ℕ) (s : S) (held : List Answer) (item : Item) (a : Answer)
+      (s' : S) : Type 0 where
     pub looks : LooksOn from s (held ++ a ∷ []) s'
     pub item_is : slice_get t.items (from + length held) ≡ Some item
     pub sure : t.is_hasty ≡ true → AreSure held
 
-  -- paths were looked at until what is held is to be taken; and what was found of the last one, if it
-  -- was read alone; or the last one ends the pass at once
+  -- paths were looked at until what is held is to be taken; and what was found of the last one, if
+  -- it was read alone; or the last one ends the pass at once
   abbrev pub EndsLooking : ℕ → S → List Answer → S → Result (Option Found) (Stopped Stop) → Type 0
   EndsLooking from s held s' (Ok None) = LooksOn from s held s' × (t.is_hasty ≡ true → AreSure held)
-  EndsLooking from s held s' (Ok (Some found)) = (i : Item) × (a : Answer) × LooksLast from s held i a s'
+  EndsLooking from s held s' (Ok (Some found)) = (i : Item) × (a : Answer)
+      × LooksLast from s held i a s'
       × t.finds i a found × StopsFor t i a None
-  EndsLooking from s held s' (Err stopped) = (i : Item) × (a : Answer) × LooksLast from s held i a s'
+  EndsLooking from s held s' (Err stopped) = (i : Item) × (a : Answer)
+      × LooksLast from s held i a s'
       × (stopped.number ≡ from + length held) × StopsFor t i a (Some stopped.stop)

@@ -1,5 +1,5 @@
--- What is held of paths that were looked at one after the other: the bytes of small files, which are
--- hashed side by side.
+-- What is held of paths that were looked at one after the other: the bytes of small files, which
+-- are hashed side by side.
 use Rattle.std.specs.Prelude.{◌≡◌, ◌≢◌, ℕ, ◌+◌, min, Bool, List, ◌∷◌, [], ◌++◌, length, Option, Some, None, Result, Ok, Err}
 use Rattle.benc.specs.Device.{SourceSeen}
 use Rattle.benc.specs.declared.device.DeviceFault.{DeviceFault}
@@ -35,8 +35,8 @@ pub record Cutting : Type 0 where
   pub piece_length : ℕ
   pub wanted : CutsWanted
 
--- what came of the paths, which is held; the version 1 pieces of the files; and whether the files are
--- hashed
+-- what came of the paths, which is held; the version 1 pieces of the files; and whether the files
+-- are hashed
 pub record HeldSeen : Type 0 where
   pub answers : List Answer
   pub cutting : Cutting
@@ -70,14 +70,16 @@ pub record GivesContent (IsRead : Reach) (bytes : List ℕ) (old new : SourceSee
 abbrev pub IsReadUpTo : ℕ → Reach
 IsReadUpTo most bytes old new = new.limit + min (length bytes) (most + 1) ≡ old.limit
 
--- what came of reading a source that is stated to have this many bytes: all its bytes are held; or it
--- has another length, or a read failed, and what is held stays; or there was no room for them, and
--- nothing was read
+-- what came of reading a source that is stated to have this many bytes: all its bytes are held; or
+-- it has another length, or a read failed, and what is held stays; or there was no room for them,
+-- and nothing was read
 abbrev pub ReadsStated : ℕ → SourceSeen → SourceSeen → HeldSeen → HeldSeen
     → Result Read DeviceFault → Type 0
 ReadsStated size old new h h' (Ok read.Held) =
-    (bytes : List ℕ) × GivesContent (IsReadUpTo size) bytes old new × (length bytes ≡ size) × HoldsMore h (content bytes) h'
+    (bytes : List ℕ) × GivesContent (IsReadUpTo size) bytes old new × (length bytes ≡ size)
+        × HoldsMore h (content bytes) h'
 ReadsStated size old new h h' (Ok read.Other) =
-    (bytes : List ℕ) × GivesContent (IsReadUpTo size) bytes old new × (length bytes ≢ size) × KeepsHeld h h'
+    (bytes : List ℕ) × GivesContent (IsReadUpTo size) bytes old new × (length bytes ≢ size)
+        × KeepsHeld h h'
 ReadsStated size old new h h' (Ok read.NoRoom) = (new ≡ old) × (h' ≡ h)
 ReadsStated size old new h h' (Err fault) = IsReadWithin size old new × KeepsHeld h h'

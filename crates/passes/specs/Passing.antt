@@ -13,8 +13,8 @@ use Rattle.folders.specs.Visits.{HandsBack}
 use Rattle.folders.specs.declared.shelf.Shelf.{Ghosts}
 use Rattle.passes.specs.Held.{Answer, Cutting, Reach, GivesContent, HeldSeen, HoldsMore, KeepsHeld, content, failed, missing, unasked}
 
--- a path that is wanted, and how many bytes of what is there; a read that fails comes before one past
--- them
+-- a path that is wanted, and how many bytes of what is there; a read that fails comes before one
+-- past them
 pub record Want : Type 0 where
   pub path : List (List ℕ)
   pub most : ℕ
@@ -65,12 +65,14 @@ abbrev pub ReadsFor : {Found : Type 0} → (Answer → Found → Type 0) → Rea
 ReadsFor Finds IsRead most old new h h' (Ok None) =
     (bytes : List ℕ) × GivesContent IsRead bytes old new × HoldsMore h (content bytes) h'
 ReadsFor Finds IsRead most old new h h' (Ok (Some found)) =
-    (bytes : List ℕ) × GivesContent IsRead bytes old new × Finds (content bytes) found × KeepsHeld h h'
+    (bytes : List ℕ) × GivesContent IsRead bytes old new × Finds (content bytes) found
+        × KeepsHeld h h'
 ReadsFor Finds IsRead most old new h h' (Err fault) = IsReadWithin most old new × KeepsHeld h h'
 
 module _ {S F : Type 0} (shelf : Ghosts S F) (seen : F → SourceSeen) where
   -- this was answered when a path was opened
-  pub record AnswersOpening (s : S) (path : List (List ℕ)) (opened : Result (Option F) DeviceFault) (s' : S)
+  pub record AnswersOpening (s : S) (path : List (List ℕ)) (opened : Result (Option F) DeviceFault)
+      (s' : S)
       : Type 0 where
     pub opens : shelf.opens s path opened s'
     pub found : IfOk opened (λ o.
@@ -96,7 +98,8 @@ module _ {S F : Type 0} (shelf : Ghosts S F) (seen : F → SourceSeen) where
   -- the opening failed, or a read did; that is one fault
   pub record FailsThere (s : S) (path : List (List ℕ)) (most : ℕ) (s' : S) : Type 0 where
     pub failed : ((e : DeviceFault) × shelf.opens s path (Err e) s')
-        ⊎ ((file : F) × HandsBack (shelf.opens s path) shelf.closes seen (FailsReading most) file s')
+        ⊎ ((file : F)
+            × HandsBack (shelf.opens s path) shelf.closes seen (FailsReading most) file s')
     pub counted : shelf.faults s' ≡ one_more (shelf.faults s)
     pub stays : shelf.contents s' ≡ shelf.contents s
 
@@ -104,14 +107,15 @@ module _ {S F : Type 0} (shelf : Ghosts S F) (seen : F → SourceSeen) where
   pub record ReadsThere (IsRead : Reach) (s : S) (path : List (List ℕ)) (bytes : List ℕ) (s' : S)
       : Type 0 where
     pub file : F
-    pub handed : HandsBack (shelf.opens s path) shelf.closes seen (ReadsContent IsRead bytes) file s'
+    pub handed : HandsBack (shelf.opens s path) shelf.closes seen
+        (ReadsContent IsRead bytes) file s'
     pub gave : Agrees (seen file).left bytes
     pub agrees : Agrees ((shelf.contents s).under path) (Some bytes)
     pub quiet : shelf.faults s' ≡ shelf.faults s
     pub stays : shelf.contents s' ≡ shelf.contents s
 
-  -- a path that is wanted was looked at: it was opened once, read, and handed back, and this came of
-  -- it; or none is wanted
+  -- a path that is wanted was looked at: it was opened once, read, and handed back, and this came
+  -- of it; or none is wanted
   abbrev pub Looks : Reach → Option Want → S → Answer → S → Type 0
   Looks IsRead None s a s' = (a ≡ unasked) × (s' ≡ s)
   Looks IsRead (Some w) s unasked s' = ⊥
@@ -137,7 +141,8 @@ module _ {Item State Found Stop : Type 0} (t : Task Item State Found Stop) where
   TakesTo k all n k' = Chain Takes k (take n t.items) (take n all) k'
 
   -- it was, until it stopped at the item of a number, for what came of that
-  pub record StopsTaking (k : State) (all : List Answer) (taken number : ℕ) (stop : Stop) (k' : State)
+  pub record StopsTaking (k : State) (all : List Answer) (taken number : ℕ) (stop : Stop)
+      (k' : State)
       : Type 0 where
     pub middle : State
     pub takes : TakesTo k all taken middle
@@ -160,7 +165,8 @@ module _ {Item State Found Stop : Type 0} (t : Task Item State Found Stop) where
     pub fails : (a : Answer) → slice_get all number ≡ Some a → is_amiss a ≡ true
     pub sure : AreSure (take number all)
 
-module _ {S F : Type 0} (shelf : Ghosts S F) (seen : F → SourceSeen) {Item State Found Stop : Type 0}
+module _ {S F : Type 0} (shelf : Ghosts S F) (seen : F → SourceSeen)
+    {Item State Found Stop : Type 0}
     (t : Task Item State Found Stop) where
   -- the path of an item was looked at
   abbrev pub LooksFor : S → Item → Answer → S → Type 0
@@ -178,8 +184,8 @@ module _ {S F : Type 0} (shelf : Ghosts S F) (seen : F → SourceSeen) {Item Sta
     pub takes : Chain (Takes t) k t.items answers k'
 
   -- The paths of some first items were looked at in order, each once, and of the first of these was
-  -- taken what came of it. Then it stopped at the item of this number, for what came of that. No more
-  -- than 64 were looked at whose turn had not come, and these are such as may wait.
+  -- taken what came of it. Then it stopped at the item of this number, for what came of that. No
+  -- more than 64 were looked at whose turn had not come, and these are such as may wait.
   pub record StopsPassing (s : S) (k : State) (number : ℕ) (stop : Stop) (s' : S) (k' : State)
       : Type 0 where
     pub answers : List Answer

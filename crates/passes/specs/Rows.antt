@@ -1,5 +1,5 @@
--- Where what is held stands: the bytes of files in a room, one file after the other, and their blocks
--- and version 1 pieces in windows. Public clauses do not name these.
+-- Where what is held stands: the bytes of files in a room, one file after the other, and their
+-- blocks and version 1 pieces in windows. Public clauses do not name these.
 use Rattle.std.specs.Prelude.{◌≡◌, ℕ, ◌+◌, ◌<◌, ◌≤◌, Bool, true, List, ◌∷◌, [], ◌++◌, length, map, take, drop, slice_get}
 use Rattle.std.specs.Prelude.{Option, Some, None, Result, IfOk, OnErr}
 use Rattle.benc.specs.Device.{CountsFault, SourceSeen}

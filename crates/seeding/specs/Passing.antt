@@ -41,7 +41,8 @@ FindsAnswer e failed found = found ≡ Ok None
 FindsAnswer e (content bytes) found = FindsWholeTree e.length e.root bytes found
 
 -- what is found of a file of tree n
-pub record FindsIn (t : Description) (f : FileEntry) (n : ℕ) (a : Answer) (found : SeedFound) : Type 0
+pub record FindsIn (t : Description) (f : FileEntry) (n : ℕ) (a : Answer)
+    (found : SeedFound) : Type 0
   where
     pub tree : TreeEntry
     pub own : IsOwnTree t f n tree
@@ -65,9 +66,10 @@ SaysLine o o' (Err fault.NoMemory) line = ⊥
 SaysLine o o' (Err fault.Write) line = Broke o o' line
 
 module _ (line : FileEntry → Bool → List ℕ) where
-  -- how a session takes what was found of a file: its leaves are filled in, and its line is said; or
-  -- memory was refused
-  abbrev pub TakesFound : SeedState → FileEntry → SeedFound → Result (Unit {0}) SeedFault → SeedState
+  -- how a session takes what was found of a file: its leaves are filled in, and its line is said;
+  -- or memory was refused
+  abbrev pub TakesFound : SeedState → FileEntry → SeedFound → Result (Unit {0}) SeedFault
+      → SeedState
       → Type 0
   TakesFound k f (Ok grown) result k' = (seeded : Bool)
       × FillsByTree k.0 f.tree grown seeded k'.0 × SaysLine k.1 k'.1 result (line f seeded)
