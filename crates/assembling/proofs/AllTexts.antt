@@ -2,7 +2,7 @@
 use Rattle.std.proofs.Common.{◌≡◌, ℕ, zero, suc, ◌^◌, ◌<◌, List, [], ◌∷◌, length, slice_get, Some, Result, IfErr, refl, sym, ◌∙◌, ap, subst}
 use Rattle.std.proofs.lemmas.Option.{none-some, same_Some}
 use Rattle.drafts.specs.Outline.{Outline}
-use Rattle.part_drafts.specs.Parts.{IsPartText, KnownPaths, rows_text}
+use Rattle.gathering.specs.Parts.{IsPartText, KnownPaths, rows_text}
 use Rattle.part_texts.specs.Listings.{Inventory}
 use Rattle.part_texts.specs.Readings.{CanBeListed}
 use Rattle.part_texts.specs.Texts.{listing_text}

@@ -6,7 +6,7 @@ use Rattle.std.proofs.lemmas.Bool.{and_parts, cases_lt}
 use Rattle.std.proofs.lemmas.Option.{none-some, same_Some}
 use Rattle.std.proofs.lemmas.Slice.Eq.{bytes_eq-Decides}
 use Rattle.drafts.specs.Outline.{Outline}
-use Rattle.part_drafts.specs.Parts.{AreRows, IsPartText, IsRow, KnownPaths}
+use Rattle.gathering.specs.Parts.{AreRows, IsPartText, IsRow, KnownPaths}
 use Rattle.part_texts.specs.Divisions.{capped, hashed, span_of, total_of}
 use Rattle.part_texts.specs.Listings.{Inventory, Listed}
 use Rattle.part_texts.specs.Readings.{CanBeListed}

@@ -5,7 +5,7 @@ use Rattle.std.proofs.lemmas.Option.{none-some, same_Some}
 use Rattle.chains.proofs.Chains.{Chain-item}
 use Rattle.drafts.specs.Outline.{Outline}
 use Rattle.gathering.specs.Gathered.{DraftAdds, Gathered}
-use Rattle.part_drafts.specs.Parts.{KnownPaths}
+use Rattle.gathering.specs.Parts.{KnownPaths}
 use Rattle.part_texts.specs.Divisions.{capped, hashed, total_of}
 use Rattle.part_texts.specs.Listings.{Inventory, Listed}
 use Rattle.assembling.specs.Assembly.{AreHeld, listed_draft, paths_of}

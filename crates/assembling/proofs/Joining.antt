@@ -12,7 +12,7 @@ use Rattle.hashtree.proofs.RowNodes.{rows_join}
 use Rattle.hashtree.specs.Pieces.{piece_nodes}
 use Rattle.hashtree.specs.Tree.{root_of}
 use Rattle.opening.specs.PieceLayers.{piece_layer}
-use Rattle.part_drafts.specs.Rows.{row_nodes}
+use Rattle.gathering.specs.PartRows.{row_nodes}
 use Rattle.pieces.proofs.Cutting.{cut_append, cut_count_is, cut_count_none, cut_ends, more_pieces, pieces_cover, some_pieces}
 use Rattle.pieces.specs.Cuts.{cut, cut_digests, filled_up, last_cut_of}
 use Rattle.pieces.specs.Pieces.{IsPieceLength, pieces_of}

@@ -4,8 +4,8 @@ use Rattle.std.proofs.Common.{drop, set, slice_get, Some, get_or}
 use Rattle.std.proofs.Common.{refl, sym, ap, ◌∙◌, subst, arith}
 use Rattle.std.proofs.lemmas.Bool.{cases_lt}
 use Rattle.std.proofs.lemmas.Option.{none-some, same_Some, slice_get-get_or, slice_get_within}
-use Rattle.part_drafts.specs.Parts.{IsRow, KnownPaths}
-use Rattle.part_drafts.specs.Rows.{row_nodes, row_text}
+use Rattle.gathering.specs.Parts.{IsRow, KnownPaths}
+use Rattle.gathering.specs.PartRows.{row_nodes, row_text}
 use Rattle.part_texts.specs.Divisions.{capped, first_piece, hashed, span_of}
 use Rattle.part_texts.specs.Listings.{Listed}
 use Rattle.pieces.specs.Cuts.{cut_digests, filled_up, last_cut_of}

@@ -5,7 +5,7 @@ use Rattle.std.proofs.Common.{refl, drop, get_or, sym, ap, ◌∙◌, append_ass
 use Rattle.std.proofs.Math.Seq.{drop-append_seam, take-append_seam}
 use Rattle.std.proofs.lemmas.List.{take_more}
 use Rattle.drafts.specs.Outline.{AreOfLength}
-use Rattle.part_drafts.specs.Rows.{joined_hashes}
+use Rattle.gathering.specs.PartRows.{joined_hashes}
 use Rattle.part_texts.proofs.Fronts.{next_front}
 use Rattle.assembling.specs.Sizes.{row_size}
 use Rattle.assembling.proofs.RowTexts.{some_size}

@@ -5,8 +5,8 @@ use Rattle.std.specs.Prelude.{nat_le}
 use Rattle.std.proofs.lemmas.Bool.{cases_lt, ne_eqb}
 use Rattle.std.proofs.lemmas.List.{nil_from_length}
 use Rattle.drafts.specs.Outline.{AreOfLength}
-use Rattle.part_drafts.specs.Parts.{IsRow, KnownPaths}
-use Rattle.part_drafts.specs.Rows.{joined_hashes, row_text}
+use Rattle.gathering.specs.Parts.{IsRow, KnownPaths}
+use Rattle.gathering.specs.PartRows.{joined_hashes, row_text}
 use Rattle.part_texts.specs.Divisions.{capped, first_piece, hashed, span_of}
 use Rattle.part_texts.specs.Listings.{Listed}
 use Rattle.pieces.specs.Pieces.{IsPieceLength, pieces_of}

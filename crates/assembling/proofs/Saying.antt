@@ -4,8 +4,8 @@ use Rattle.std.proofs.Common.{length, Some, refl, sym, ap, ◌∙◌}
 use Rattle.std.proofs.Common.{subst, arith, if◌then◌else◌}
 use Rattle.std.specs.Prelude.{nat_lt, nat_le}
 use Rattle.std.proofs.lemmas.Bool.{cases_lt, eq-eqb, ne_eqb, le-leb, lt-ltb}
-use Rattle.part_drafts.specs.Parts.{AreRows, IsRow, KnownPaths, rows_text}
-use Rattle.part_drafts.specs.Rows.{row_text}
+use Rattle.gathering.specs.Parts.{AreRows, IsRow, KnownPaths, rows_text}
+use Rattle.gathering.specs.PartRows.{row_text}
 use Rattle.part_texts.specs.Divisions.{capped, first_piece, has_end, hashed, span_of, start_of}
 use Rattle.part_texts.specs.Listings.{Listed}
 use Rattle.pieces.proofs.Cutting.{cut_count_none, pieces_cover, some_pieces}

@@ -7,7 +7,7 @@ use Rattle.std.proofs.lemmas.Bool.{and_parts, cases_lt, ne_eqb}
 use Rattle.std.proofs.lemmas.Bool.Decides.{nat_tests}
 use Rattle.std.proofs.lemmas.List.{append-nil, length-append, nil_from_length}
 use Rattle.std.proofs.lemmas.Option.{same_Some}
-use Rattle.part_drafts.specs.Parts.{IsRow, KnownPaths}
+use Rattle.gathering.specs.Parts.{IsRow, KnownPaths}
 use Rattle.part_texts.specs.Divisions.{bytes_of, first_piece, has_end, hashed, offset_of, span_of, start_of}
 use Rattle.part_texts.specs.Listings.{Listed}
 use Rattle.pieces.proofs.Cutting.{pieces_cover}

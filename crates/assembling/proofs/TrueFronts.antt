@@ -2,7 +2,7 @@
 use Rattle.std.proofs.Common.{◌≡◌, ◌<◌, List, [], ℕ, Bor, length, slice_get, Some, get_or, sym, ◌∙◌, ap, subst, arith}
 use Rattle.std.proofs.lemmas.List.{length-map}
 use Rattle.std.proofs.lemmas.Option.{same_Some, slice_get-get_or}
-use Rattle.part_drafts.specs.Parts.{AreRows, KnownPaths, rows_text}
+use Rattle.gathering.specs.Parts.{AreRows, KnownPaths, rows_text}
 use Rattle.part_texts.specs.Divisions.{total_of}
 use Rattle.part_texts.specs.Listings.{Inventory, inventory}
 use Rattle.part_texts.specs.Readings.{CanBeListed}

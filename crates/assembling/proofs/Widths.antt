@@ -19,8 +19,8 @@ use Rattle.hashtree.proofs.PieceNodes.{root_over_piece}
 use Rattle.hashtree.specs.Pieces.{padded_row, piece_at, piece_node, piece_nodes}
 use Rattle.hashtree.specs.Tree.{block, block_count, block_hashes, first_pad, height, pad_leaf, root_of, tree}
 use Rattle.opening.specs.PieceLayers.{piece_layer}
-use Rattle.part_drafts.proofs.Found.{cuts_joined, row_is}
-use Rattle.part_drafts.specs.Rows.{joined_hashes, row_nodes, row_text}
+use Rattle.gathering.proofs.RowFound.{cuts_joined, row_is}
+use Rattle.gathering.specs.PartRows.{joined_hashes, row_nodes, row_text}
 use Rattle.pieces.proofs.Cutting.{cut_count_is, length-cut_digests}
 use Rattle.pieces.specs.Cuts.{cut_digests, cuts, filled_up, last_cut_of}
 use Rattle.pieces.specs.Pieces.{IsPieceLength, pieces_of}

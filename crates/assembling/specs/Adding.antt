@@ -5,7 +5,7 @@ use Rattle.filetree.specs.declared.refusal.Refusal.{Refusal}
 use Rattle.filetree.specs.declared.refusal.Refusal.TheVariants as refusals
 use Rattle.folders.specs.Shelf.{path_bytes}
 use Rattle.gathering.specs.Gathered.{DraftAdds}
-use Rattle.part_drafts.specs.Parts.{KnownPaths}
+use Rattle.gathering.specs.Parts.{KnownPaths}
 use Rattle.part_texts.specs.Divisions.{total_of}
 use Rattle.part_texts.specs.Listings.{Inventory, Listed}
 use Rattle.assembling.specs.Assembly.{AreHeld, Assembles, RefusesListed}

@@ -1,7 +1,7 @@
 -- What is assembled of all that was hashed of one folder.
 use Rattle.std.specs.Prelude.{◌≡◌, ℕ, ◌^◌, ◌<◌, List, [], ◌∷◌, length, slice_get, Some, Result, IfErr}
 use Rattle.drafts.specs.Outline.{Outline}
-use Rattle.part_drafts.specs.Parts.{IsPartText, KnownPaths}
+use Rattle.gathering.specs.Parts.{IsPartText, KnownPaths}
 use Rattle.part_texts.specs.Listings.{Inventory}
 use Rattle.part_texts.specs.Readings.{CanBeListed}
 use Rattle.part_texts.specs.Texts.{listing_text}

@@ -1,7 +1,7 @@
 -- What is assembled of parts that were each hashed on a machine with files of its own.
 use Rattle.std.specs.Prelude.{◌≡◌, ℕ, ◌^◌, ◌<◌, ◌≤◌, List, [], ◌∷◌, length, take, drop, slice_get, Some, Result, IfErr}
 use Rattle.drafts.specs.Outline.{Outline}
-use Rattle.part_drafts.specs.Parts.{IsPartText, KnownPaths}
+use Rattle.gathering.specs.Parts.{IsPartText, KnownPaths}
 use Rattle.part_texts.specs.Divisions.{bytes_of, capped, hashed, offset_of, span_of, total_of}
 use Rattle.part_texts.specs.Listings.{Inventory, Listed}
 use Rattle.part_texts.specs.Readings.{CanBeListed}

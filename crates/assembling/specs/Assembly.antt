@@ -6,7 +6,7 @@ use Rattle.filetree.specs.declared.refusal.Refusal.{Refusal}
 use Rattle.filetree.specs.declared.refusal.Refusal.TheVariants as refusals
 use Rattle.folders.specs.Shelf.{path_bytes}
 use Rattle.gathering.specs.Gathered.{DraftRefuses, Gathered}
-use Rattle.part_drafts.specs.Parts.{IsPartText, KnownPaths}
+use Rattle.gathering.specs.Parts.{IsPartText, KnownPaths}
 use Rattle.part_texts.specs.Listings.{Inventory, Listed}
 use Rattle.part_texts.specs.Texts.{listing_text}
 use Rattle.pieces.specs.Pieces.{IsPieceLength}

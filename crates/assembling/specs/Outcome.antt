@@ -1,7 +1,7 @@
 -- What the assembly of a torrent did, by its answer.
 use Rattle.std.specs.Prelude.{ℕ, List, IfErr, IfOk, Result, ⊤}
 use Rattle.drafts.specs.Outline.{Outline}
-use Rattle.part_drafts.specs.Parts.{KnownPaths}
+use Rattle.gathering.specs.Parts.{KnownPaths}
 use Rattle.part_texts.specs.Listings.{Inventory}
 use Rattle.part_texts.specs.Readings.{CanBeListed}
 use Rattle.part_texts.specs.Texts.{listing_text}

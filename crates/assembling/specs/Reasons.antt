@@ -1,7 +1,7 @@
 -- Why no torrent is assembled: what stands in the first text at which it stops.
 use Rattle.std.specs.Prelude.{◌≡◌, ◌≢◌, ◌⊎◌, ℕ, ◌+◌, ◌<◌, List, [], take, slice_get, Some, ⊤}
 use Rattle.folders.specs.Shelf.{path_bytes}
-use Rattle.part_drafts.specs.Parts.{KnownPaths}
+use Rattle.gathering.specs.Parts.{KnownPaths}
 use Rattle.part_texts.specs.Listings.{Inventory}
 use Rattle.part_texts.specs.Readings.{CanBeListed}
 use Rattle.assembling.specs.Assembly.{IsTruePartText}

@@ -1,8 +1,8 @@
 -- What the texts of parts say of files. Public clauses do not name these.
 use Rattle.std.specs.Prelude.{◌≡◌, ℕ, Bool, List, [], ◌++◌, length, slice_get, Some, if◌then◌else◌}
 use Rattle.drafts.specs.Outline.{AreOfLength}
-use Rattle.part_drafts.specs.Parts.{AreRows, KnownPaths, rows_text}
-use Rattle.part_drafts.specs.Rows.{joined_hashes}
+use Rattle.gathering.specs.Parts.{AreRows, KnownPaths, rows_text}
+use Rattle.gathering.specs.PartRows.{joined_hashes}
 use Rattle.part_texts.specs.Listings.{Listed}
 
 -- what is said of a row of pieces: the nodes over them, the digests of a hybrid's cuts, and that of

@@ -2,7 +2,7 @@
 use Rattle.std.specs.Prelude.{◌≡◌, ℕ, ◌^◌, ◌<◌, ◌≤◌, Bool, true, List, [], ◌∷◌, length, Some}
 use Rattle.gathering.specs.Gathered.{piece_hashes}
 use Rattle.hashtree.specs.Tree.{root_of}
-use Rattle.part_drafts.specs.Parts.{KnownPaths}
+use Rattle.gathering.specs.Parts.{KnownPaths}
 use Rattle.part_texts.specs.Divisions.{capped, hashed}
 use Rattle.part_texts.specs.Listings.{Listed}
 use Rattle.pieces.specs.FileCuts.{IsV1File}

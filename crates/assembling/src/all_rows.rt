@@ -2,7 +2,7 @@
 ghost use Rattle.std.specs.Prelude.{◌≡◌, ◌<◌, ◌∷◌, ℕ, List, IfOk, length, map};
 ghost use Rattle.assembling.specs.Behind.{AreLong, HaveRoom, behind};
 ghost use Rattle.assembling.specs.Taking.{HasEach, IsContentTaken, IsHeld};
-ghost use Rattle.part_drafts.specs.Parts.{KnownPaths};
+ghost use Rattle.gathering.specs.Parts.{KnownPaths};
 ghost use Rattle.part_texts.specs.Divisions.{capped, hashed};
 ghost use Rattle.part_texts.specs.Listings.{Listed};
 ghost use Rattle.pieces.specs.Pieces.{IsPieceLength, pieces_of};

@@ -4,7 +4,7 @@ ghost use Rattle.assembling.specs.Reading.{AddsCount, IsBehind};
 ghost use Rattle.assembling.specs.Said.{FitsCount, RowSaid, said_text};
 ghost use Rattle.assembling.specs.Sizes.{row_size};
 ghost use Rattle.drafts.specs.Outline.{AreOfLength};
-ghost use Rattle.part_drafts.specs.Rows.{joined_hashes};
+ghost use Rattle.gathering.specs.PartRows.{joined_hashes};
 
 use hashtree::Hash;
 use pieces::V1File;

@@ -10,8 +10,8 @@ use Rattle.folders.specs.Shelf.{CountsListing, IsListed, path_bytes}
 use Rattle.folders.specs.declared.shelf.Shelf.{Ghosts}
 use Rattle.folders.specs.declared.shelf_fault.ShelfFault.{ShelfFault}
 use Rattle.gathering.specs.Gathering.{IsListedAs}
-use Rattle.part_drafts.specs.declared.fault.PartFault.{PartFault}
-use Rattle.part_drafts.specs.declared.fault.PartFault.TheVariants as hashing
+use Rattle.gathering.specs.declared.part_fault.PartFault.{PartFault}
+use Rattle.gathering.specs.declared.part_fault.PartFault.TheVariants as hashing
 use Rattle.part_texts.specs.Listings.{Inventory, Listed}
 use Rattle.part_texts.specs.Readings.{CanBeListed}
 use Rattle.part_texts.specs.Texts.{listing_text}

@@ -2,7 +2,7 @@
 ghost use Rattle.std.specs.Prelude.{◌≡◌, ◌-◌, ◌<◌, IfOk, length, map};
 ghost use Rattle.assembling.specs.Outcome.{IsAssembled};
 ghost use Rattle.commands.specs.Creations.{AnswersPart, AssemblesDraft, CanBeAssembled, ListsFiles, NamesFile, WritesPart};
-ghost use Rattle.part_drafts.specs.Visits.{HashesPart};
+ghost use Rattle.gathering.specs.PartVisits.{HashesPart};
 ghost use Rattle.part_texts.specs.Listings.{inventory, listed};
 
 use crate::outcomes::{fault_of_listing, refuse, status};
@@ -13,7 +13,7 @@ use drafts::Draft;
 use filetree::Refusal;
 use folders::{SeekShelf, Shelf};
 use lines::finish_after;
-use part_drafts::PartFault;
+use gathering::PartFault;
 use part_texts::{ListedFile, Listing};
 use pieces::PieceLength;
 use printing::Fault;
@@ -60,7 +60,7 @@ pub fn hash_part<'a, S: SeekShelf, W: Sink>(
         CanBeAssembled (inventory listing.now))) }
     ensures stays { S.Shelf.contents shelf.new ≡ S.Shelf.contents shelf.old }
 {
-    match part_drafts::hash_part(alloc, shelf, listing, part.number - 1, part.count) {
+    match gathering::hash_part(alloc, shelf, listing, part.number - 1, part.count) {
         Ok(text) => Ok(Ok(text)),
         Err(PartFault::PieceLength) => {
             Ok(Err(refuse(&Refusal::PieceLength, &Vec::new(alloc), out)?))

@@ -18,7 +18,7 @@ use Rattle.gathering.specs.Gathering.{AreContentsUnder, FailsAt, FaultsAtPath, I
 use Rattle.gathering.specs.declared.gather_fault.GatherFault.{GatherFault}
 use Rattle.gathering.specs.declared.gather_fault.GatherFault.TheVariants as fault
 use Rattle.opening.specs.Description.{Description}
-use Rattle.part_drafts.specs.Parts.{KnownPaths}
+use Rattle.gathering.specs.Parts.{KnownPaths}
 use Rattle.part_texts.specs.Listings.{Inventory}
 use Rattle.part_texts.specs.Readings.{CanBeListed}
 use Rattle.part_texts.specs.Texts.{listing_text}

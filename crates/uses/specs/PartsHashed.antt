@@ -7,7 +7,7 @@ use Rattle.assembling.specs.declared.fault.AssembleFault.{AssembleFault}
 use Rattle.drafts.specs.Outline.{Outline}
 use Rattle.drafts.specs.Written.{value_of}
 use Rattle.gathering.specs.Gathered.{Gathered}
-use Rattle.part_drafts.specs.Parts.{IsPartText, KnownPaths}
+use Rattle.gathering.specs.Parts.{IsPartText, KnownPaths}
 use Rattle.part_texts.specs.Listings.{Inventory, inventory}
 use Rattle.part_texts.specs.Readings.{CanBeListed}
 use Rattle.part_texts.specs.Texts.{listing_text}

@@ -7,7 +7,7 @@ use benc::memory::{MemSink, MemSource};
 use checker::JoinFault;
 use checker::memory::{MemFile, MemShelf};
 use metainfo::{Draft, Torrent};
-use part_drafts::hash_part;
+use gathering::hash_part;
 use part_texts::{ListedFile, Listing};
 use session::{Paged, Session};
 use std::alloc::Global;

@@ -1,6 +1,6 @@
 use Rattle.std.proofs.Common.{◌≡◌, ◌<◌, ◌≤◌, ◌+◌, ◌-◌, ℕ, Bool, List, ◌∷◌, Bor, Some, length, map, rules, set, slice_get, subst, sym, ◌∙◌, ap, arith, refl}
 use Rattle.std.proofs.lemmas.List.{length-map, length-set}
-use Rattle.part_drafts.specs.Parts.{KnownPaths}
+use Rattle.gathering.specs.Parts.{KnownPaths}
 use Rattle.part_texts.specs.Divisions.{capped, first_piece, hashed}
 use Rattle.part_texts.specs.Listings.{Listed}
 use Rattle.part_texts.specs.declared.division.Span.{Span}

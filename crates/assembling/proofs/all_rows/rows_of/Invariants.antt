@@ -1,5 +1,5 @@
 use Rattle.std.proofs.Common.{◌≡◌, ℕ, List, length, map}
-use Rattle.part_drafts.specs.Parts.{KnownPaths}
+use Rattle.gathering.specs.Parts.{KnownPaths}
 use Rattle.part_texts.specs.Divisions.{first_piece}
 use Rattle.part_texts.specs.Listings.{Listed}
 use Rattle.assembling.specs.Behind.{behind, said_size}

@@ -6,7 +6,7 @@ use Rattle.std.proofs.lemmas.Bool.{cases_lt}
 use Rattle.std.specs.String.{string_bytes}
 use Rattle.drafts.specs.Outline.{empty_outline}
 use Rattle.folders.specs.Shelf.{path_bytes}
-use Rattle.part_drafts.specs.Parts.{KnownPaths}
+use Rattle.gathering.specs.Parts.{KnownPaths}
 use Rattle.part_texts.specs.Divisions.{capped, hashed, total_of}
 use Rattle.part_texts.specs.Listings.{inventory, listed}
 use Rattle.part_texts.specs.declared.listing.ListedFile.{ListedFile}

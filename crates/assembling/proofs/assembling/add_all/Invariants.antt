@@ -1,7 +1,7 @@
 use Rattle.std.proofs.Common.{◌≡◌, ℕ, List, drop, length, map, take}
 use Rattle.std.specs.String.{string_bytes}
 use Rattle.drafts.specs.Outline.{empty_outline}
-use Rattle.part_drafts.specs.Parts.{KnownPaths}
+use Rattle.gathering.specs.Parts.{KnownPaths}
 use Rattle.part_texts.specs.Divisions.{total_of}
 use Rattle.part_texts.specs.Listings.{inventory, listed}
 use Rattle.assembling.specs.Added.{HasAdded}

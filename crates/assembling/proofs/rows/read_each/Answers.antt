@@ -1,6 +1,6 @@
 use Rattle.std.proofs.Common.{◌≡◌, ◌<◌, ◌≤◌, ◌+◌, ◌*◌, ◌++◌, ◌∷◌, [], is_ok, true, length, length-append, length-drop, sym, ◌∙◌, ap, arith}
 use Rattle.std.proofs.lemmas.List.{drop_all, take_all}
-use Rattle.part_drafts.specs.Rows.{joined_hashes}
+use Rattle.gathering.specs.PartRows.{joined_hashes}
 use Rattle.assembling.proofs.Fronts.{push_ok}
 use Rattle.assembling.proofs.Reading.{next_digest, next_rest, product, read_more, some_found}
 use Rattle.assembling.proofs.rows.read_each.Goals as goal

@@ -1,6 +1,6 @@
 use Rattle.std.proofs.Common.{◌≡◌, ℕ, ◌+◌, ◌*◌, ◌++◌, List, drop, length, take}
 use Rattle.drafts.specs.Outline.{AreOfLength}
-use Rattle.part_drafts.specs.Rows.{joined_hashes}
+use Rattle.gathering.specs.PartRows.{joined_hashes}
 use Rattle.assembling.proofs.rows.read_each.Given as goal
 
 abbrev pub invariant-digests : goal.invariant-digests

@@ -2,10 +2,10 @@ use Rattle.std.proofs.Common.{◌≡◌, ◌-◌, ◌<◌, ℕ, List, ap, arith,
 use Rattle.std.specs.Prelude.{Err, Result}
 use Rattle.std.specs.Global.{Vec}
 use Rattle.std.proofs.lemmas.List.{length-map}
-use Rattle.part_drafts.specs.Visits.{HashesPart}
-use Rattle.part_drafts.specs.declared.fault.PartFault.{PartFault}
-use Rattle.part_drafts.specs.declared.fault.PartFault.TheVariants as hashing
-use Rattle.part_drafts.proofs.Gathered.{share_within}
+use Rattle.gathering.specs.PartVisits.{HashesPart}
+use Rattle.gathering.specs.declared.part_fault.PartFault.{PartFault}
+use Rattle.gathering.specs.declared.part_fault.PartFault.TheVariants as hashing
+use Rattle.gathering.proofs.PartHashed.{share_within}
 use Rattle.part_texts.specs.Divisions.{total_of}
 use Rattle.part_texts.specs.Listings.{inventory, listed}
 use Rattle.part_texts.specs.declared.listing.ListedFile.{ListedFile}

@@ -1,6 +1,0 @@
--- Lemmas on hashing one part.
-pub mod Halves
-pub mod Found
-pub mod Gathered
-pub mod Reading
-pub mod Visited

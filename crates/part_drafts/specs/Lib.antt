@@ -1,6 +1,0 @@
--- What contracts of hashing one part cite.
-pub mod Faults
-pub mod Parts
-pub mod Rows
-pub mod Steps
-pub mod Visits
