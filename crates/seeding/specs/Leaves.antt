@@ -51,7 +51,7 @@ abbrev pub ReadsTree : ℕ → List ℕ → SourceSeen → SourceSeen → Result
     → Type 0
 ReadsTree len root old new found =
     (bytes : List ℕ) × GivesContent (IsReadUpTo len) bytes old new
-        × FindsWholeTree len root bytes found
+    × FindsWholeTree len root bytes found
 
 -- how much was read of an opened file of a stated length: all of it and nothing after it, if the
 -- content fits; else a byte past that length at most
