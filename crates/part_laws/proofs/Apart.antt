@@ -30,15 +30,11 @@ use Rattle.part_laws.proofs.SplicedPieces.{good_too, version1_too}
 
 good_verdict : (w : FileVerdict) → is_good w ≡ true → w ≡ file.Good
 good_verdict file.Good good = refl
-good_verdict file.Missing good = let no : ⊥ = cc in absurd no
-good_verdict file.Unreadable good = let no : ⊥ = cc in absurd no
-good_verdict file.WrongLength good = let no : ⊥ = cc in absurd no
-good_verdict (file.Bad q) good = let no : ⊥ = cc in absurd no
+good_verdict w good = let no : ⊥ = cc in absurd no
 
 good_stream : (w : V1Verdict) → stream_is_good (Some w) ≡ true → w ≡ version1.Good
 good_stream version1.Good good = refl
-good_stream version1.NotChecked good = let no : ⊥ = cc in absurd no
-good_stream (version1.Bad q) good = let no : ⊥ = cc in absurd no
+good_stream w good = let no : ⊥ = cc in absurd no
 
 module _ (t : Description) (parts : List PartReport) (own : ℕ → Contents) (files : List FileVerdict) (v1 : Option V1Verdict) (sound : IsSound t)
     (all : AreAllPlaces t parts) (are_true : AreTrueApart t parts own) (join : IsJoin t parts files v1) (agreed : is_yes files v1 ≡ true)

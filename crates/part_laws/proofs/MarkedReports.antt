@@ -9,13 +9,13 @@ use Rattle.folders.specs.Folder.{Contents}
 use Rattle.folders.specs.declared.report.FileVerdict.{FileVerdict}
 use Rattle.parts.specs.MarkedChecks.{AreAllMarked}
 use Rattle.parts.specs.PartLines.{has_place}
-use Rattle.parts.specs.Parts.{IsTruePart, Touches, piece_count}
+use Rattle.parts.specs.Parts.{IsTruePart, piece_count}
 use Rattle.parts.specs.Runs.{AreRunsIn, Run}
 use Rattle.parts.specs.Shares.{share}
 use Rattle.parts.specs.Telling.{AreMarkedRuns, AreToldRuns, has_runs}
 use Rattle.parts.specs.declared.places.Places.{Places}
 use Rattle.parts.proofs.HeldPieces.{piece_touches}
-use Rattle.parts.proofs.PlaceTests.{place_test}
+use Rattle.parts.proofs.PlaceTests.{touch_to_has}
 use Rattle.part_reports.specs.Lines.{CanReportMarked, MarkedPart, part_of}
 use Rattle.part_reports.specs.Marks.{AreRunsWithin}
 use Rattle.part_reports.specs.Reasons.{IsReportOfKind}
@@ -23,12 +23,9 @@ use Rattle.part_reports.specs.declared.kind.Kind.TheVariants as kind
 use Rattle.part_reports.proofs.MarkedFiles.{off_silent, verdict_at}
 use Rattle.part_reports.proofs.Texts.{IsReadSo, IsToldTrue, read_so, read_true}
 use Rattle.part_laws.specs.MarkedTexts.{IsTrueMarkedReport}
-use Rattle.part_laws.proofs.RunsApart.{bad_within}
+use Rattle.part_laws.proofs.RunsApart.{runs_within}
 
 -- ---- true runs
-
-untouched : (t : Description) (r : Places) (f : FileEntry) → has_place t r f ≡ false → Touches t r f → ⊥
-untouched t r f off touched = let on = place_test t r f true (λ _. touched, λ _. refl) in (let x : ⊥ = cc in x)
 
 no_runs_off : (t : Description) (r : Places) (f : FileEntry) (content : Option (List ℕ)) (runs : List Run) → has_place t r f ≡ false → (b : Bool)
     → AreToldRuns (AreRunsIn t r f) b content runs → runs ≡ []
@@ -37,12 +34,13 @@ no_runs_off t r f content [] off true told = refl
 no_runs_off t r f content (x ∷ runs) off true told =
     let one = (told.2.each 0 x refl).0 in
     absurd (one.bad x.first (omega arith) one.order (λ held.
-    absurd (untouched t r f off (piece_touches t r f x.first (omega (arith, one.order, one.inside)) held))))
+    let on = touch_to_has t r f (piece_touches t r f x.first (omega (arith, one.order, one.inside)) held) in (let x : ⊥ = cc in absurd x)))
 
 told_within : (t : Description) (r : Places) (f : FileEntry) (content : Option (List ℕ)) (runs : List Run) (b : Bool)
     → AreToldRuns (AreRunsIn t r f) b content runs → AreRunsWithin 0 (piece_count t f) runs
 told_within t r f content runs false none = subst (AreRunsWithin 0 (piece_count t f)) (sym none) tt
-told_within t r f content runs true told = bad_within (piece_count t f) (piece_count t f) _ runs told.2
+told_within t r f content runs true told =
+    runs_within (piece_count t f) 0 (piece_count t f) (piece_count t f) _ runs told.2 (λ i x at. (omega arith, (told.2.each i x at).0.inside))
 
 -- ---- what was read of a true report is true
 

@@ -49,25 +49,16 @@ good_or_runs : (v w : FileVerdict) → has_runs w ≡ true → NoWorse v w → (
 good_or_runs file.Good w on no_worse = inl refl
 good_or_runs (file.Bad q) w on no_worse = inr refl
 good_or_runs file.WrongLength w on no_worse = inr refl
-good_or_runs file.Unreadable file.Good on no_worse = absurd no_worse
-good_or_runs file.Unreadable (file.Bad p) on no_worse = absurd no_worse
-good_or_runs file.Unreadable file.WrongLength on no_worse = absurd no_worse
-good_or_runs file.Unreadable file.Unreadable on no_worse = let no : ⊥ = cc in absurd no
-good_or_runs file.Unreadable file.Missing on no_worse = let no : ⊥ = cc in absurd no
-good_or_runs file.Missing file.Good on no_worse = absurd no_worse
-good_or_runs file.Missing (file.Bad p) on no_worse = absurd no_worse
-good_or_runs file.Missing file.WrongLength on no_worse = absurd no_worse
-good_or_runs file.Missing file.Unreadable on no_worse = absurd no_worse
-good_or_runs file.Missing file.Missing on no_worse = let no : ⊥ = cc in absurd no
+good_or_runs v (file.Bad p) on no_worse = absurd no_worse
+good_or_runs v file.WrongLength on no_worse = absurd no_worse
+good_or_runs v w on no_worse = let no : ⊥ = cc in absurd no
 
 -- a file with such a verdict has a content
 has_content : (t : Description) (r : Places) (f : FileEntry) (content : Option (List ℕ)) (v : FileVerdict) → has_runs v ≡ true
     → IsPartVerdict t r f content v → (bytes : List ℕ) × (content ≡ Some bytes)
-has_content t r f content file.Good on is = let no : ⊥ = cc in absurd no
-has_content t r f content file.Missing on is = let no : ⊥ = cc in absurd no
-has_content t r f content file.Unreadable on is = let no : ⊥ = cc in absurd no
 has_content t r f content file.WrongLength on is = (is.0, is.1)
 has_content t r f content (file.Bad p) on is = (is.0, is.1)
+has_content t r f content v on is = let no : ⊥ = cc in absurd no
 
 module _ (t : Description) (contents : Contents) (texts : List (List ℕ)) (joined : MarkedReport) (sound : IsSound t)
     (are : AreTrueMarkedReports t contents texts) (j : AreJoinedAs kind.Marked t texts joined)

@@ -1,6 +1,6 @@
 -- What a part tells of bad pieces that is true of its contents can be read.
-use Rattle.std.proofs.Common.{◌≡◌, ◌⊎◌, inl, inr, ℕ, zero, suc, ◌+◌, ◌<◌, ◌≤◌, List, [], ◌∷◌, slice_get, Option, Some}
-use Rattle.std.proofs.Common.{refl, sym, ◌∙◌, subst, arith}
+use Rattle.std.proofs.Common.{◌≡◌, inl, inr, ℕ, zero, suc, ◌+◌, ◌<◌, ◌≤◌, List, [], ◌∷◌, slice_get, Option, Some}
+use Rattle.std.proofs.Common.{refl, sym, ap, ◌∙◌, subst, arith}
 use Rattle.std.proofs.lemmas.Bool.{cases_lt}
 use Rattle.std.proofs.lemmas.Option.{none-some, same_Some}
 use Rattle.opening.specs.Description.{Description, FileEntry}
@@ -18,41 +18,20 @@ use Rattle.part_reports.proofs.MarkedFiles.{verdict_at}
 use Rattle.part_reports.proofs.Texts.{can_report}
 use Rattle.part_laws.specs.MarkedTexts.{TrueMarkedPartsReport}
 use Rattle.part_laws.proofs.MarkedPieces.{good_piece, long_in, own_good}
-use Rattle.part_laws.proofs.RunsApart.{bad_within}
+use Rattle.part_laws.proofs.RunsApart.{runs_within}
 use Rattle.part_laws.proofs.SplicedBytes.{IsLong}
 
 -- ---- runs among places
 
--- runs whose last pieces come before another piece
-end_before : (at to count : ℕ) (runs : List Run) → AreRunsWithin at count runs
-    → ((i : ℕ) (x : Run) → slice_get runs i ≡ Some x → x.last < to) → AreRunsWithin at to runs
-end_before at to count [] are last = tt
-end_before at to count (x ∷ runs) are last =
-    (are.0, are.1, last 0 x refl, end_before (x.last + 2) to count runs are.3 (λ i y there. last (suc i) y there))
-
-between : (from to count : ℕ) (runs : List Run) → AreRunsWithin 0 count runs
-    → ((i : ℕ) (x : Run) → slice_get runs i ≡ Some x → (from ≤ x.first) × (x.last < to)) → AreRunsWithin from to runs
-between from to count [] are inside = tt
-between from to count (x ∷ runs) are inside =
-    let own = inside 0 x refl in
-    (own.0, are.1, own.1, end_before (x.last + 2) to count runs are.3 (λ i y there. (inside (suc i) y there).1))
-
--- a piece is among the places or not
-held_or_not : (r : Places) (x : ℕ) → Holds r x ⊎ (Holds r x → ⊥)
-held_or_not r x = elim (cases_lt x r.from) [
-  | inl before ↦ inr (λ held. omega (arith, before, held.0))
-  | inr from ↦ elim (cases_lt x r.to) [
-    | inl inside ↦ inl (from, inside)
-    | inr past ↦ inr (λ held. omega (arith, past, held.1))
-  ]
-]
-
 module _ (t : Description) (r : Places) (f : FileEntry) (bytes : List ℕ) where
   -- a piece of a run is among the places
   held_bad : (k : ℕ) → (IsGoodIfIn t r f bytes k → ⊥) → Holds r (f.first_piece + k)
-  held_bad k bad = elim (held_or_not r (f.first_piece + k)) [
-    | inl held ↦ held
-    | inr off ↦ absurd (bad (λ held. absurd (off held)))
+  held_bad k bad = elim (cases_lt (f.first_piece + k) r.from) [
+    | inl before ↦ absurd (bad (λ held. absurd (omega (arith, before, held.0))))
+    | inr from ↦ elim (cases_lt (f.first_piece + k) r.to) [
+      | inl inside ↦ (from, inside)
+      | inr past ↦ absurd (bad (λ held. absurd (omega (arith, past, held.1))))
+    ]
   ]
 
   run_inside : (x : Run) → IsBadRun (piece_count t f) (IsGoodIfIn t r f bytes) x → (first_in r f ≤ x.first) × (x.last < end_in t r f)
@@ -63,8 +42,7 @@ module _ (t : Description) (r : Places) (f : FileEntry) (bytes : List ℕ) where
 
   told_inside : (runs : List Run) → AreRunsIn t r f bytes runs → AreRunsWithin (first_in r f) (end_in t r f) runs
   told_inside runs are =
-      between (first_in r f) (end_in t r f) (piece_count t f) runs (bad_within (piece_count t f) (piece_count t f) _ runs are)
-      (λ i x at. run_inside x (are.each i x at).0)
+      runs_within (piece_count t f) (first_in r f) (end_in t r f) (piece_count t f) _ runs are (λ i x at. run_inside x (are.each i x at).0)
 
   -- ---- the first run
 
@@ -83,10 +61,7 @@ module _ (t : Description) (r : Places) (f : FileEntry) (bytes : List ℕ) where
       )
     where
       first_one : (i : ℕ) → slice_get (y ∷ runs) i ≡ Some x → k ≤ y.first → y.first ≡ k
-      first_one zero at late = omega (arith, late, low, same_first (same_Some y x at))
-        where
-          same_first : y ≡ x → y.first ≡ x.first
-          same_first is = subst (λ (z : Run). y.first ≡ z.first) is refl
+      first_one zero at late = (let same : y.first ≡ x.first = ap (λ (z : Run). z.first) (same_Some y x at) in omega (arith, late, low, same))
       first_one (suc i) at late =
           let after = are.ascend 0 (suc i) y x (omega arith) refl at in
           absurd (omega (arith, after, late, low, (are.each 0 y refl).0.order))
@@ -113,14 +88,12 @@ begins_at_bad t n r f bytes p runs sound there bad are =
 
 can_tell : (t : Description) (n : ℕ) (r : Places) (f : FileEntry) (content : Option (List ℕ)) (v : FileVerdict) (runs : List Run) → IsSound t
     → slice_get t.files n ≡ Some f → IsPartVerdict t r f content v → AreMarkedRuns t r f content v runs → CanTell t r f v (has_runs v) runs
-can_tell t n r f content file.Good runs sound there is told = told
-can_tell t n r f content file.Missing runs sound there is told = told
-can_tell t n r f content file.Unreadable runs sound there is told = told
 can_tell t n r f content file.WrongLength runs sound there is told = (told_inside t r f told.0 runs told.2, tt)
 can_tell t n r f content (file.Bad p) runs sound there is told =
     let same : is.0 ≡ told.0 = same_Some is.0 told.0 (sym is.1 ∙ told.1) in
     let bad = subst (λ b. IsBadIn t r f b p) same is.2 in
     (told_inside t r f told.0 runs told.2, begins_at_bad t n r f told.0 p runs sound there bad told.2)
+can_tell t n r f content v runs sound there is told = told
 
 pub true_marked_parts_report : TrueMarkedPartsReport
 true_marked_parts_report t contents part count marked v1 sound there small are runs off = record {

@@ -1,10 +1,11 @@
 -- The reasons of the faults of a join.
-use Rattle.std.proofs.Common.{◌≡◌, ◌≢◌, ℕ, suc, ◌+◌, ◌<◌, ◌^◌, Bool, true, false, nat_eq, ◌||◌, List, [], zero}
-use Rattle.std.proofs.Common.{◌∷◌, ◌++◌, length, slice_get, Some, inl, inr, refl, sym, ap, ap₂, subst, ◌∙◌, append-nil, arith}
+use Rattle.std.proofs.Common.{◌≡◌, ◌≢◌, ℕ, suc, ◌+◌, ◌<◌, ◌^◌, true, false, nat_eq, List, []}
+use Rattle.std.proofs.Common.{◌∷◌, ◌++◌, length, get_or, slice_get, Some, inl, inr, refl, sym, ap, ap₂, subst, ◌∙◌, append-nil, arith}
 use Rattle.std.specs.List.{list_any}
-use Rattle.std.proofs.lemmas.Bool.Decides.{nat_tests}
-use Rattle.std.proofs.lemmas.Option.{none-some, same_Some, slice_get_within}
-use Rattle.chains.proofs.Cases.{item_at, or_right}
+use Rattle.std.proofs.lemmas.Bool.{eq-eqb, eqb-true}
+use Rattle.std.proofs.lemmas.List.Folds.{Any-from_list_any, list_any_at}
+use Rattle.std.proofs.lemmas.Option.{get_or_from_slice_get, none-some, same_Some, slice_get-get_or, slice_get_within}
+use Rattle.chains.proofs.Cases.{item_at}
 use Rattle.opening.proofs.SoundTrees.{push_at}
 use Rattle.opening.specs.Description.{Description, FileEntry}
 use Rattle.folders.specs.declared.report.FileVerdict.{FileVerdict}
@@ -258,31 +259,15 @@ no_reason k t texts e all why = no_reason_of k t texts all e why
 
 -- ---- numbers among others
 
-same_number : (a b : ℕ) → nat_eq a b ≡ true → a ≡ b
-same_number a b is = grind (arith, nat_tests, is)
-
 -- a number that a list has stands somewhere
 pub any_at : (part : ℕ) (parts : List ℕ) → list_any (λ y. nat_eq y part) parts ≡ true → (j : ℕ) × (slice_get parts j ≡ Some part)
-any_at part [] is = (let x : ⊥ = cc in absurd x)
-any_at part (y ∷ ys) is = by_test (nat_eq y part) refl (λ rest. any_at part ys rest)
-  where
-    by_test : (b : Bool) → nat_eq y part ≡ b → (list_any (λ z. nat_eq z part) ys ≡ true → (j : ℕ) × (slice_get ys j ≡ Some part))
-        → (j : ℕ) × (slice_get (y ∷ ys) j ≡ Some part)
-    by_test true same later = (0, ap Some (same_number y part same))
-    by_test false other later = let l = later (or_right (nat_eq y part) (list_any (λ z. nat_eq z part) ys) other is) in (suc l.0, l.1)
+any_at part parts is =
+    let found = Any-from_list_any (λ y. nat_eq y part) parts is in
+    (found.0, slice_get-get_or parts found.0 found.1 found.2 ∙ ap Some (found.3 ∙ eqb-true found.1 part found.4))
 
 -- and one that it does not have stands nowhere
 pub none_at : (part : ℕ) (parts : List ℕ) → list_any (λ y. nat_eq y part) parts ≡ false → (j : ℕ) → slice_get parts j ≢ Some part
-none_at part [] is j at = (let x : ⊥ = cc in absurd x)
-none_at part (y ∷ ys) is zero at = not_first y part (same_Some y part at) is
-  where
-    not_first : (y p : ℕ) → y ≡ p → (nat_eq y p || list_any (λ z. nat_eq z part) ys) ≡ false → ⊥
-    not_first y p same off =
-        let test : nat_eq y p ≡ true = grind (arith, nat_tests, same) in
-        let on : (nat_eq y p || list_any (λ z. nat_eq z part) ys) ≡ true = ap (λ b. b || list_any (λ z. nat_eq z part) ys) test in
-        (let x : ⊥ = cc in x)
-none_at part (y ∷ ys) is (suc j) at = none_at part ys (rest_is (nat_eq y part) is) j at
-  where
-    rest_is : (b : Bool) → (b || list_any (λ z. nat_eq z part) ys) ≡ false → list_any (λ z. nat_eq z part) ys ≡ false
-    rest_is true is = (let x : ⊥ = cc in absurd x)
-    rest_is false is = is
+none_at part parts is j at =
+    let on = list_any_at (λ y. nat_eq y part) parts j 0 (slice_get_within parts j part at)
+    (eq-eqb (get_or parts j 0) part (get_or_from_slice_get parts j part 0 at)) in
+    (let x : ⊥ = cc in x)

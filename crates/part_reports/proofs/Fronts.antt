@@ -20,6 +20,13 @@ front_len p (d ∷ run) c rest all stops =
     let both = and_parts (p d) (list_all p run) all in
     rw (both.0, front_len p run c rest both.1 stops) (omega arith)
 
+-- the run, cut off in front of that byte
+pub front_run : (p : ℕ → Bool) (text run : List ℕ) (c k : ℕ) (rest : List ℕ) → list_all p run ≡ true → p c ≡ false → text ≡ run ++ c ∷ rest
+    → k ≡ prefix_len p text → (take k text ≡ run) × (drop k text ≡ c ∷ rest)
+front_run p text run c k rest all stops is length_is =
+    let len : k ≡ length run = length_is ∙ ap (prefix_len p) is ∙ front_len p run c rest all stops in
+    (ap (take k) is ∙ take_at run (c ∷ rest) k (sym len), ap (drop k) is ∙ drop_at run (c ∷ rest) k (sym len))
+
 digit_test : (c : ℕ) → digit_value c < 10 → is_ascii_digit c ≡ true
 digit_test c h = grind (arith, nat_tests, h)
 
@@ -30,10 +37,6 @@ all_digits (c ∷ cs) all = rw (digit_test c all.0, all_digits cs all.1) refl
 pub decimal_digits : (n : ℕ) → n < 2 ^ 64 → list_all is_ascii_digit (decimal n) ≡ true
 decimal_digits n small = all_digits (decimal n) (decimal_is_IsNumeral n small).0.1
 
--- the digits of a number stand before a byte that is none
-pub decimal_len : (n c : ℕ) (rest : List ℕ) → n < 2 ^ 64 → is_ascii_digit c ≡ false → prefix_len is_ascii_digit (decimal n ++ c ∷ rest) ≡ length (decimal n)
-decimal_len n c rest small stops = front_len is_ascii_digit (decimal n) c rest (decimal_digits n small) stops
-
 pub decimal_utf8 : (n : ℕ) (digits : List ℕ) → n < 2 ^ 64 → digits ≡ decimal n → IsUtf8 digits
 decimal_utf8 n digits small is = subst IsUtf8 (sym is) (IsUtf8-from_ascii (decimal n) (IsAscii-decimal n small))
 
@@ -41,19 +44,10 @@ decimal_utf8 n digits small is = subst IsUtf8 (sym is) (IsUtf8-from_ascii (decim
 abbrev pub is_in_line : ℕ → Bool
 is_in_line b = not (b == 10)
 
--- the bytes before the first line feed
-pub line_front : (text line more : List ℕ) (k : ℕ) → list_all is_in_line line ≡ true → text ≡ line ++ 10 ∷ more → k ≡ prefix_len is_in_line text
-    → take k text ≡ line
-line_front text line more k inside is length_is =
-    let len : k ≡ length line = length_is ∙ ap (prefix_len is_in_line) is ∙ front_len is_in_line line 10 more inside refl in
-    ap (take k) is ∙ take_at line (10 ∷ more) k (sym len)
-
 -- the digits of a number, cut off in front of a byte that is none
 pub front_digits : (text : List ℕ) (n c k : ℕ) (more : List ℕ) → n < 2 ^ 64 → is_ascii_digit c ≡ false → text ≡ decimal n ++ c ∷ more
     → k ≡ prefix_len is_ascii_digit text → (take k text ≡ decimal n) × (drop k text ≡ c ∷ more)
-front_digits text n c k more small stops is length_is =
-    let len : k ≡ length (decimal n) = length_is ∙ ap (prefix_len is_ascii_digit) is ∙ decimal_len n c more small stops in
-    (ap (take k) is ∙ take_at (decimal n) (c ∷ more) k (sym len), ap (drop k) is ∙ drop_at (decimal n) (c ∷ more) k (sym len))
+front_digits text n c k more small stops is length_is = front_run is_ascii_digit text (decimal n) c k more (decimal_digits n small) stops is length_is
 
 -- a number has a digit
 some_digits : (n : ℕ) → n < 2 ^ 64 → (d : ℕ) × (ds : List ℕ) × (decimal n ≡ d ∷ ds) × (is_no_digit d ≡ false)
@@ -70,10 +64,7 @@ pub behind_front : (text front : List ℕ) (n : ℕ) (more : List ℕ) (k : ℕ)
 behind_front text front n more k none small is length_is =
     let digits = some_digits n small in
     let begins : decimal n ++ more ≡ digits.0 ∷ (digits.1 ++ more) = ap (λ x. x ++ more) digits.2 in
-    let whole : text ≡ front ++ digits.0 ∷ (digits.1 ++ more) = is ∙ ap (λ x. front ++ x) begins in
-    let len : k ≡ length front = length_is ∙ ap (prefix_len is_no_digit) whole
-    ∙ front_len is_no_digit front digits.0 (digits.1 ++ more) none digits.3 in
-    ap (drop k) is ∙ drop_at front (decimal n ++ more) k (sym len)
+    (front_run is_no_digit text front digits.0 k (digits.1 ++ more) none digits.3 (is ∙ ap (λ x. front ++ x) begins) length_is).1 ∙ sym begins
 
 -- what is read of a number at the front, and of what follows it
 abbrev pub AreRead : ℕ → List ℕ → ℕ → List ℕ → Type 0

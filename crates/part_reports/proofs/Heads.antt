@@ -17,7 +17,7 @@ use Rattle.part_reports.specs.Heads.{HasHead, first_line}
 use Rattle.part_reports.specs.declared.kind.Kind.{Kind}
 use Rattle.part_reports.specs.declared.kind.Kind.TheVariants as kind
 use Rattle.part_reports.specs.Scan.{is_no_digit}
-use Rattle.part_reports.proofs.Fronts.{front_digits, is_in_line, line_front, same_pair}
+use Rattle.part_reports.proofs.Fronts.{front_digits, front_run, is_in_line, same_pair}
 
 -- two numbers that stand in front of one text, each before a byte that is no digit, are one
 pub one_number : (n m c d : ℕ) (xs ys : List ℕ) → n < 2 ^ 64 → m < 2 ^ 64 → is_ascii_digit c ≡ false → is_ascii_digit d ≡ false
@@ -118,8 +118,8 @@ one_head k text p n q m h g one other =
     let second = one_number n m 32 32 xs ys one.small other.small refl refl (ap (drop 1) first.1) in
     let rest : xs ≡ ys = ap (drop 1) second.1 in
     let len : ℕ = prefix_len is_in_line xs in
-    let words = sym (line_front xs (hash_words k h) one.more len (words_inside k h) refl refl)
-    ∙ line_front xs (hash_words k g) other.more len (words_inside k g) rest refl in
+    let words = sym (front_run is_in_line xs (hash_words k h) 10 len one.more (words_inside k h) refl refl refl).0
+    ∙ (front_run is_in_line xs (hash_words k g) 10 len other.more (words_inside k g) refl rest refl).0 in
     (omega (arith, first.0), second.0, same_words k h g words)
 
 -- and that tells one info-hash

@@ -1,12 +1,13 @@
 -- The readings of the lines of a part's files.
-use Rattle.std.proofs.Common.{◌≡◌, ℕ, ◌+◌, ◌<◌, Bool, true, false, List, ◌∷◌}
+use Rattle.std.proofs.Common.{◌≡◌, ℕ, ◌+◌, ◌<◌, Bool, true, false, List}
 use Rattle.std.proofs.Common.{◌++◌, length, drop, set, slice_get}
-use Rattle.std.proofs.Common.{Option, Some, inl, inr, sym, ap, ◌∙◌, subst, arith}
+use Rattle.std.proofs.Common.{Option, Some, inl, inr, sym, ap, ap₂, ◌∙◌, subst, arith}
 use Rattle.std.proofs.lemmas.Bool.{cases_lt}
 use Rattle.std.proofs.lemmas.Grind.{flat_map-append}
-use Rattle.std.proofs.lemmas.List.{drop_more, length-map, length-set}
+use Rattle.std.proofs.lemmas.List.{length-map, length-set}
 use Rattle.std.proofs.lemmas.List.{get_or-set_other, get_or-set_same}
-use Rattle.std.proofs.lemmas.Option.{slice_get-get_or, slice_get_past, slice_get_within, get_or_from_slice_get}
+use Rattle.std.proofs.lemmas.Option.{slice_get-get_or, slice_get_past}
+use Rattle.chains.proofs.Cases.{drop_item}
 use Rattle.opening.specs.Description.{Description, FileEntry}
 use Rattle.opening.specs.Sound.{IsSound}
 use Rattle.folders.specs.Verdicts.{is_yes}
@@ -18,7 +19,7 @@ use Rattle.parts.specs.Runs.{Run}
 use Rattle.parts.specs.Spans.{end_in, first_in}
 use Rattle.parts.specs.Telling.{has_runs}
 use Rattle.parts.specs.declared.places.Places.{Places}
-use Rattle.parts.proofs.SharedPlaces.{sum_next}
+use Rattle.parts.proofs.SharedPlaces.{few_pieces}
 use Rattle.parts.specs.Parts.{piece_count}
 use Rattle.parts.specs.PartLines.{part_end_rows}
 use Rattle.lines.specs.Rows.{spell}
@@ -48,10 +49,7 @@ at_same xs i x lt = slice_get-get_or (set xs i x) i x (omega (arith, lt, length-
 -- what a part can say of a file of a sound torrent has a small number
 pub says_small : (t : Description) (r : Places) (n : ℕ) (f : FileEntry) (v : FileVerdict) → IsSound t → slice_get t.files n ≡ Some f → CanSay t r f v
     → IsSmall v
-says_small t r n f (file.Bad p) sound there can =
-    let pieces : FileEntry → ℕ = λ g. piece_count t g in
-    let end = sum_next pieces t n f there in
-    omega (arith, can.1.to, end.1, sound.laid_out.first_pieces n f there, sound.laid_out.pieces)
+says_small t r n f (file.Bad p) sound there can = omega (arith, can.1.to, few_pieces t f sound (n, there))
 says_small t r n f v sound there can = tt
 
 marks_within : (k : Kind) (t : Description) (r : Places) (f : FileEntry) (v : FileVerdict) (runs : List Run) → CanMark k t r f v runs
@@ -99,16 +97,11 @@ pub next_told : (k : Kind) (t : Description) (r : Places) (lines : List ℕ) (ma
     (f : FileEntry) (x : FileVerdict × List Run) (rest : List ℕ) → IsSound t → Reading k t r lines marked v1 → slice_get t.files i ≡ Some f
     → slice_get marked i ≡ Some x → rest ≡ left_of t r marked v1 i → TellsOfFile k t r f rest x.0 x.1 (left_of t r marked v1 (i + 1))
 next_told k t r lines marked v1 i f x rest sound reading there at rest_is =
-    let marked_is : drop i marked ≡ x ∷ drop (i + 1) marked =
-    drop_more marked i x (slice_get_within marked i x at) ∙ ap (λ y. y ∷ drop (i + 1) marked) (get_or_from_slice_get marked i x x at) in
-    let files_is : drop i t.files ≡ f ∷ drop (i + 1) t.files =
-    drop_more t.files i f (slice_get_within t.files i f there) ∙ ap (λ g. g ∷ drop (i + 1) t.files) (get_or_from_slice_get t.files i f f there) in
     record {
       can = reading.can.says i f x.0 there (verdict_at marked i x at);
       can_mark = reading.marks i f x there at;
       is = rest_is
-          ∙ ap (λ m. spell text_of (marked_place_rows t r m (drop i t.files)) ++ end_of marked v1) marked_is
-          ∙ ap (λ fs. spell text_of (marked_place_rows t r (x ∷ drop (i + 1) marked) fs) ++ end_of marked v1) files_is
+          ∙ ap₂ (λ m fs. spell text_of (marked_place_rows t r m fs) ++ end_of marked v1) (drop_item marked i x at) (drop_item t.files i f there)
           ∙ rows_then (marked_rows t r f x.0 x.1) (marked_place_rows t r (drop (i + 1) marked) (drop (i + 1) t.files)) (end_of marked v1);
       ends = files_no_run t r (drop (i + 1) t.files) (drop (i + 1) marked) (end_of marked v1)
           (λ n g y there at. can_clear k t r marked sound reading.can.says reading.marks (i + 1 + n) g y (at_drop t.files (i + 1) n g there)

@@ -38,7 +38,7 @@ same_file t r f x y xs ys sound own one other none nor is = by_place (has_place 
         let line = same_line f x.0 y.0 (spell text_of (runs_rows t f x.1) ++ xs) (spell text_of (runs_rows t f y.1) ++ ys) one.small other.small
         (sym (on_text t r f x xs on) ∙ is ∙ on_text t r f y ys on) in
         let all : piece_count t f ≤ piece_count t f = omega arith in
-        let runs = greedy t f 0 (piece_count t f) x.1 y.1 xs ys sound own all one.runs other.runs line.1 nor
+        let runs = greedy t f (piece_count t f) sound own all 0 x.1 y.1 xs ys one.runs other.runs line.1 nor
         (λ has. none (_, has.2.1 ∙ run_front t f has.0 has.2.0)) in
         let pair : FileVerdict → List Run → FileVerdict × List Run = λ v rs. (v, rs) in
         (λ held. ap₂ pair line.0 runs.0, runs.1)

@@ -2,6 +2,7 @@
 use Rattle.std.proofs.Common.{◌≡◌, ℕ, zero, suc, ◌-◌, ◌<◌, ◌^◌, Bool, true, false, List, [], ◌∷◌, ◌++◌, length, map, slice_get, Option, Some, is_some}
 use Rattle.std.proofs.Common.{refl, sym, ap, subst, ◌∙◌, arith}
 use Rattle.std.proofs.lemmas.Grind.{flat_map-append}
+use Rattle.std.proofs.lemmas.Bool.{true_from_ne_false}
 use Rattle.std.proofs.lemmas.List.{length-map}
 use Rattle.std.proofs.lemmas.Option.{none-some, same_Some, slice_get_within}
 use Rattle.chains.proofs.Cases.{item_at, some_of}
@@ -19,8 +20,8 @@ use Rattle.parts.specs.Parts.{IsPartV1, IsPartVerdict, IsTruePart, PartReport, p
 use Rattle.parts.specs.Runs.{Run}
 use Rattle.parts.specs.Shares.{share}
 use Rattle.parts.specs.declared.places.Places.{Places}
-use Rattle.parts.proofs.PlaceTests.{place_test}
-use Rattle.parts.proofs.SharedPlaces.{sum_next}
+use Rattle.parts.proofs.PlaceTests.{touch_to_has}
+use Rattle.parts.proofs.SharedPlaces.{few_pieces}
 use Rattle.lines.specs.Texts.{text_of}
 use Rattle.part_reports.specs.Heads.{HasHead, first_line}
 use Rattle.part_reports.specs.Joined.{AreJoined, AreJoinedOf, report_text_of}
@@ -42,20 +43,16 @@ use Rattle.part_reports.proofs.TextReads.{part_at}
 
 -- ---- what a part can say
 
-on_true : (b : Bool) → (b ≡ false → ⊥) → b ≡ true
-on_true true not = refl
-on_true false not = absurd (not refl)
-
 -- what is true of a file, and says nothing of one that has no place there, can be said
 can_say : (t : Description) (r : Places) (f : FileEntry) (content : Option (List ℕ)) (v : FileVerdict)
     → (has_place t r f ≡ false → v ≡ file.Good) → IsPartVerdict t r f content v → CanSay t r f v
 can_say t r f content file.Good off is = tt
 can_say t r f content (file.Bad p) off is =
     let bad = is.2 in (
-      on_true (has_place t r f) (λ no. let e = off no in (let x : ⊥ = cc in absurd x)),
+      true_from_ne_false (has_place t r f) (λ no. let e = off no in (let x : ⊥ = cc in absurd x)),
       record { from = omega (arith, bad.place_is); to = omega (arith, bad.place_is, bad.inside); held = bad.held },
     )
-can_say t r f content v off is = on_true (has_place t r f) (λ no. let e = off no in (let x : ⊥ = cc in absurd x))
+can_say t r f content v off is = true_from_ne_false (has_place t r f) (λ no. let e = off no in (let x : ⊥ = cc in absurd x))
 
 can_say_v1 : (t : Description) (v : Version1) (r : Places) (contents : Contents) (w : V1Verdict) → IsPartV1 t v r contents w
     → CanSayV1 r (place_count t - 1) w
@@ -87,11 +84,7 @@ bare_verdicts (v ∷ files) = ap (λ vs. v ∷ vs) (bare_verdicts files)
 
 bare_at : (files : List FileVerdict) (n : ℕ) (x : FileVerdict × List Run) → slice_get (bare files) n ≡ Some x → x.1 ≡ []
 bare_at [] n x at = absurd (none-some x at)
-bare_at (v ∷ files) zero x at =
-    let none : List Run = [] in
-    let runs_of : FileVerdict × List Run → List Run = λ y. y.1 in
-    let one : FileVerdict × List Run = (v, none) in
-    ap runs_of (sym (same_Some one x at))
+bare_at (v ∷ files) zero x at = ap (λ (y : FileVerdict × List Run). y.1) (sym (same_Some (v, []) x at))
 bare_at (v ∷ files) (suc n) x at = bare_at files n x at
 
 -- such verdicts as a part reports them
@@ -118,11 +111,7 @@ true_parts_report t contents part count files v1 there small are off =
 -- true verdicts have small numbers
 small_verdict : (t : Description) (r : Places) (n : ℕ) (f : FileEntry) (content : Option (List ℕ)) (v : FileVerdict) → IsSound t
     → slice_get t.files n ≡ Some f → IsPartVerdict t r f content v → IsSmall v
-small_verdict t r n f content (file.Bad p) sound there is =
-    let pieces : FileEntry → ℕ = λ g. piece_count t g in
-    let end = sum_next pieces t n f there in
-    let bad = is.2 in
-    omega (arith, bad.place_is, bad.inside, end.1, sound.laid_out.first_pieces n f there, sound.laid_out.pieces)
+small_verdict t r n f content (file.Bad p) sound there is = omega (arith, is.2.place_is, is.2.inside, few_pieces t f sound (n, there))
 small_verdict t r n f content v sound there is = tt
 
 small_v1 : (t : Description) (r : Places) (v : V1Verdict) → IsSound t → CanSayV1 r (place_count t - 1) v → IsSmallV1 v
@@ -216,7 +205,7 @@ read_true k t contents part count text told sound is p n report =
     by_place r n f v w true on say is_w same = subst (IsPartVerdict t r f (contents n)) (sym (same on)) is_w
     by_place r n f v w false off say is_w same =
         subst (IsPartVerdict t r f (contents n)) (sym (off_good t r f v off say)) (λ touched.
-        let on = place_test t r f true (λ _. touched, λ _. refl) in (let x : ⊥ = cc in absurd x))
+        let on = touch_to_has t r f touched in (let x : ⊥ = cc in absurd x))
 
 pub read_plainly : (t : Description) (contents : Contents) (text : List ℕ) → IsSound t → IsTrueReport t contents text
     → ReadsTrue kind.Plain t contents text

@@ -1,13 +1,15 @@
 //! The lines of the runs of bad pieces of a file in a report, read again.
-ghost use Rattle.std.specs.Prelude.{◌≡◌, ◌↔◌, ℕ, ◌+◌, ◌-◌, ◌*◌, ◌<◌, ◌≤◌, ◌^◌, List, ◌∷◌, ◌++◌, codes, decimal, length, IsTrue, MatchOption, Some};
+ghost use Rattle.std.specs.Prelude.{◌≡◌, ◌↔◌, ℕ, ◌+◌, ◌-◌, ◌*◌, ◌<◌, ◌≤◌, List, ◌++◌, length, IsTrue, MatchOption};
 ghost use Rattle.folders.specs.Verdicts.{IsFileOf};
+ghost use Rattle.opening.specs.Description.{FileEntry};
 ghost use Rattle.opening.specs.Seen.{file_entry};
 ghost use Rattle.parts.specs.Parts.{piece_count as pieces_in};
-ghost use Rattle.parts.specs.Runs.{run_row};
+ghost use Rattle.parts.specs.Runs.{Run, run_row};
 ghost use Rattle.parts.specs.Spans.{end_in, first_in};
 ghost use Rattle.lines.specs.Texts.{text_of};
 ghost use Rattle.part_reports.specs.Lines.{HasRuns, ReadsRuns};
-ghost use Rattle.part_reports.specs.RunLines.{BeginsRightly, HasOneRun, IsRunWithin, ReadsAll};
+ghost use Rattle.part_reports.specs.Marks.{BeginsAtBad};
+ghost use Rattle.part_reports.specs.RunLines.{HasNumbers, HasOneRun, IsRunWithin, ReadsAll, first_bad};
 
 use crate::marked_report::BadPieces;
 use crate::words::first_number;
@@ -38,12 +40,12 @@ pub(crate) fn read_runs<'a>(
     if !has_runs(verdict) {
         return Some(text);
     }
-    let from = first_in(places, file);
-    let to = end_in(torrent, places, file);
-    if !begins_rightly(torrent, file, from, to, verdict, text) {
-        return None;
+    let (piece, rest) = read_all(torrent, file, places, text, bad);
+    if begins_rightly(verdict, piece) {
+        Some(rest)
+    } else {
+        None
     }
-    Some(read_all(torrent, file, from, to, text, bad))
 }
 
 // The number within the file of the first of its pieces that is among these places.
@@ -61,56 +63,44 @@ fn end_in(torrent: &Torrent<'_>, places: Places, file: &File<'_>) -> u64
     places.to.saturating_sub(file.first_piece).min(count)
 }
 
-// Whether the first of the runs begins with the piece that the verdict names, if it names one.
-fn begins_rightly(
-    torrent: &Torrent<'_>,
-    file: &File<'_>,
-    from: u64,
-    to: u64,
-    verdict: FileVerdict,
-    text: &[u8],
-) -> bool
-    requires file { IsFileOf torrent.now (file_entry file.now) }
-    requires inside { to ≤ pieces_in torrent.now (file_entry file.now) }
-    ensures { IsTrue result ↔ BeginsRightly torrent.now (file_entry file.now) from to verdict
-        text.now }
+// Whether this first of the bad pieces is the one that the verdict names, if it names one.
+fn begins_rightly(verdict: FileVerdict, first: Option<u64>) -> bool
+    ensures { (f : FileEntry) (runs : List Run) → first ≡ first_bad f runs
+        → IsTrue result ↔ BeginsAtBad f verdict runs }
 {
-    torrent.recall_sound();
     match verdict {
-        FileVerdict::Bad(piece) => match read_run(torrent, file, from, to, text) {
-            Some((first, _, _)) => file.first_piece + first == piece,
-            None => false,
-        },
+        FileVerdict::Bad(piece) => first == Some(piece),
         _ => true,
     }
 }
 
-// Reads all runs of pieces of a file from one on and before another, and marks their pieces. Gives
-// what follows them.
+// Reads all runs of pieces of a file among these places, and marks their pieces. Gives the first of
+// the pieces, and what follows the runs.
 fn read_all<'a>(
     torrent: &Torrent<'_>,
     file: &File<'_>,
-    from: u64,
-    to: u64,
+    places: Places,
     text: &'a [u8],
     bad: &mut BadPieces,
-) -> &'a [u8]
+) -> (Option<u64>, &'a [u8])
     requires file { IsFileOf torrent.now (file_entry file.now) }
-    requires inside { to ≤ pieces_in torrent.now (file_entry file.now) }
     requires room { let f = file_entry file.now in
         f.first_piece + pieces_in torrent.now f ≤ 8 * length bad.old.bits.items }
-    ensures { ReadsAll torrent.now (file_entry file.now) from to text.now result.now bad.old
-        bad.new }
+    ensures { ReadsAll torrent.now places (file_entry file.now) text.now result.0 result.1.now
+        bad.old bad.new }
 {
     torrent.recall_sound();
+    let to = end_in(torrent, places, file);
+    let mut at = first_in(places, file);
+    let mut piece = None;
     let mut rest = text;
-    let mut at = from;
     'runs: while let Some((first, end, behind)) = read_run(torrent, file, at, to, rest) {
         bad.mark(file.first_piece + first, file.first_piece + end);
+        piece = piece.or(Some(file.first_piece + first));
         at = end + 1;
         rest = behind;
     }
-    rest
+    (piece, rest)
 }
 
 // The run whose line stands at the front, from one piece up to another, and what follows it. It is
@@ -143,9 +133,8 @@ fn read_run<'a>(
 
 // The numbers of the first and the last piece of the run whose line stands at the front.
 fn run_numbers(text: &[u8]) -> Option<(u64, u64)>
-    ensures { (n m : ℕ) (more : List ℕ) → n < 2 ^ 64 → m < 2 ^ 64
-        → text.now ≡ codes "bad pieces " ++ (decimal n ++ 32 ∷ (decimal m ++ 32 ∷ more))
-        → result ≡ Some (n, m) }
+    ensures { (n m : ℕ) → HasNumbers n m text.now
+        → MatchOption result ⊥ (λ x. (x.0 ≡ n) × (x.1 ≡ m)) }
 {
     let (first, behind) = first_number(text)?;
     let (last, _) = first_number(behind)?;

@@ -1,9 +1,9 @@
-use Rattle.std.proofs.Common.{◌≡◌, ◌+◌, ◌-◌, ◌++◌, ℕ, sym, ap, ap₂, ◌∙◌, arith}
+use Rattle.std.proofs.Common.{◌≡◌, ◌+◌, ◌-◌, ◌++◌, sym, ap, ◌∙◌, arith}
 use Rattle.opening.specs.Seen.{file_entry}
 use Rattle.parts.specs.Runs.{Run, run_row}
 use Rattle.lines.specs.Texts.{text_of}
 use Rattle.part_reports.specs.RunLines.{HasOneRun}
-use Rattle.part_reports.proofs.RunLines.{no_numbers, numbers_are}
+use Rattle.part_reports.proofs.RunLines.{numbers_of, same_run}
 use Rattle.part_reports.proofs.runs.read_run.Goals.{then-from-at-via-then-from-at, then-from-at-via-else-from-at+then-end-from}
 use Rattle.part_reports.proofs.runs.read_run.Goals.{then-from-at-via-else-from-at+else-end-from+then-to-end}
 use Rattle.part_reports.proofs.runs.read_run.Goals.{In_ok-first}
@@ -11,15 +11,17 @@ use Rattle.part_reports.proofs.runs.read_run.Goals as goal
 
 pub returns-in_err-first : goal.returns-in_err-first
 returns-in_err-first c = rw c.from_residual.ensures (λ has.
-    no_numbers c.args.torrent.now (file_entry c.args.file.now) c.args.at c.args.to c.args.text.now c.recall_sound.ensures c.requires.file c.requires.inside
-    c.in_err-first.ensures has)
+    c.in_err-first.ensures _ _
+    (numbers_of c.args.torrent.now (file_entry c.args.file.now) c.args.to c.recall_sound.ensures c.requires.file c.requires.inside c.args.at c.args.text.now
+    has))
 
 -- the numbers that were read are those of a run that stands there
 are : (c : In_ok-first) → (has : HasOneRun c.args.torrent.now (file_entry c.args.file.now) c.args.at c.args.to c.args.text.now)
     → (c.in_ok-first.first ≡ (file_entry c.args.file.now).first_piece + has.0.first)
     × (c.in_ok-first.last ≡ (file_entry c.args.file.now).first_piece + has.0.last)
-are c has = numbers_are c.args.torrent.now (file_entry c.args.file.now) c.args.at c.args.to c.args.text.now c.in_ok-first.first c.in_ok-first.last
-    c.recall_sound.ensures c.requires.file c.requires.inside c.in_ok-first.ensures has
+are c has = c.in_ok-first.ensures _ _
+    (numbers_of c.args.torrent.now (file_entry c.args.file.now) c.args.to c.recall_sound.ensures c.requires.file c.requires.inside c.args.at c.args.text.now
+    has)
 
 pub returns-in_err-from : goal.returns-in_err-from
 returns-in_err-from c = rw c.from_residual-in_err-from.ensures (λ has.
@@ -52,12 +54,11 @@ pub returns-in_err-rest : goal.returns-in_err-rest
 returns-in_err-rest c = rw c.from_residual-in_err-rest.ensures (λ has.
     let t = c.args.torrent.now in
     let f = file_entry c.args.file.now in
-    let r = has.0 in
     let are = are (goal.at.returns-in_err-rest c).In_ok-first has in
-    let first : c.in_ok-from.from ≡ r.first = omega (arith, are.0, c.in_ok-from.ensures.1) in
-    let last : c.in_ok-end.end - 1 ≡ r.last = omega (arith, are.1, c.in_ok-checked_sub.ensures.1, c.in_ok-end.ensures.1) in
-    let run : ℕ → ℕ → Run = λ a b. record { first = a; last = b } in
-    c.in_err-rest.ensures (has.2.0, has.2.1 ∙ ap (λ s. text_of (run_row t f s) ++ has.2.0) (sym (ap₂ run first last))))
+    let r : Run = record { first = c.in_ok-from.from; last = c.in_ok-end.end - 1 } in
+    let same = same_run r has.0 (omega (arith, are.0, c.in_ok-from.ensures.1))
+    (omega (arith, are.1, c.in_ok-checked_sub.ensures.1, c.in_ok-end.ensures.1)) in
+    c.in_err-rest.ensures (has.2.0, has.2.1 ∙ ap (λ s. text_of (run_row t f s) ++ has.2.0) (sym same)))
 
 pub returns : goal.returns
 returns c = (
