@@ -77,9 +77,9 @@ abbrev pub ReadsStated : ℕ → SourceSeen → SourceSeen → HeldSeen → Held
     → Result Read DeviceFault → Type 0
 ReadsStated size old new h h' (Ok read.Held) =
     (bytes : List ℕ) × GivesContent (IsReadUpTo size) bytes old new × (length bytes ≡ size)
-        × HoldsMore h (content bytes) h'
+    × HoldsMore h (content bytes) h'
 ReadsStated size old new h h' (Ok read.Other) =
     (bytes : List ℕ) × GivesContent (IsReadUpTo size) bytes old new × (length bytes ≢ size)
-        × KeepsHeld h h'
+    × KeepsHeld h h'
 ReadsStated size old new h h' (Ok read.NoRoom) = (new ≡ old) × (h' ≡ h)
 ReadsStated size old new h h' (Err fault) = IsReadWithin size old new × KeepsHeld h h'

@@ -66,7 +66,7 @@ ReadsFor Finds IsRead most old new h h' (Ok None) =
     (bytes : List ℕ) × GivesContent IsRead bytes old new × HoldsMore h (content bytes) h'
 ReadsFor Finds IsRead most old new h h' (Ok (Some found)) =
     (bytes : List ℕ) × GivesContent IsRead bytes old new × Finds (content bytes) found
-        × KeepsHeld h h'
+    × KeepsHeld h h'
 ReadsFor Finds IsRead most old new h h' (Err fault) = IsReadWithin most old new × KeepsHeld h h'
 
 module _ {S F : Type 0} (shelf : Ghosts S F) (seen : F → SourceSeen) where
@@ -99,7 +99,7 @@ module _ {S F : Type 0} (shelf : Ghosts S F) (seen : F → SourceSeen) where
   pub record FailsThere (s : S) (path : List (List ℕ)) (most : ℕ) (s' : S) : Type 0 where
     pub failed : ((e : DeviceFault) × shelf.opens s path (Err e) s')
         ⊎ ((file : F)
-            × HandsBack (shelf.opens s path) shelf.closes seen (FailsReading most) file s')
+        × HandsBack (shelf.opens s path) shelf.closes seen (FailsReading most) file s')
     pub counted : shelf.faults s' ≡ one_more (shelf.faults s)
     pub stays : shelf.contents s' ≡ shelf.contents s
 
