@@ -52,10 +52,10 @@ module _ {S F : Type 0} (shelf : Ghosts S F) (opens_at : S → List (List ℕ) �
     quiet = quiet;
   }
 
-  share_found : (answer : Result (Option (Result (Option FileHashes) ReadFault)) DeviceFault) → IsTouched p x
+  share_found : (place : ℕ) (answer : Result (Option (Result (Option FileHashes) ReadFault)) DeviceFault) → IsTouched p x
       → VisitsForAt shelf opens_at seen (ReadsCounted p hybrid (share_size p x) x.span.ends) s x.file.path (share_offset p x) answer s'
-      → FindsShare shelf opens_at seen p hybrid s x s' (found_by answer)
-  share_found (Ok (Some (Ok (Some found)))) touched v =
+      → FindsShare shelf opens_at seen p hybrid place s x s' (found_by place answer)
+  share_found place (Ok (Some (Ok (Some found)))) touched v =
       let r = v.handed.reading in
       let quiet = none_counted (shelf.faults s') (seen v.handed.read).faults (seen v.file).faults r.1 v.fresh v.counted in
       record {
@@ -64,37 +64,41 @@ module _ {S F : Type 0} (shelf : Ghosts S F) (opens_at : S → List (List ℕ) �
         is = row_known (shelf.contents s).under p x.file x.span (seen v.file) (seen v.handed.read) r.0.row v.found r.0.gives;
         hashes = r.0.hashes;
       }
-  share_found (Ok (Some (Ok None))) touched v =
-      let r = v.handed.reading in
-      record {
-        touched = touched;
-        quiet = none_counted (shelf.faults s') (seen v.handed.read).faults (seen v.file).faults r.1 v.fresh v.counted;
-        why = inr (reads_as (Ok None) (EndsElsewhere (share_size p x) x.span.ends) v r.0);
-      }
-  share_found (Ok (Some (Err took.NoMemory))) touched v =
+  share_found place (Ok (Some (Ok None))) touched v =
+      let r = v.handed.reading in (
+        refl,
+        record {
+          touched = touched;
+          quiet = none_counted (shelf.faults s') (seen v.handed.read).faults (seen v.file).faults r.1 v.fresh v.counted;
+          why = inr (reads_as (Ok None) (EndsElsewhere (share_size p x) x.span.ends) v r.0);
+        },
+      )
+  share_found place (Ok (Some (Err took.NoMemory))) touched v =
       let r = v.handed.reading in
       let quiet = none_counted (shelf.faults s') (seen v.handed.read).faults (seen v.file).faults r.1 v.fresh v.counted in
       record {
         touched = touched;
         why = inr (r.0.0, row_visited r.0.0 touched (reads_as (Err took.NoMemory) (row_of r.0.0) v r.0.1) quiet);
       }
-  share_found (Ok (Some (Err took.Device))) touched v =
-      let r = v.handed.reading in
-      record {
-        touched = touched;
-        counted = one_counted (shelf.faults s') (seen v.handed.read).faults (seen v.file).faults r.1 v.fresh v.counted;
-        failed = inr (reads_as (Err took.Device) (IsReadWithin (share_size p x)) v r.0);
-      }
-  share_found (Ok None) touched v = record { touched = touched; quiet = v.2; why = inl (v.0, v.1) }
-  share_found (Err e) touched v = record { touched = touched; counted = v.1; failed = inl (e, v.0) }
+  share_found place (Ok (Some (Err took.Device))) touched v =
+      let r = v.handed.reading in (
+        refl,
+        record {
+          touched = touched;
+          counted = one_counted (shelf.faults s') (seen v.handed.read).faults (seen v.file).faults r.1 v.fresh v.counted;
+          failed = inr (reads_as (Err took.Device) (IsReadWithin (share_size p x)) v r.0);
+        },
+      )
+  share_found place (Ok None) touched v = (refl, record { touched = touched; quiet = v.2; why = inl (v.0, v.1) })
+  share_found place (Err e) touched v = (refl, record { touched = touched; counted = v.1; failed = inl (e, v.0) })
 
   -- the same, of what is the same
-  pub share_found_as : (answer : Result (Option (Result (Option FileHashes) ReadFault)) DeviceFault) (path : List (List ℕ)) (offset size : ℕ) → IsTouched p x
-      → path ≡ x.file.path → offset ≡ share_offset p x → size ≡ share_size p x
+  pub share_found_as : (place : ℕ) (answer : Result (Option (Result (Option FileHashes) ReadFault)) DeviceFault) (path : List (List ℕ)) (offset size : ℕ)
+      → IsTouched p x → path ≡ x.file.path → offset ≡ share_offset p x → size ≡ share_size p x
       → VisitsForAt shelf opens_at seen (ReadsCounted p hybrid size x.span.ends) s path offset answer s'
-      → FindsShare shelf opens_at seen p hybrid s x s' (found_by answer)
-  share_found_as answer path offset size touched path_is offset_is size_is v =
-      share_found answer touched
+      → FindsShare shelf opens_at seen p hybrid place s x s' (found_by place answer)
+  share_found_as place answer path offset size touched path_is offset_is size_is v =
+      share_found place answer touched
       (subst (λ n. VisitsForAt shelf opens_at seen (ReadsCounted p hybrid n x.span.ends) s x.file.path (share_offset p x) answer s') size_is
       (subst (λ n. VisitsForAt shelf opens_at seen (ReadsCounted p hybrid size x.span.ends) s x.file.path n answer s') offset_is
       (subst (λ q. VisitsForAt shelf opens_at seen (ReadsCounted p hybrid size x.span.ends) s q offset answer s') path_is v)))

@@ -2,7 +2,7 @@
 use Rattle.std.proofs.Common.{◌≡◌, ◌∙◌, ◌⊎◌, true, inl, inr, ℕ, suc, ◌+◌, ◌-◌, ◌<◌, ◌≤◌, ◌^◌, List, [], ◌∷◌, length, map, take, drop, slice_get, Some}
 use Rattle.std.proofs.Common.{option_map}
 use Rattle.std.proofs.Common.{IfErr, IfOk, Result, Ok, Err, refl, sym, ap, ap₂, subst, arith, take-take}
-use Rattle.std.proofs.lemmas.List.{drop-take, length-drop, length-map, nil_from_length}
+use Rattle.std.proofs.lemmas.List.{drop-take, length-drop, length-map, nil_from_length, take-map}
 use Rattle.std.proofs.lemmas.Option.{same_Some, slice_get-map, slice_get_within}
 use Rattle.benc.specs.Device.{SourceSeen}
 use Rattle.chains.specs.Chain.{Chain}
@@ -23,7 +23,7 @@ use Rattle.gathering.proofs.Rows.{SaysRow, says_row}
 use Rattle.passes.specs.Held.{Answer, content, failed, missing, unasked}
 use Rattle.passes.specs.declared.stopped.Stopped.{Stopped}
 use Rattle.passes.specs.Passing.{FailsReading, LooksFor, PassesAll, StopsPassing, is_amiss}
-use Rattle.gathering.proofs.Passed.{all_gathered, contents_of, gathered_first, looks_stay, map_taken, none_unasked, not_sure, read_all, same_contents}
+use Rattle.gathering.proofs.Passed.{all_gathered, contents_of, gathered_first, looks_stay, none_unasked, not_sure, read_all, same_contents}
 use Rattle.gathering.proofs.Passed.{taken_contents}
 
 module _ (t : GatherTask) {S F : Type 0} (shelf : Ghosts S F) (seen : F → SourceSeen) where
@@ -117,7 +117,7 @@ module _ (t : GatherTask) {S F : Type 0} (shelf : Ghosts S F) (seen : F → Sour
             let answer : stops.takes.answer ≡ content at.0 = same_Some stops.takes.answer (content at.0)
             (sym stops.takes.answer_is ∙ ap (λ xs. slice_get xs number) all.are ∙ slice_get-map content cs number ∙ ap (option_map content) at.1) in
             let firsts : took.0 ≡ take number cs = same_contents took.0 (take number cs)
-            (sym took.1 ∙ ap₂ (λ n xs. take n xs) (sym turn.now) all.are ∙ map_taken content number cs) in
+            (sym took.1 ∙ ap₂ (λ n xs. take n xs) (sym turn.now) all.are ∙ take-map content number cs) in
             inl (adding_stops s s' cs number stops.takes.item at.0 took.0 d stops.takes.middle f stops.takes.item_is at.1 firsts
             (omega (arith, size, stops.few, turn.now)) run
             (subst (λ n. Chain DraftAdds d (take n t.paths) took.0 stops.takes.middle) (sym turn.now) took.2)
@@ -137,7 +137,7 @@ module _ (t : GatherTask) {S F : Type 0} (shelf : Ghosts S F) (seen : F → Sour
             let split : n + left ≡ number = omega (arith, once.after) in
             let cut2 = cut_chain (ReadsStill shelf seen) s (take number t.paths) cs n cut.mid run in
             let firsts : took.0 ≡ take n cs = same_contents took.0 (take n cs)
-            (sym took.1 ∙ sym (take-take n number stops.answers once.after) ∙ ap (take n) all.are ∙ map_taken content n cs) in
+            (sym took.1 ∙ sym (take-take n number stops.answers once.after) ∙ ap (take n) all.are ∙ take-map content n cs) in
             let later : drop n (take number t.paths) ≡ take left (drop n t.paths) =
             ap (λ j. drop n (take j t.paths)) (sym split) ∙ drop-take n left t.paths in
             let says : SaysRow shelf seen cut2.mid (take left (drop n t.paths)) (drop n cs) cut.mid =

@@ -15,11 +15,6 @@ use Rattle.gathering.proofs.Steps.{gathered_none}
 use Rattle.passes.specs.Held.{Answer, IsReadUpTo, content, failed, missing, unasked}
 use Rattle.passes.specs.Passing.{AreSure, LooksFor, PassesAll, ReadsContent, ReadsThere, Takes}
 
-pub map_taken : {A B : Type 0} (f : A → B) (n : ℕ) (xs : List A) → take n (map f xs) ≡ map f (take n xs)
-map_taken f zero xs = refl
-map_taken f (suc n) [] = refl
-map_taken f (suc n) (x ∷ xs) = ap (λ ys. f x ∷ ys) (map_taken f n xs)
-
 pub same_contents : (xs ys : List (List ℕ)) → map content xs ≡ map content ys → xs ≡ ys
 same_contents [] [] is = refl
 same_contents [] (y ∷ ys) is = let no : ⊥ = cc in absurd no

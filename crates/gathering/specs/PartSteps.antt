@@ -11,25 +11,34 @@ use Rattle.gathering.specs.declared.hashing.FileHashes.{FileHashes}
 use Rattle.part_texts.specs.Listings.{Listed}
 use Rattle.gathering.specs.Parts.{AreRows, IsRow, rows_text}
 use Rattle.gathering.specs.PartRows.{row_text}
-use Rattle.gathering.specs.PartVisits.{FaultsAtShare, Share, StopsIn, VisitsShare, shares_of}
+use Rattle.gathering.specs.PartVisits.{FailsAtShare, LacksMemoryAtShare, MissesShare, Share, StopsIn, VisitsShare, shares_of}
 use Rattle.gathering.specs.declared.part_fault.PartFault.{PartFault}
-use Rattle.gathering.specs.declared.part_fault.RowFault.{RowFault}
-use Rattle.gathering.specs.declared.part_fault.RowFault.TheVariants as lost
+use Rattle.gathering.specs.declared.part_fault.PartFault.TheVariants as fault
 
--- what was hashed, or why nothing was, by what came of a visit
-abbrev pub found_by : Result (Option (Result (Option FileHashes) ReadFault)) DeviceFault
-    → Result FileHashes RowFault
-found_by (Ok (Some (Ok (Some found)))) = Ok found
-found_by (Ok (Some (Ok None))) = Err lost.Changed
-found_by (Ok (Some (Err reading.NoMemory))) = Err lost.NoMemory
-found_by (Ok (Some (Err reading.Device))) = Err lost.Device
-found_by (Ok None) = Err lost.Changed
-found_by (Err e) = Err lost.Device
+-- what was hashed of the file at this place, or why nothing was, by what came of a visit
+abbrev pub found_by : ℕ → Result (Option (Result (Option FileHashes) ReadFault)) DeviceFault
+    → Result FileHashes PartFault
+found_by place (Ok (Some (Ok (Some found)))) = Ok found
+found_by place (Ok (Some (Ok None))) = Err (fault.Changed place)
+found_by place (Ok (Some (Err reading.NoMemory))) = Err fault.NoMemory
+found_by place (Ok (Some (Err reading.Device))) = Err (fault.Device place)
+found_by place (Ok None) = Err (fault.Changed place)
+found_by place (Err e) = Err (fault.Device place)
 
 module _ {S F : Type 0} (shelf : Ghosts S F)
     (opens_at : S → List (List ℕ) → ℕ → Result (Option F) DeviceFault → S → Type 0)
     (seen : F → SourceSeen) (piece_length : ℕ) (hybrid : Bool) where
   -- ---- one share
+
+  -- why the share of the file at this place was not hashed
+  abbrev pub FaultsAtShare : ℕ → PartFault → S → Share → S → Type 0
+  FaultsAtShare n fault.PieceLength s x s' = ⊥
+  FaultsAtShare n (fault.Device place) s x s' =
+      (place ≡ n) × FailsAtShare shelf opens_at seen piece_length s x s'
+  FaultsAtShare n (fault.Changed place) s x s' =
+      (place ≡ n) × MissesShare shelf opens_at seen piece_length s x s'
+  FaultsAtShare n fault.NoMemory s x s' =
+      LacksMemoryAtShare shelf opens_at seen piece_length s x s'
 
   -- a row was read of a share, which is that of the file as far as it is known, and this was hashed
   -- of it
@@ -39,9 +48,9 @@ module _ {S F : Type 0} (shelf : Ghosts S F)
     pub is : IsRow (shelf.contents s).under piece_length x.file x.span row
     pub hashes : AreHashesOf piece_length hybrid row found
 
-  abbrev pub FindsShare : S → Share → S → Result FileHashes RowFault → Type 0
-  FindsShare s x s' (Ok found) = FindsRow s x s' found
-  FindsShare s x s' (Err f) = FaultsAtShare shelf opens_at seen piece_length f s x s'
+  abbrev pub FindsShare : ℕ → S → Share → S → Result FileHashes PartFault → Type 0
+  FindsShare place s x s' (Ok found) = FindsRow s x s' found
+  FindsShare place s x s' (Err f) = FaultsAtShare place f s x s'
 
   -- the same, and what was hashed came behind a text
   pub record PutsRow (s : S) (x : Share) (s' : S) (old new : List ℕ) : Type 0 where
@@ -50,9 +59,10 @@ module _ {S F : Type 0} (shelf : Ghosts S F)
     pub is : IsRow (shelf.contents s).under piece_length x.file x.span row
     pub text_is : new ≡ old ++ row_text piece_length hybrid x.file.bytes row
 
-  abbrev pub PutsShare : S → Share → S → (old new : List ℕ) → Result (Unit {0}) RowFault → Type 0
-  PutsShare s x s' old new (Ok u) = PutsRow s x s' old new
-  PutsShare s x s' old new (Err f) = FaultsAtShare shelf opens_at seen piece_length f s x s'
+  abbrev pub PutsShare : ℕ → S → Share → S → (old new : List ℕ) → Result (Unit {0}) PartFault
+      → Type 0
+  PutsShare place s x s' old new (Ok u) = PutsRow s x s' old new
+  PutsShare place s x s' old new (Err f) = FaultsAtShare place f s x s'
 
   -- ---- all shares
 

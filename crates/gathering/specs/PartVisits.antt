@@ -20,8 +20,6 @@ use Rattle.gathering.specs.Parts.{IsPartText}
 use Rattle.gathering.specs.PartRows.{EndsElsewhere, GivesRow}
 use Rattle.gathering.specs.declared.part_fault.PartFault.{PartFault}
 use Rattle.gathering.specs.declared.part_fault.PartFault.TheVariants as fault
-use Rattle.gathering.specs.declared.part_fault.RowFault.{RowFault}
-use Rattle.gathering.specs.declared.part_fault.RowFault.TheVariants as lost
 
 -- ---- shares
 
@@ -98,12 +96,6 @@ module _ {S F : Type 0} (shelf : Ghosts S F)
   pub record LacksMemoryAtShare (piece_length : ℕ) (s : S) (x : Share) (s' : S) : Type 0 where
     pub touched : IsTouched piece_length x
     pub why : (s' ≡ s) ⊎ ((row : List ℕ) × VisitsShare piece_length s x row s')
-
-  -- why a share was not hashed
-  abbrev pub FaultsAtShare : ℕ → RowFault → S → Share → S → Type 0
-  FaultsAtShare piece_length lost.Device s x s' = FailsAtShare piece_length s x s'
-  FaultsAtShare piece_length lost.Changed s x s' = MissesShare piece_length s x s'
-  FaultsAtShare piece_length lost.NoMemory s x s' = LacksMemoryAtShare piece_length s x s'
 
   -- ---- all shares
 

@@ -291,8 +291,8 @@ fn add_found(
     Ok(())
 }
 
-// Puts the components of a path into a list that has room for them, in place of what it has.
-fn put_parts<'p>(path: &'p [String], parts: &mut Vec<&'p str>)
+/// Puts the components of a path into a list that has room for them, in place of what it has.
+pub(crate) fn put_parts<'p>(path: &'p [String], parts: &mut Vec<&'p str>)
     requires room { length path.now ≤ vec_capacity parts.old }
     ensures parts { map (λ s. s.now) parts.new.items ≡ map string_bytes path.now }
     ensures no_memory { vec_capacity parts.new ≡ vec_capacity parts.old }

@@ -1,6 +1,5 @@
 //! The hashing of one part.
 ghost use Rattle.std.specs.Prelude.{◌≡◌, ◌^◌, ◌<◌, ◌↔◌, IfOk, IsTrue, length, map};
-ghost use Rattle.std.specs.String.{string_bytes};
 ghost use Rattle.gathering.specs.PartSteps.{FindsShare, PutsRows, PutsShare, found_by};
 ghost use Rattle.gathering.specs.PartVisits.{HashesPart, IsTouched};
 ghost use Rattle.part_texts.specs.Divisions.{total_of};
@@ -9,14 +8,15 @@ ghost use Rattle.part_texts.specs.Readings.{CanBeListed};
 ghost use Rattle.part_texts.specs.Texts.{listing_text};
 
 use crate::hashing::FileHashes;
+use crate::job::put_parts;
 use crate::kind::TorrentKind;
 use crate::part_digests::put_digests;
-use crate::part_fault::{PartFault, RowFault};
+use crate::part_fault::PartFault;
 use crate::part_row::{Hashed, RowReader};
 use benc::DeviceFault;
 use folders::{ReadFault, SeekShelf, visit_at};
 use part_texts::{Division, ListedFile, Listing, Span, hashed, write_head};
-use std::alloc::{AllocError, Global};
+use std::alloc::Global;
 
 /// Hashes the pieces that this part, counted from 0, of this many has of the listed files, and
 /// gives the part's text (BEP 52, "piece layers", "pieces root"; for a hybrid BEP 3, "pieces", and
@@ -70,9 +70,10 @@ struct PartNumber {
     parts: u64,
 }
 
-// A listed file, and what a part has of it.
+// A listed file, its place in the listing, and what a part has of it.
 #[derive(Clone, Copy)]
 struct FileShare<'f> {
+    place: usize,
     file: &'f ListedFile,
     span: Span,
 }
@@ -95,13 +96,13 @@ fn put_rows<S: SeekShelf>(
     let division = Division::of(kind.piece_length, files, which.parts);
     let mut buffer = kind.buffer(alloc);
     let mut before: u64 = 0;
-    'files: for number in 0..files.len() {
-        let file = &files[number];
+    'files: for place in 0..files.len() {
+        let file = &files[place];
         let span = division.span(which.part, before, file.length);
-        let share = FileShare { file, span };
+        let share = FileShare { place, file, span };
         match put_row(alloc, shelf, kind, share, text, buffer.as_mut_slice()) {
             Ok(()) => before = before.saturating_add(hashed(file.length)),
-            Err(fault) => return Err(fault.at(number)),
+            Err(fault) => return Err(fault),
         }
     }
     Ok(())
@@ -116,10 +117,11 @@ fn put_row<S: SeekShelf>(
     share: FileShare<'_>,
     text: &mut Vec<u8>,
     buffer: &mut [u8],
-) -> Result<(), RowFault>
+) -> Result<(), PartFault>
     requires { 0 < length buffer.old }
     ensures row { PutsShare S.Shelf S.opens_at S.File.seen kind.now.piece_length kind.now.hybrid
-        shelf.old (record { file = listed share.entry.file.now; span = share.entry.span }) shelf.new
+        share.entry.place shelf.old
+        (record { file = listed share.entry.file.now; span = share.entry.span }) shelf.new
         text.old.items text.new.items result }
     ensures stays { S.Shelf.contents shelf.new ≡ S.Shelf.contents shelf.old }
     ensures buffer { length buffer.new ≡ length buffer.old }
@@ -137,7 +139,7 @@ fn put_row<S: SeekShelf>(
     }
     match put_digests(text, kind, share.file.length, &found) {
         Ok(()) => Ok(()),
-        Err(_) => Err(RowFault::NoMemory),
+        Err(_) => Err(PartFault::NoMemory),
     }
 }
 
@@ -156,20 +158,21 @@ fn visit_row<S: SeekShelf>(
     kind: &TorrentKind,
     share: FileShare<'_>,
     buffer: &mut [u8],
-) -> Result<FileHashes, RowFault>
+) -> Result<FileHashes, PartFault>
     requires some { 0 < length buffer.old }
     requires touched { IsTouched kind.now.piece_length
         (record { file = listed share.file.now; span = share.span }) }
     ensures found { FindsShare S.Shelf S.opens_at S.File.seen kind.now.piece_length kind.now.hybrid
-        shelf.old (record { file = listed share.entry.file.now; span = share.entry.span }) shelf.new
-        result }
+        share.entry.place shelf.old
+        (record { file = listed share.entry.file.now; span = share.entry.span }) shelf.new result }
     ensures stays { S.Shelf.contents shelf.new ≡ S.Shelf.contents shelf.old }
     ensures buffer { length buffer.new ≡ length buffer.old }
 {
-    let FileShare { file, span } = share;
-    let Ok(path) = components(alloc, &file.path) else {
-        return Err(RowFault::NoMemory);
+    let FileShare { place, file, span } = share;
+    let Ok(mut path) = Vec::with_capacity(alloc, file.path.len()) else {
+        return Err(PartFault::NoMemory);
     };
+    put_parts(&file.path, &mut path);
     let offset = span.offset(kind.piece_length);
     let mut reader = RowReader {
         alloc,
@@ -177,28 +180,20 @@ fn visit_row<S: SeekShelf>(
         size: span.bytes(kind.piece_length, file.length),
         ends: span.ends,
     };
-    found_of(visit_at(shelf, &path, offset, &mut reader, buffer))
+    found_of(place, visit_at(shelf, &path, offset, &mut reader, buffer))
 }
 
-// What was hashed of a file, or why nothing was, by what came of its visit.
-fn found_of(answer: Result<Option<Hashed>, DeviceFault>) -> Result<FileHashes, RowFault>
-    ensures { result ≡ found_by answer }
+// What was hashed of the file at this place, or why nothing was, by what came of its visit.
+fn found_of(
+    place: usize,
+    answer: Result<Option<Hashed>, DeviceFault>,
+) -> Result<FileHashes, PartFault>
+    ensures { result ≡ found_by place answer }
 {
     match answer {
         Ok(Some(Ok(Some(found)))) => Ok(found),
-        Ok(None | Some(Ok(None))) => Err(RowFault::Changed),
-        Ok(Some(Err(ReadFault::NoMemory))) => Err(RowFault::NoMemory),
-        Ok(Some(Err(ReadFault::Device))) | Err(_) => Err(RowFault::Device),
+        Ok(None | Some(Ok(None))) => Err(PartFault::Changed(place)),
+        Ok(Some(Err(ReadFault::NoMemory))) => Err(PartFault::NoMemory),
+        Ok(Some(Err(ReadFault::Device))) | Err(_) => Err(PartFault::Device(place)),
     }
-}
-
-// The components of a path.
-fn components<'p>(alloc: Global, path: &'p [String]) -> Result<Vec<&'p str>, AllocError>
-    ensures { IfOk result (λ parts. map (λ s. s.now) parts.items ≡ map string_bytes path.now) }
-{
-    let mut parts = Vec::with_capacity(alloc, path.len())?;
-    'parts: for part in path {
-        parts.push_reserved(part.as_str());
-    }
-    Ok(parts)
 }

@@ -6,8 +6,8 @@ use crate::{
 use benc::memory::{MemSink, MemSource};
 use checker::JoinFault;
 use checker::memory::{MemFile, MemShelf};
-use metainfo::{Draft, Torrent};
 use gathering::hash_part;
+use metainfo::{Draft, Torrent};
 use part_texts::{ListedFile, Listing};
 use session::{Paged, Session};
 use std::alloc::Global;
