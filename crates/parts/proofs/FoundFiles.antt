@@ -32,10 +32,10 @@ use Rattle.parts.proofs.HeldPieces.{between_held, held_between, piece_touches}
 -- ---- contents
 
 -- what a shelf holds under a path, or nothing
-abbrev known : Option (Option (List ℕ)) → Option (List ℕ)
+abbrev pub known : Option (Option (List ℕ)) → Option (List ℕ)
 known stated = unwrap_or stated None
 
-known_agrees : (stated : Option (Option (List ℕ))) → Agrees stated (known stated)
+pub known_agrees : (stated : Option (Option (List ℕ))) → Agrees stated (known stated)
 known_agrees stated there is = sym (ap (λ o. unwrap_or o None) is)
 
 -- the content that goes on so from an offset, and is the one that a shelf holds

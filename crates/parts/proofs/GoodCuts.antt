@@ -5,7 +5,6 @@ use Rattle.std.proofs.Math.Nat.{mul-le-mul_left}
 use Rattle.std.proofs.lemmas.List.{get_or-drop, get_or-take, length-drop, length-take}
 use Rattle.std.proofs.lemmas.Option.{get_or_from_slice_get, slice_get-get_or}
 use Rattle.sha1.specs.Sha1.{sha1}
-use Rattle.file_windows.specs.Files.{bytes_at}
 use Rattle.file_windows.specs.Windows.{AreFileCutsListed}
 use Rattle.opening.specs.Description.{Description, FileEntry, Version1}
 use Rattle.opening.specs.Sound.{IsSound}
@@ -14,7 +13,7 @@ use Rattle.pieces.specs.Pieces.{pieces_of}
 use Rattle.pieces.proofs.Cutting.{some_pieces}
 use Rattle.folders.proofs.Places.{pieces_are_positive}
 use Rattle.parts.specs.Parts.{IsVersion1Good, piece_count}
-use Rattle.parts.proofs.Batched.{item_of_part}
+use Rattle.passes.proofs.Stops.{dropped_item, taken_item}
 use Rattle.parts.proofs.RowCuts.{part_fits}
 use Rattle.parts.proofs.RowPieces.{row_places}
 
@@ -55,25 +54,21 @@ good_cuts t v f bytes width long is inside whole listed k lt =
     let row : List (List ℕ) = take width (drop f.first_piece v.pieces) in
     let count : length row ≡ width = length-take width (drop f.first_piece v.pieces) ∙ omega (arith, length-drop f.first_piece v.pieces, inside, is) in
     let below : k < pieces_of pl (length bytes) = subst (λ n. k < pieces_of pl n) (sym long) lt in
-    let found = item_of_part f.first_piece width v.pieces k (sha1 (filled_up pl own)) (listed k (omega (arith, count, is, lt)) below) in
-    found.1 ∙ ap (λ s. Some (sha1 (own ++ replicate (s - length own) 0))) (whole_cut t v f k whole lt)
+    let found = taken_item width (drop f.first_piece v.pieces) k (sha1 (filled_up pl own)) (listed k (omega (arith, count, is, lt)) below) in
+    sym (dropped_item f.first_piece v.pieces k) ∙ found ∙ ap (λ s. Some (sha1 (own ++ replicate (s - length own) 0))) (whole_cut t v f k whole lt)
 
--- and if they are good, those that are listed are its own, and no more than it has
-pub said_listed : (t : Description) (v : Version1) (n : ℕ) (f : FileEntry) (room : List ℕ) (listed : List (List ℕ)) (start width p : ℕ) → IsSound t
-    → slice_get t.files n ≡ Some f → t.v1 ≡ Some v → 0 < f.length → start + f.length ≤ length room → width ≡ piece_count t f → p ≡ t.piece_length
+-- and if they are good, those that are listed are its own
+pub said_listed : (t : Description) (v : Version1) (n : ℕ) (f : FileEntry) (bytes : List ℕ) (listed : List (List ℕ)) (width p : ℕ) → IsSound t
+    → slice_get t.files n ≡ Some f → t.v1 ≡ Some v → 0 < f.length → length bytes ≡ f.length → width ≡ piece_count t f → p ≡ t.piece_length
     → listed ≡ take width (drop f.first_piece v.pieces) → t.piece_length * (f.first_piece + piece_count t f) ≤ v.total
-    → ((k : ℕ) → k < piece_count t f → IsVersion1Good t v f (bytes_at room start f.length) k)
-    → (length listed ≤ pieces_of p f.length) × AreFileCutsListed p listed (bytes_at room start f.length)
-said_listed t v n f room listed start width p sound at hybrid some inside is pl_is row_is whole good =
+    → ((k : ℕ) → k < piece_count t f → IsVersion1Good t v f bytes k) → AreFileCutsListed p listed bytes
+said_listed t v n f bytes listed width p sound at hybrid some long is pl_is row_is whole good =
     let e = ends t v n f sound at hybrid some in
     let row : List (List ℕ) = take width (drop f.first_piece v.pieces) in
-    let bytes : List ℕ = bytes_at room start f.length in
     let count : length row ≡ width = length-take width (drop f.first_piece v.pieces) ∙ omega (arith, length-drop f.first_piece v.pieces, e.listed, is) in
-    let long : length bytes ≡ f.length = length-take f.length (drop start room) ∙ omega (arith, length-drop start room, inside) in
-    let few : length row ≤ pieces_of t.piece_length f.length = omega (arith, count, is) in
     let are : AreFileCutsListed t.piece_length row bytes = λ k lt below.
     cut_listed t v f bytes k width is count whole (good k (subst (λ n. k < pieces_of t.piece_length n) long below)) lt in
-    subst₂ (λ l q. (length l ≤ pieces_of q f.length) × AreFileCutsListed q l bytes) (sym row_is) (sym pl_is) (few, are)
+    subst₂ (λ l q. AreFileCutsListed q l bytes) (sym row_is) (sym pl_is) are
   where
     cut_listed : (t : Description) (v : Version1) (f : FileEntry) (bytes : List ℕ) (k width : ℕ) → width ≡ piece_count t f
         → length (take width (drop f.first_piece v.pieces)) ≡ width → t.piece_length * (f.first_piece + piece_count t f) ≤ v.total

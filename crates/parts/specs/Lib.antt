@@ -1,11 +1,9 @@
 -- What a check in parts finds, and what its parts make together.
-pub mod Batches
 pub mod Checking
 pub mod Collisions
 pub mod Endings
 pub mod FilePieces
 pub mod Finding
-pub mod Held
 pub mod Joins
 pub mod Laws
 pub mod MarkedChecks
@@ -13,6 +11,7 @@ pub mod MarkedLines
 pub mod PartLines
 pub mod Parts
 pub mod PartVisits
+pub mod Passing
 pub mod PieceReads
 pub mod Rooms
 pub mod RowBits
@@ -23,5 +22,4 @@ pub mod Shares
 pub mod Spans
 pub mod Telling
 pub mod Visiting
-pub mod Windows
 pub mod Worse

@@ -1,22 +1,24 @@
 //! The whole files of a torrent, checked one after the other; where no more than lines are told of
 //! them, small ones that follow one another are visited together.
-ghost use Rattle.std.specs.Prelude.{◌≡◌, ◌*◌, ◌<◌, ◌≤◌, length, []};
-ghost use Rattle.parts.specs.Batches.{NextVisits, left};
+ghost use Rattle.std.specs.Prelude.{◌≡◌, is_some, IfSome};
 ghost use Rattle.parts.specs.Checking.{EndsFiles, EndsWhole, shelf_and_sink};
+ghost use Rattle.parts.specs.Passing.{IsCutFor};
 ghost use Rattle.parts.specs.Rooms.{IsRoomFor};
 ghost use Rattle.parts.specs.Telling.{TellsWhole, NeedsBits};
 
-use crate::batch::look_ahead;
+use crate::job::{CheckJob, CheckScratch, Checked};
 use crate::places::Span;
 use crate::room::{Room, buffer_of, clear_bits};
 use crate::row::PieceReader;
 use crate::telling::Telling;
-use crate::verdicts::{Verdicts, VerdictsAhead, worse_v1};
+use crate::verdicts::Verdicts;
 use crate::visiting::{Visitor, visit_files};
 use benc::DeviceFault;
-use folders::{Pace, Report, Shelf, V1Verdict, room_for_files, taken, visit};
+use folders::{Pace, Report, Shelf, V1Verdict, taken, visit};
 use lines::{LineSink, OutFault as CheckFault};
 use opening::{File, Torrent};
+use passes::{CutsWanted, HeldFiles, pass};
+use pieces::PieceLength;
 use std::alloc::Global;
 
 /// Checks each file of a torrent in turn, and says what is wanted of it: of small files together,
@@ -63,7 +65,7 @@ fn visit_in<S: Shelf, L: LineSink, P: Pace>(
     torrent.recall_sound();
     match telling {
         Telling::Nothing | Telling::Line(_) => {
-            visit_ahead(room, torrent, shelf, telling, pace, out)
+            pass_files(room, torrent, shelf, telling, pace, out)
         }
         _ => visit_files(room, torrent, &WholeFiles, shelf, telling, out),
     }
@@ -74,9 +76,9 @@ fn visit_in<S: Shelf, L: LineSink, P: Pace>(
 // the pace. No memory is taken but for the buffers: if that is refused, they are smaller ones. What
 // breaks off ends the visits.
 // Conditions: there is room for what is told, and that is no bits.
-// It has a block in its frame, so it is not inlined.
+// It has what is held in its frame, so it is not inlined.
 #[inline(never)]
-fn visit_ahead<S: Shelf, L: LineSink, P: Pace>(
+fn pass_files<S: Shelf, L: LineSink, P: Pace>(
     room: Room,
     torrent: &Torrent<'_>,
     shelf: &mut S,
@@ -92,66 +94,55 @@ fn visit_ahead<S: Shelf, L: LineSink, P: Pace>(
     ensures stays { S.contents shelf.new ≡ S.contents shelf.old }
 {
     torrent.recall_sound();
-    let entries = torrent.files();
-    let Room {
-        mut files,
-        mut bits,
-    } = room;
-    let mut v1 = V1Verdict::Good;
-    let mut buffer = buffer_of(*files.allocator(), torrent);
-    let mut held = room_for_files(*files.allocator(), torrent.files().len());
-    let mut ahead = VerdictsAhead::none();
-    'files: for number in 0..entries.len() {
-        let found = visit_next(
-            shelf,
-            torrent,
-            number,
-            pace,
-            &mut ahead,
-            &mut held,
-            &mut bits,
-            buffer.as_mut_slice(),
-        );
-        files.push_reserved(found.file);
-        v1 = worse_v1(v1, found.v1);
-        telling.tell(torrent, &entries[number], found.file, &[], out)?;
-    }
-    let v1 = match torrent.v1() {
-        Some(_) => Some(v1),
-        None => None,
+    let Room { files, bits: _ } = room;
+    let alloc = *files.allocator();
+    let mut scratch = CheckScratch {
+        buffer: buffer_of(alloc, torrent),
+        pace,
     };
-    Ok(Report { files, v1 })
+    let mut held = held_of(alloc, torrent);
+    let job = CheckJob {
+        alloc,
+        torrent,
+        telling,
+    };
+    let mut checked = Checked {
+        files,
+        v1: V1Verdict::Good,
+    };
+    match pass(shelf, &job, &mut scratch, &mut held, &mut checked, out) {
+        Ok(()) => Ok(report_of(torrent, checked)),
+        Err(stopped) => Err(stopped.stop),
+    }
 }
 
-// The verdicts on the file of this number. It is visited now, and small ones behind it with it,
-// unless it was before. Conditions: the torrent has it, and the buffer is not empty.
-fn visit_next<S: Shelf, P: Pace>(
-    shelf: &mut S,
-    torrent: &Torrent<'_>,
-    number: usize,
-    pace: &mut P,
-    ahead: &mut VerdictsAhead,
-    room: &mut Vec<u8>,
-    bits: &mut Vec<u8>,
-    buffer: &mut [u8],
-) -> Verdicts
-    requires some { 0 < length buffer.old }
-    requires there { number < length torrent.now.files }
-    ensures visits { NextVisits S.Shelf S.File.seen torrent.now number (left ahead.old) shelf.old
-        result (left ahead.new) shelf.new }
-    ensures few { length (left ahead.new) < 64 }
-    ensures stays { S.contents shelf.new ≡ S.contents shelf.old }
+// The report on all files, by the verdicts on them.
+fn report_of(torrent: &Torrent<'_>, checked: Checked) -> Report
+    ensures files { result.files ≡ checked.files }
+    ensures hybrid { is_some result.v1 ≡ is_some torrent.now.v1 }
+    ensures v1 { IfSome result.v1 (λ v. checked.v1 ≡ v) }
 {
-    if let Some(verdicts) = ahead.take() {
-        return verdicts;
+    let v1 = match torrent.v1() {
+        Some(_) => Some(checked.v1),
+        None => None,
+    };
+    Report {
+        files: checked.files,
+        v1,
     }
-    bits.clear();
-    *ahead = look_ahead(shelf, torrent, number, pace, room, bits, buffer);
-    if let Some(verdicts) = ahead.take() {
-        return verdicts;
-    }
-    let file = &torrent.files()[number];
-    WholeFiles.visit(shelf, torrent, file, bits, buffer)
+}
+
+// Room for small files of a torrent that are held together.
+fn held_of(alloc: Global, torrent: &Torrent<'_>) -> HeldFiles
+    ensures { IsCutFor torrent.now result.cutting }
+{
+    torrent.recall_sound();
+    let wanted = match torrent.v1() {
+        Some(_) => CutsWanted::Filled,
+        None => CutsWanted::Nothing,
+    };
+    let piece_length = PieceLength::new(torrent.piece_length()).unwrap();
+    HeldFiles::new(alloc, torrent.files().len(), piece_length, wanted)
 }
 
 // The visits of whole files.

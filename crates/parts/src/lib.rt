@@ -3,8 +3,7 @@
 #![tactic(auto)]
 
 mod all_files;
-mod batch;
-mod held;
+mod job;
 mod judging;
 pub mod laws;
 mod part;
@@ -16,7 +15,6 @@ mod telling;
 mod verdicts;
 mod visiting;
 mod whole;
-mod windows;
 
 pub use lines::OutFault as CheckFault;
 pub use part::{check_part, say_check_part_with_bad_pieces};

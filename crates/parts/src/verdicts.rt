@@ -1,6 +1,6 @@
 //! What is said of a file and of its version 1 pieces, also of several files at once; and how what
 //! parts say is joined.
-ghost use Rattle.std.specs.Prelude.{◌≡◌, ℕ, ◌+◌, ◌<◌, ◌≤◌, [], ◌∷◌, ◌++◌, length, min, slice_get, is_some, IfOk, IfSome, IsNone, Some};
+ghost use Rattle.std.specs.Prelude.{◌≡◌, ℕ, ◌+◌, ◌<◌, length, min, slice_get, is_some, IfOk, IfSome, Some};
 ghost use Rattle.folders.specs.declared.report.FileVerdict.{FileVerdict as OfFile};
 ghost use Rattle.folders.specs.declared.report.V1Verdict.{V1Verdict as OfV1};
 ghost use Rattle.parts.specs.Saying.{IsSmallFrom, file_says, v1_says};
@@ -85,60 +85,6 @@ fn v1_verdict(first: u64, bad: Option<u64>) -> V1Verdict
     match bad {
         Some(number) => V1Verdict::Bad(first + number),
         None => V1Verdict::Good,
-    }
-}
-
-/// How many files are judged together at most.
-pub(crate) const MOST: usize = 64;
-
-/// Verdicts on the files that come next, which were visited and judged together.
-#[derive(Drop)]
-pub(crate) struct VerdictsAhead {
-    verdicts: [Verdicts; MOST],
-    next: usize,
-    count: usize,
-    ghost order: { next ≤ count },
-    ghost few: { count ≤ 64 },
-}
-
-impl VerdictsAhead {
-    ghost use Rattle.parts.specs.Batches.{left};
-
-    /// None.
-    pub(crate) fn none() -> VerdictsAhead
-        ensures none { left result ≡ [] }
-        ensures count { result.count ≡ 0 }
-    {
-        VerdictsAhead {
-            verdicts: [Verdicts::not_whole(FileVerdict::Missing); MOST],
-            next: 0,
-            count: 0,
-        }
-    }
-
-    /// The next one.
-    pub(crate) fn take(&mut self) -> Option<Verdicts>
-        ensures some { IfSome result (λ v. left self.old ≡ v ∷ left self.new) }
-        ensures few { length (left self.new) < 64 }
-        ensures none { IsNone result → left self.new ≡ left self.old }
-        ensures ended { IsNone result → left self.old ≡ [] }
-    {
-        if self.next == self.count {
-            return None;
-        }
-        let verdicts = self.verdicts[self.next];
-        self.next += 1;
-        Some(verdicts)
-    }
-
-    /// One more, behind the others. Condition: there is room.
-    pub(crate) fn push(&mut self, verdicts: Verdicts)
-        requires { self.old.count < 64 }
-        ensures count { self.new.count ≡ self.old.count + 1 }
-        ensures last { left self.new ≡ left self.old ++ verdicts ∷ [] }
-    {
-        self.verdicts[self.count] = verdicts;
-        self.count += 1;
     }
 }
 
