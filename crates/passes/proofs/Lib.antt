@@ -3,4 +3,5 @@ mod HeldReads
 mod HeldRows
 mod Looking
 mod Passed
+pub mod Stops
 mod Taking
