@@ -22,8 +22,9 @@ use Rattle.gathering.specs.declared.file_fault.FileFault.TheVariants as why
 use Rattle.gathering.proofs.Rows.{SaysRow, says_row}
 use Rattle.passes.specs.Held.{Answer, content, failed, missing, unasked}
 use Rattle.passes.specs.declared.stopped.Stopped.{Stopped}
+use Rattle.passes.proofs.Stops.{looks_still}
 use Rattle.passes.specs.Passing.{FailsReading, LooksFor, PassesAll, StopsPassing, is_amiss}
-use Rattle.gathering.proofs.Passed.{all_gathered, contents_of, gathered_first, looks_stay, none_unasked, not_sure, read_all, same_contents}
+use Rattle.gathering.proofs.Passed.{all_gathered, contents_of, gathered_first, none_unasked, not_sure, read_all, same_contents}
 use Rattle.gathering.proofs.Passed.{taken_contents}
 
 module _ (t : GatherTask) {S F : Type 0} (shelf : Ghosts S F) (seen : F → SourceSeen) where
@@ -183,5 +184,5 @@ module _ (t : GatherTask) {S F : Type 0} (shelf : Ghosts S F) (seen : F → Sour
 
   pub passes_stays : (s s' : S) (d e : Outline) (r : Result (Unit {0}) (Stopped FileFault)) → IfOk r (λ u. PassesAll shelf seen (gather_task t) s d s' e)
       → IfErr r (λ stopped. StopsPassing shelf seen (gather_task t) s d stopped.number stopped.stop s' e) → shelf.contents s' ≡ shelf.contents s
-  passes_stays s s' d e (Ok u) all stops = looks_stay t shelf seen s t.paths all.answers s' all.looks
-  passes_stays s s' d e (Err stopped) all stops = looks_stay t shelf seen s (take (length stops.answers) t.paths) stops.answers s' stops.looks
+  passes_stays s s' d e (Ok u) all stops = looks_still shelf seen (gather_task t) s t.paths all.answers s' all.looks
+  passes_stays s s' d e (Err stopped) all stops = looks_still shelf seen (gather_task t) s (take (length stops.answers) t.paths) stops.answers s' stops.looks

@@ -92,17 +92,6 @@ module _ (t : GatherTask) where
     none_unasked s (p ∷ ps) (failed ∷ all) s' (mid, step, rest) (suc j) is = none_unasked mid ps all s' rest j is
     none_unasked s (p ∷ ps) (content bytes ∷ all) s' (mid, step, rest) (suc j) is = none_unasked mid ps all s' rest j is
 
-    -- what is on the shelf stays
-    pub looks_stay : (s : S) (paths : List (List (List ℕ))) (all : List Answer) (s' : S) → Chain (LooksFor shelf seen (gather_task t)) s paths all s'
-        → shelf.contents s' ≡ shelf.contents s
-    looks_stay s [] [] s' is = ap shelf.contents is
-    looks_stay s [] (a ∷ all) s' run = absurd run
-    looks_stay s (p ∷ ps) [] s' run = absurd run
-    looks_stay s (p ∷ ps) (unasked ∷ all) s' (mid, step, rest) = absurd step
-    looks_stay s (p ∷ ps) (missing ∷ all) s' (mid, step, rest) = looks_stay mid ps all s' rest ∙ step.stays
-    looks_stay s (p ∷ ps) (failed ∷ all) s' (mid, step, rest) = looks_stay mid ps all s' rest ∙ step.stays
-    looks_stay s (p ∷ ps) (content bytes ∷ all) s' (mid, step, rest) = looks_stay mid ps all s' rest ∙ step.stays
-
     -- the first paths were read and taken
     pub gathered_first : (s s' : S) (n : ℕ) (cs : List (List ℕ)) (d e : Outline) → Chain (ReadsStill shelf seen) s (take n t.paths) cs s'
         → Chain DraftAdds d (take n t.paths) cs e → HasGathered shelf seen d s s (take n t.paths) s' e

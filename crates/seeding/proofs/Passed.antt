@@ -1,33 +1,23 @@
 -- What a pass over the files of a torrent seeded.
-use Rattle.std.proofs.Common.{◌≡◌, ◌∙◌, ℕ, zero, suc, ◌+◌, ◌-◌, ◌<◌, Bool, inl, inr, List, [], ◌∷◌, length, take, drop, Option, Some, Result, Ok, Err}
-use Rattle.std.proofs.Common.{refl, sym, ap, subst, arith, take-take}
+use Rattle.std.proofs.Common.{◌≡◌, ◌∙◌, ℕ, suc, ◌+◌, Bool, inl, inr, List, [], ◌∷◌, length, take, drop, Option, Some, Result, Ok, Err}
+use Rattle.std.proofs.Common.{refl, sym, ap, subst, arith}
 use Rattle.std.specs.Prelude.{slice_get}
-use Rattle.std.proofs.lemmas.Bool.{cases_lt}
-use Rattle.std.proofs.lemmas.List.{drop-take, length-drop, nil_from_length, take-append-drop}
-use Rattle.std.proofs.lemmas.Option.{same_Some, slice_get_within}
+use Rattle.std.proofs.lemmas.List.{nil_from_length}
 use Rattle.benc.specs.Device.{Sent, SourceSeen}
 use Rattle.benc.proofs.Known.{Appends_nothing}
 use Rattle.benc.proofs.Out.{Sent-append}
 use Rattle.chains.specs.Chain.{Chain}
-use Rattle.chains.proofs.Cases.{item_at, item_stays}
-use Rattle.chains.proofs.Chains.{Chain-length, StepAt, step_at}
+use Rattle.chains.proofs.Chains.{StepAt}
 use Rattle.folders.specs.declared.shelf.Shelf.{Ghosts}
 use Rattle.lines.specs.declared.out_fault.OutFault.{OutFault as SeedFault}
 use Rattle.lines.specs.declared.out_fault.OutFault.TheVariants as fault
 use Rattle.opening.specs.Description.{Description, FileEntry}
 use Rattle.passes.specs.Held.{Answer}
 use Rattle.passes.specs.Passing.{LooksFor, PassesAll, StopsPassing, Takes}
+use Rattle.passes.proofs.Stops as stopping
 use Rattle.seeding.specs.Passing.{SaysLine, SeedFound, SeedState, TakesAnswer, TakesFound, FindsByTree, seed_task}
 use Rattle.seeding.specs.Seeding.{IsSmallFile, LooksAhead, LooksBehind, SeedStep, SeedsAll, SeedsFiles, StopsAtFile, seed_lines, shelf_and_session}
 use Rattle.seeding.proofs.Looked.{looks_ahead, seeds_file, stops_file}
-
-dropped_item : {A : Type 0} (n : ℕ) (xs : List A) (j : ℕ) → slice_get (drop n xs) j ≡ slice_get xs (n + j)
-dropped_item zero xs j = ap (slice_get xs) (let e : j ≡ 0 + j = omega arith in e)
-dropped_item (suc n) [] j = refl
-dropped_item (suc n) (x ∷ xs) j = dropped_item n xs j ∙ ap (slice_get (x ∷ xs)) (let e : suc (n + j) ≡ suc n + j = omega arith in e)
-
-taken_item : {A : Type 0} (n : ℕ) (xs : List A) (j : ℕ) (x : A) → slice_get (take n xs) j ≡ Some x → slice_get xs j ≡ Some x
-taken_item n xs j x is = subst (λ ys. slice_get ys j ≡ Some x) (take-append-drop n xs) (item_stays (take n xs) (drop n xs) j x is)
 
 module _ {S F : Type 0} (shelf : Ghosts S F) (seen : F → SourceSeen) (line : FileEntry → Bool → List ℕ) (t : Description) where
   abbrev Look : S → FileEntry → Answer → S → Type 0
@@ -102,56 +92,27 @@ module _ {S F : Type 0} (shelf : Ghosts S F) (seen : F → SourceSeen) (line : F
       (one.0 ∷ all.0, ap suc all.1, (mid, one.1, all.2))
 
   module _ (s s' : S) (k k' : SeedState) (number : ℕ) (stop : SeedFault) (stops : StopsPassing shelf seen (seed_task line t) s k number stop s' k') where
-    abbrev m : ℕ
-    m = length stops.answers
-
-    in_turn : number ≡ stops.taken
-    in_turn = elim stops.turn [
-      | inl turn ↦ turn.now
-      | inr once ↦ (let hasty = once.hasty in let no : ⊥ = cc in absurd no)
-    ]
-
-    within : number < m
-    within = slice_get_within stops.answers number stops.takes.answer stops.takes.answer_is
-
-    -- the step at which it stopped
-    at_stop : StepAt Look s (take m t.files) stops.answers number stops.takes.item stops.takes.answer s'
-    at_stop =
-        let same : m ≡ length (take m t.files) = Chain-length Look s (take m t.files) stops.answers s' stops.looks in
-        let there = item_at (take m t.files) number (omega (arith, within, same)) in
-        let is : there.0 ≡ stops.takes.item = same_Some there.0 stops.takes.item (sym (taken_item m t.files number there.0 there.1) ∙ stops.takes.item_is) in
-        step_at Look s (take m t.files) stops.answers number stops.takes.item stops.takes.answer s' (there.1 ∙ ap Some is) stops.takes.answer_is stops.looks
+    abbrev at_stop : StepAt Look s (take (length stops.answers) t.files) stops.answers number stops.takes.item stops.takes.answer s'
+    at_stop = stopping.at_stop shelf seen (seed_task line t) s s' k k' number stop stops
 
     firsts : AreSaid s at_stop.from k stops.takes.middle (take number t.files)
     firsts = all_said s at_stop.from k stops.takes.middle (take number t.files) (take number stops.answers)
-        (subst (λ fs. Chain Look s fs (take number stops.answers) at_stop.from) (take-take number m t.files (omega (arith, within))) at_stop.before)
-        (subst (λ n. Chain (Takes (seed_task line t)) k (take n t.files) (take n stops.answers) stops.takes.middle) (sym in_turn) stops.takes.takes)
+        (stopping.looks_before shelf seen (seed_task line t) s s' k k' number stop stops)
+        (stopping.takes_before shelf seen (seed_task line t) s s' k k' number stop stops refl)
 
     behind : LooksBehind shelf seen t.files number stops.takes.item at_stop.to s'
     behind =
-        let left : ℕ = m - (number + 1) in
-        let split : (number + 1) + left ≡ m = omega (arith, within) in
-        let rest : drop (number + 1) (take m t.files) ≡ take left (drop (number + 1) t.files) =
-        ap (λ n. drop (number + 1) (take n t.files)) (sym split) ∙ drop-take (number + 1) left t.files in
-        let count : length (drop (number + 1) stops.answers) ≡ left = length-drop (number + 1) stops.answers in
-        let small : (j : ℕ) (f : FileEntry) → slice_get (drop (number + 1) (take m t.files)) j ≡ Some f → IsSmallFile f =
-        λ j f is. (
-        let whole : slice_get (take m t.files) ((number + 1) + j) ≡ Some f = sym (dropped_item (number + 1) (take m t.files) j) ∙ is in
-        let below = slice_get_within (take m t.files) ((number + 1) + j) f whole in
-        let same : m ≡ length (take m t.files) = Chain-length Look s (take m t.files) stops.answers s' stops.looks in
-        stops.wait (omega (arith, below, same, in_turn)) ((number + 1) + j) f (omega (arith, in_turn)) (omega (arith, below, same))
-        (taken_item m t.files ((number + 1) + j) f whole)) in
-        let all = ahead_all at_stop.to s' (drop (number + 1) (take m t.files)) (drop (number + 1) stops.answers) small at_stop.after in
-        let long : left ≡ length all.0 = omega (arith, all.1, count) in
+        let past = stopping.behind shelf seen (seed_task line t) s s' k k' number stop stops refl in
+        let files = take (length past.answers) (drop (number + 1) t.files) in
+        let all = ahead_all at_stop.to s' files past.answers past.wait past.run in
         record {
           contents = all.0;
-          few = omega (arith, long, stops.few, in_turn);
-          small = elim (cases_lt stops.taken (m - 1)) [
-            | inl more ↦ inr (stops.wait (omega (arith, more)) number stops.takes.item (omega (arith, in_turn)) within stops.takes.item_is)
-            | inr last ↦ inl (nil_from_length all.0 (omega (arith, long, in_turn, last)))
+          few = omega (arith, all.1, past.few);
+          small = elim past.own [
+            | inl none ↦ inl (nil_from_length all.0 (all.1 ∙ ap length none))
+            | inr small ↦ inr small
           ];
-          run = subst (λ n. Chain (LooksAhead shelf seen) at_stop.to (take n (drop (number + 1) t.files)) all.0 s') long
-              (subst (λ fs. Chain (LooksAhead shelf seen) at_stop.to fs all.0 s') rest all.2);
+          run = subst (λ n. Chain (LooksAhead shelf seen) at_stop.to (take n (drop (number + 1) t.files)) all.0 s') (sym all.1) all.2;
         }
 
 -- ---- the whole pass
