@@ -8,7 +8,7 @@ use benc::{Sink, write_all};
 use itoa::Buffer;
 
 /// What becomes of the parts of a text that are put, one after the other. It takes no memory.
-#[derive(Clone, Copy, Debug, PartialEq, Eq)]
+#[derive(Clone, Copy)]
 pub(crate) enum Pen {
     /// Their bytes are counted, and none are written.
     Measuring(u64),

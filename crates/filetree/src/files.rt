@@ -14,7 +14,7 @@ use hashtree::{Hash, MAX_LENGTH};
 use std::alloc::{AllocError, Global};
 
 /// A file of a file tree.
-#[derive(Debug, Drop)]
+#[derive(Drop)]
 pub struct ListedFile<'a> {
     /// The components of its path.
     pub path: Path<'a>,

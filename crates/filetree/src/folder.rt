@@ -10,14 +10,14 @@ use std::marker::Model;
 use std::sync::Arc;
 
 // A folder, and the folders that it lies in, which it shares with those beside it.
-#[derive(Debug, Drop)]
+#[derive(Drop)]
 struct TreeFolder {
     above: Option<Arc<TreeFolder>>,
     name: FolderName,
 }
 
 /// The folders from the torrent's root down to one of them. Contracts see them as their names.
-#[derive(Debug, Drop)]
+#[derive(Drop)]
 pub(crate) struct Folders {
     last: Option<Arc<TreeFolder>>,
 }

@@ -6,7 +6,7 @@ use std::alloc::{AllocError, Global};
 use std::marker::Model;
 
 /// The name of a folder, in a text that has room for its bytes alone. Contracts see it as these.
-#[derive(Debug, Drop)]
+#[derive(Drop)]
 pub(crate) struct FolderName {
     text: String,
 }

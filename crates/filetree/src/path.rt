@@ -7,7 +7,7 @@ use crate::path_parts::PathParts;
 use std::marker::Model;
 
 /// A file's path below the torrent's root. Contracts see it as the list of its components.
-#[derive(Debug, Drop)]
+#[derive(Drop)]
 pub struct Path<'a> {
     folders: Folders,
     name: &'a str,

@@ -9,7 +9,7 @@ use std::ops::DerefSlice;
 const ROOM: usize = 128;
 
 /// The components of a path, from the torrent's root down. Contracts see them as a list.
-#[derive(Debug, Drop)]
+#[derive(Drop)]
 pub struct PathParts<'p> {
     room: [&'p str; ROOM],
     count: usize,

@@ -15,7 +15,7 @@ use node_maps::NodeMap;
 use session::{HoldsTorrent, SessionOf};
 
 /// What became of a block that was to be held.
-#[derive(Clone, Copy, Debug, PartialEq, Eq)]
+#[derive(Clone, Copy)]
 pub enum Hold {
     /// Its digest is held. If there was no room for its piece, all of another piece gave way.
     Held {

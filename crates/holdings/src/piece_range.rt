@@ -10,7 +10,7 @@ use session::{HoldsTorrent, SessionOf};
 
 /// Pieces of a tree that are still to be looked at: those that begin with block `from` or a later
 /// one, and before block `end`.
-#[derive(Clone, Copy, Debug, PartialEq, Eq)]
+#[derive(Clone, Copy)]
 pub struct Pieces {
     pub(crate) tree: usize,
     pub(crate) from: u64,

@@ -1,7 +1,7 @@
 //! What is said of blocks that were held.
 
 /// Blocks of a tree, from `first` to `last`, numbered from 0.
-#[derive(Clone, Copy, Debug, PartialEq, Eq)]
+#[derive(Clone, Copy)]
 pub struct Run {
     /// The tree, in the torrent's order.
     pub tree: usize,
@@ -12,7 +12,7 @@ pub struct Run {
 }
 
 /// What became of blocks that were held.
-#[derive(Clone, Copy, Debug, PartialEq, Eq)]
+#[derive(Clone, Copy)]
 pub enum Settled {
     /// They are marked: their digests are the known leaves.
     Proved(Run),

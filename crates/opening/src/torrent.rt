@@ -7,7 +7,7 @@ use std::collections::BTreeMap;
 use std::marker::Model;
 
 /// A file of a torrent.
-#[derive(Debug, Drop)]
+#[derive(Drop)]
 pub struct File<'a> {
     /// The components of its path: at least one and at most 124, none of them empty, `.` or `..`,
     /// and none with a `/` or a zero byte. So it leads to no place outside the folder in which it
@@ -23,7 +23,7 @@ pub struct File<'a> {
 }
 
 /// A tree of a torrent: a distinct root of its files.
-#[derive(Clone, Copy, Debug, PartialEq)]
+#[derive(Clone, Copy)]
 pub struct TreeInfo<'a> {
     /// The pieces root.
     pub root: Hash,

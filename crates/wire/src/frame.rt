@@ -9,7 +9,7 @@ use crate::message::Message;
 use crate::parse::message_of;
 
 /// A frame: the message that its body means, or a body of a wrong size.
-#[derive(Clone, Copy, Debug, PartialEq)]
+#[derive(Clone, Copy, Debug)]
 pub enum Frame<'a> {
     /// The message.
     Message(Message<'a>),
