@@ -1,5 +1,5 @@
 //! Standard output, with or without a buffer, and with or without a progress line.
-ghost use Rattle.std.specs.Prelude.{◌≡◌};
+ghost use Rattle.std.specs.Prelude.{◌≡◌, Some};
 
 use crate::noted::Noted;
 use crate::progress::{Cleared, Progress};
@@ -59,8 +59,9 @@ impl<'s> StandardOutput<'s> {
 
     /// The same, before whose writes this line is taken away.
     pub fn below(self, progress: &'s Progress) -> StandardOutput<'s>
-        ensures { ⟦<StandardOutput<'s> as Sink>⟧.seen result
+        ensures seen { ⟦<StandardOutput<'s> as Sink>⟧.seen result
             ≡ ⟦<StandardOutput<'s> as Sink>⟧.seen self.entry }
+        ensures line { result.sink.progress ≡ Some progress.entry }
     {
         StandardOutput {
             sink: Cleared::new(self.sink.sink, Some(progress)),

@@ -65,7 +65,8 @@ pub struct Cleared<'p, W: Sink> {
 impl<'p, W: Sink> Cleared<'p, W> {
     /// This sink.
     pub fn new(sink: W, progress: Option<&'p Progress>) -> Cleared<'p, W>
-        ensures { ⟦<Cleared<'p, W> as Sink>⟧.seen result ≡ W.seen sink }
+        ensures seen { ⟦<Cleared<'p, W> as Sink>⟧.seen result ≡ W.seen sink }
+        ensures line { result.progress ≡ progress.entry }
     {
         Cleared { sink, progress }
     }
