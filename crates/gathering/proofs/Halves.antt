@@ -1,5 +1,5 @@
 -- The node over a piece, one layer further up than its tree needs.
-use Rattle.std.proofs.Common.{◌≡◌, ℕ, suc, ◌+◌, ◌-◌, ◌^◌, ◌≤◌, List, [], ◌++◌, length, take, drop, replicate, ap, sym, ◌∙◌, append_assoc, arith}
+use Rattle.std.proofs.Common.{◌≡◌, ℕ, suc, ◌+◌, ◌-◌, ◌^◌, ◌≤◌, List, ◌++◌, length, take, drop, replicate, ap, sym, ◌∙◌, append_assoc, arith}
 use Rattle.std.proofs.lemmas.List.{drop-append-le, drop-replicate, drop_all, length-append, length-replicate, take-append-drop, take-append-le}
 use Rattle.std.proofs.lemmas.List.{take-replicate, take_all}
 use Rattle.sha2.specs.Sha256.{sha256}

@@ -1,5 +1,5 @@
 -- Where a pass over listed paths stops.
-use Rattle.std.proofs.Common.{◌≡◌, ◌∙◌, ◌⊎◌, true, inl, inr, ℕ, suc, ◌+◌, ◌-◌, ◌<◌, ◌≤◌, ◌^◌, List, [], ◌∷◌, length, map, take, drop, slice_get, Some}
+use Rattle.std.proofs.Common.{◌≡◌, ◌∙◌, ◌⊎◌, true, inl, inr, ℕ, suc, ◌+◌, ◌-◌, ◌<◌, ◌≤◌, ◌^◌, List, [], ◌∷◌, length, take, drop, slice_get, Some}
 use Rattle.std.proofs.Common.{option_map}
 use Rattle.std.proofs.Common.{IfErr, IfOk, Result, Ok, Err, refl, sym, ap, ap₂, subst, arith, take-take}
 use Rattle.std.proofs.lemmas.List.{drop-take, length-drop, length-map, nil_from_length, take-map}

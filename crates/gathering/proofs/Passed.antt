@@ -1,5 +1,5 @@
 -- What was gathered in a pass over listed paths.
-use Rattle.std.proofs.Common.{◌≡◌, ◌∙◌, true, false, ℕ, zero, suc, ◌+◌, ◌^◌, List, [], ◌∷◌, map, take, slice_get, Some}
+use Rattle.std.proofs.Common.{◌≡◌, true, false, ℕ, zero, suc, ◌+◌, ◌^◌, List, [], ◌∷◌, map, take, slice_get, Some}
 use Rattle.std.proofs.Common.{refl, ap, ap₂, subst, arith}
 use Rattle.benc.specs.Device.{SourceSeen}
 use Rattle.chains.specs.Chain.{Chain}

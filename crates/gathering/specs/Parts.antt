@@ -1,5 +1,5 @@
 -- What a part says of a folder's files.
-use Rattle.std.specs.Prelude.{◌≡◌, ℕ, ◌*◌, ◌-◌, ◌^◌, ◌<◌, ◌≤◌, min, Bool, true, List, [], ◌∷◌, ◌++◌, length, take, drop, Some}
+use Rattle.std.specs.Prelude.{◌≡◌, ℕ, ◌-◌, Bool, true, List, [], ◌∷◌, ◌++◌, length, take, drop, Some}
 pub use Rattle.folders.specs.Shelf.{KnownPaths}
 use Rattle.gathering.specs.PartRows.{row_text}
 use Rattle.part_texts.specs.Divisions.{bytes_of, capped, hashed, offset_of, span_of, total_of}

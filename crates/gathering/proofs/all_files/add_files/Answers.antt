@@ -1,4 +1,4 @@
-use Rattle.std.proofs.Common.{map, take, length, Ok, Err}
+use Rattle.std.proofs.Common.{map}
 use Rattle.folders.specs.Shelf.{path_bytes}
 use Rattle.gathering.specs.Passing.{GatherTask}
 use Rattle.gathering.proofs.PassStops.{passes_adds, passes_stays}

@@ -1,8 +1,8 @@
-use Rattle.std.proofs.Common.{◌≡◌, ◌≤◌, ◌^◌, ◌+◌, suc, ◌∙◌, ◌++◌, add-one, ap, sym, subst, arith, rules, length}
+use Rattle.std.proofs.Common.{◌≡◌, ◌≤◌, ◌^◌, ◌∙◌, ◌++◌, add-one, ap, sym, arith, rules, length}
 use Rattle.std.proofs.Math.Pow.{pow_mono}
 use Rattle.sha2.specs.Sha256.{sha256}
 use Rattle.hashtree.specs.Pieces.{piece_node}
-use Rattle.hashtree.specs.Tree.{block_count, height, zero_hash}
+use Rattle.hashtree.specs.Tree.{block_count, height}
 use Rattle.hashtree.proofs.Heights.{height_enough}
 use Rattle.hashtree.proofs.PieceNodes.{root_over_piece}
 use Rattle.gathering.proofs.Halves.{piece_node_up}

@@ -1,6 +1,6 @@
-use Rattle.std.proofs.Common.{◌≡◌, ◌∙◌, ◌<◌, ◌≤◌, ◌++◌, ap, arith, length, rules, subst, sym}
+use Rattle.std.proofs.Common.{◌≡◌, ◌∙◌, ◌<◌, ◌≤◌, ◌++◌, ap, arith, length, rules, sym}
 use Rattle.std.proofs.lemmas.List.{take_all}
-use Rattle.hashtree.specs.Tree.{block_count, height, layer_of}
+use Rattle.hashtree.specs.Tree.{block_count, height}
 use Rattle.opening.specs.PieceLayers.{piece_layer}
 use Rattle.gathering.specs.PartRows.{joined_hashes}
 use Rattle.gathering.proofs.RowFound.{nodes_of_many, nodes_of_one, put_ok}

@@ -1,4 +1,4 @@
-use Rattle.std.proofs.Common.{◌≡◌, ◌∙◌, ap, arith, length, map, sym}
+use Rattle.std.proofs.Common.{◌≡◌, ◌∙◌, ap, arith, map, sym}
 use Rattle.std.specs.Prelude.{Some, slice_get}
 use Rattle.std.proofs.lemmas.List.{length-map}
 use Rattle.part_texts.specs.Divisions.{capped, span_of, total_of}

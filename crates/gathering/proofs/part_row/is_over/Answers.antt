@@ -1,4 +1,4 @@
-use Rattle.std.proofs.Common.{◌≡◌, arith, length, rules}
+use Rattle.std.proofs.Common.{rules}
 use Rattle.gathering.proofs.RowReading.{asked, unasked}
 use Rattle.gathering.proofs.part_row.is_over.Goals as goal
 
