@@ -1,6 +1,7 @@
 //! `check`: whether a folder holds the files of a torrent.
 use crate::extra::print_extra;
 use crate::folder_hints::hint_at_folder;
+use crate::hints::are_told;
 use crate::printed::{refuse, say_to};
 use crate::sizes::all_bytes;
 use crate::summary::print_summary;
@@ -33,8 +34,22 @@ pub(crate) fn perform_check<'a>(system: &System, asked: &Check<'a>) -> Result<u8
     }
 }
 
-// Prints the report, and on standard error what else is told of it.
+// Prints the report. Its lines are watched only if more is told of it on standard error.
 fn report_folder<'a, L: LineSink + Drop>(
+    system: &System,
+    torrent: &Torrent<'_>,
+    asked: &Check<'a>,
+    progress: &Progress,
+    mut lines: L,
+) -> Result<u8, Fault<'a>> {
+    if asked.summary || are_told(system) {
+        return tell_of_folder(system, torrent, asked, progress, lines);
+    }
+    judge_folder(system, torrent, asked, progress, &mut lines)
+}
+
+// Prints the report, and on standard error what else is told of it.
+fn tell_of_folder<'a, L: LineSink + Drop>(
     system: &System,
     torrent: &Torrent<'_>,
     asked: &Check<'a>,

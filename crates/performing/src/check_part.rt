@@ -1,5 +1,6 @@
 //! `check --part`: one part of a check.
 use crate::folder_hints::hint_at_folder;
+use crate::hints::are_told;
 use crate::printed::{refuse, say_to};
 use crate::sizes::bytes_in;
 use crate::told_lengths::ToldLengths;
@@ -39,8 +40,22 @@ pub(crate) fn perform_check_part<'a>(
     }
 }
 
-// Prints the report, and on standard error what else is told of it.
+// Prints the report. Its lines are watched only if more is told of it on standard error.
 fn report_part<'a, L: LineSink + Drop>(
+    system: &System,
+    torrent: &Torrent<'_>,
+    asked: &CheckPart<'a>,
+    progress: &Progress,
+    mut lines: L,
+) -> Result<u8, Fault<'a>> {
+    if are_told(system) {
+        return tell_of_part(system, torrent, asked, progress, lines);
+    }
+    judge_part(system, torrent, asked, progress, &mut lines)
+}
+
+// Prints the report, and on standard error what else is told of it.
+fn tell_of_part<'a, L: LineSink + Drop>(
     system: &System,
     torrent: &Torrent<'_>,
     asked: &CheckPart<'a>,
