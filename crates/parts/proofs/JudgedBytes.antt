@@ -20,7 +20,7 @@ use Rattle.parts.specs.declared.places.Span.{Span}
 use Rattle.parts.specs.declared.verdicts.Verdicts.{Verdicts}
 use Rattle.parts.proofs.FoundFiles.{finds_read, row_is_whole}
 use Rattle.parts.proofs.WholeFiles.{from_start, good_by_root, whole_extent_of, whole_judges, whole_meaning}
-use Rattle.passes.specs.Held.{Answer, GivesContent, HeldSeen, IsReadUpTo, content}
+use Rattle.passes.specs.Held.{Answer, GivesContent, HeldSeen, content}
 use Rattle.passes.specs.Passing.{ReadsFor, Want}
 
 -- bytes with the root of the tree are the file, and good if its version 1 pieces are
@@ -38,16 +38,6 @@ judged_good t n f bytes sound there long cuts root = record {
   };
   whole = refl;
 }
-
--- what was read until it is as long as stated, or to one byte past that
-pub held_so : (size : ℕ) (bytes : List ℕ) (old new : SourceSeen) → GivesContent (IsReadUpTo size) bytes old new
-    → GivesContent (IsReadToCheck size) bytes old new
-held_so size bytes old new gives =
-    let read = gives.is_read in
-    record {
-      agrees = gives.agrees;
-      is_read = record { within = omega (arith, read); taken = (λ long. omega (arith, read, long), λ took. omega (arith, read, took)) };
-    }
 
 -- a file was read as a row of pieces
 pub source_judged : (t : Description) (n : ℕ) (f : FileEntry) (bits : List ℕ) (s : Span) (found : Option Found) (v : Verdicts) (old new : SourceSeen)
