@@ -98,7 +98,13 @@ impl<'p, 'l, S: Shelf, L: Lengths> Job<S, GatherScratch<'p, 'l, L>, Draft, ()>
         read_or_hold(self.alloc, self.kind, expected, file, held, buffer)
     }
 
-    fn found(&self, _number: usize, held: &HeldFiles, place: usize) -> Found {
+    fn found(
+        &self,
+        _scratch: &mut GatherScratch<'p, 'l, L>,
+        _number: usize,
+        held: &HeldFiles,
+        place: usize,
+    ) -> Found {
         match held.nothing(place) {
             None => found_whole(self.alloc, self.kind, held, place),
             Some(nothing) => Err(fault_of(nothing)),

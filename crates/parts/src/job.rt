@@ -86,11 +86,18 @@ impl<'a, 't, 'p, S: Shelf, P: Pace, L: LineSink> Job<S, CheckScratch<'p, P>, Che
         read_or_hold(self.alloc, self.torrent, entry, file, held, buffer)
     }
 
-    fn found(&self, number: usize, held: &HeldFiles, place: usize) -> Verdicts {
+    fn found(
+        &self,
+        scratch: &mut CheckScratch<'p, P>,
+        number: usize,
+        held: &HeldFiles,
+        place: usize,
+    ) -> Verdicts {
         match held.nothing(place) {
             None => {
                 let entry = &self.torrent.files()[number];
-                judge_held(self.alloc, self.torrent, entry, held, place)
+                let buffer = scratch.buffer.as_mut_slice();
+                judge_held(self.alloc, self.torrent, entry, held, place, buffer)
             }
             Some(nothing) => verdicts_of(nothing),
         }

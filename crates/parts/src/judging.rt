@@ -17,11 +17,8 @@ use benc::{DeviceFault, Source};
 use folders::FileVerdict;
 use opening::{File, Torrent};
 use passes::{HeldFiles, Nothing, Read};
-use pieces::{V1, room_of_zeros};
+use pieces::V1;
 use std::alloc::Global;
-
-// How many bytes are copied at a time without memory.
-const LEAST: usize = 4096;
 
 /// The verdicts on a file at whose path there is nothing to be held, for this reason.
 pub(crate) fn verdicts_of(nothing: Nothing) -> Verdicts
@@ -82,14 +79,17 @@ pub(crate) fn judge_source<F: Source>(
     Ok(Verdicts::of_visit(file, Ok(Some(Ok(found))), true))
 }
 
-/// The verdicts on a file that is held and hashed. Condition: the torrent has the file.
+/// The verdicts on a file that is held and hashed. Conditions: the torrent has the file, and the
+/// buffer is not empty.
 pub(crate) fn judge_held(
     alloc: Global,
     torrent: &Torrent<'_>,
     file: &File<'_>,
     held: &HeldFiles,
     place: usize,
+    buffer: &mut [u8],
 ) -> Verdicts
+    requires some { 0 < length buffer.old }
     requires file { IsFileOf torrent.now (file_entry file.now) }
     requires hashed { held.now.is_hashed ≡ true }
     requires holds { IsCutFor torrent.now held.now.cutting }
@@ -105,7 +105,7 @@ pub(crate) fn judge_held(
     if file.length > 0 && is_good(torrent, file, held, place) {
         return Verdicts::of_other();
     }
-    judge_bytes(alloc, torrent, file, bytes)
+    judge_bytes(alloc, torrent, file, bytes, buffer)
 }
 
 // Whether a file is good, by its root and by its version 1 pieces.
@@ -165,24 +165,8 @@ fn listed<'t>(v1: &V1<'t>, from: u64, to: u64) -> &'t [[u8; 20]]
     &v1.pieces[from as usize..to as usize]
 }
 
-// Judges the bytes of a file as a row of pieces: all that are hashed side by side at once, if memory
-// for a copy of them is given. Condition: the torrent has the file.
-// It has a buffer in its frame, so it is not inlined.
-#[inline(never)]
-fn judge_bytes(alloc: Global, torrent: &Torrent<'_>, file: &File<'_>, bytes: &[u8]) -> Verdicts
-    requires { IsFileOf torrent.now (file_entry file.now) }
-    ensures { FindsContent torrent.now (file_entry file.now) bytes.now result }
-{
-    if let Some(mut room) = room_of_zeros(alloc, bytes.len()) {
-        if !room.is_empty() {
-            return judge_through(alloc, torrent, file, bytes, room.as_mut_slice());
-        }
-    }
-    judge_through(alloc, torrent, file, bytes, &mut [0; LEAST])
-}
-
-// The same through this buffer. Condition: it is not empty.
-fn judge_through(
+// Judges the bytes of a file as a row of pieces. Conditions: as above.
+fn judge_bytes(
     alloc: Global,
     torrent: &Torrent<'_>,
     file: &File<'_>,

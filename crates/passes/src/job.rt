@@ -74,13 +74,16 @@ pub trait Job<S: Shelf, B, K, O> {
         ensures fits { fits self.now scratch.new };
 
     /// What is found of an item of which this is held. Condition: it is hashed.
-    fn found(&self, number: usize, held: &HeldFiles, place: usize) -> Self::Found
+    fn found(&self, scratch: &mut B, number: usize, held: &HeldFiles, place: usize) -> Self::Found
+        requires fits { fits self.now scratch.old }
         requires there { number < length (task self.now).items }
         requires place { place < length held.now.answers }
         requires hashed { held.now.is_hashed ≡ true }
         requires holds { (task self.now).holds held.now.cutting }
-        ensures { (i : Self.Item) (a : Answer) → slice_get (task self.now).items number ≡ Some i
-            → slice_get held.now.answers place ≡ Some a → (task self.now).finds i a result };
+        ensures found { (i : Self.Item) (a : Answer)
+            → slice_get (task self.now).items number ≡ Some i
+            → slice_get held.now.answers place ≡ Some a → (task self.now).finds i a result }
+        ensures fits { fits self.now scratch.new };
 
     /// Takes what was found of an item. Conditions: it was found of what came of looking at its
     /// path, and all items before it were taken.

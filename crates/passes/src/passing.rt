@@ -207,7 +207,7 @@ fn take_batch<S: Shelf, J: Job<S, B, K, O>, B, K, O>(
 {
     'held: for place in 0..held.len() {
         let number = batch.from + place;
-        let found = job.found(number, held, place);
+        let found = job.found(scratch, number, held, place);
         if let Err(stop) = job.take(scratch, number, found, kept, out) {
             return Err(Stopped { number, stop });
         }

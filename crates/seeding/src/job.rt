@@ -85,7 +85,13 @@ impl<'t, 'p, N: NodeMap, S: Shelf, P: Pace, L: LineSink> Job<
         }
     }
 
-    fn found(&self, number: usize, held: &HeldFiles, place: usize) -> Found<N> {
+    fn found(
+        &self,
+        _scratch: &mut SeedScratch<'p, P>,
+        number: usize,
+        held: &HeldFiles,
+        place: usize,
+    ) -> Found<N> {
         match (held.nothing(place), tree_of(self.torrent, number)) {
             (None, Some(tree)) => find_held(self.alloc, tree, held, place),
             _ => Ok(None),

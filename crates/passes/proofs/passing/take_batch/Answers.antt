@@ -10,7 +10,7 @@ take-requires g c =
     let t = g.J.Job.task c.args.job.now in
     let i = item_at t.items (c.args.batch.from + c.held.place) (omega (arith, c.requires.batch.1.inside, c.held-test.true, c.len-place-end.ensures.value)) in
     let a = item_at c.args.held.now.answers c.held.place (omega (arith, c.held-test.true, c.len-place-end.ensures.value)) in
-    record { fits = c.held.invariant.fits; found = (i.0, a.0, i.1, c.found-found.ensures i.0 a.0 i.1 a.1); ready = c.held.invariant.ready }
+    record { fits = c.found-found.ensures.fits; found = (i.0, a.0, i.1, c.found-found.ensures.found i.0 a.0 i.1 a.1); ready = c.held.invariant.ready }
 
 pub returns-in-Err-clause-takes : goal.returns-in-Err-clause-takes
 returns-in-Err-clause-takes g c k all are before =
@@ -25,7 +25,7 @@ returns-in-Err-clause-takes g c k all are before =
         item_is = i.1;
         answer = a.0;
         answer_is = are.held_are c.held.place a.0 a.1;
-        stops = c.in-Err.ensures.takes i.0 a.0 i.1 (c.found-found.ensures i.0 a.0 i.1 a.1);
+        stops = c.in-Err.ensures.takes i.0 a.0 i.1 (c.found-found.ensures.found i.0 a.0 i.1 a.1);
       },
     )
 
@@ -40,7 +40,7 @@ held-preserved g c =
       takes = λ k all are before.
           subst (λ n. TakesTo t k all n k') (add_assoc c.args.batch.from c.held.place 1)
           (takes_more t k all (c.args.batch.from + c.held.place) (g.J.Job.state c.held.kept c.held.out) k' i.0 a.0 (c.held.invariant.takes k all are before) i.1
-          (are.held_are c.held.place a.0 a.1) (c.in_default.ensures.takes i.0 a.0 i.1 (c.found-found.ensures i.0 a.0 i.1 a.1)));
+          (are.held_are c.held.place a.0 a.1) (c.in_default.ensures.takes i.0 a.0 i.1 (c.found-found.ensures.found i.0 a.0 i.1 a.1)));
       ready = subst (λ n. t.is_ready n k') (add_assoc c.args.batch.from c.held.place 1) c.in_default.ensures.ready;
     }
 

@@ -20,8 +20,8 @@ judge_held-requires-clause-whole g c =
     let whole = c.in-None.ensures it.0 it.1 in
     (whole.0, it.1 ∙ ap Some whole.1)
 
-pub returns-in-None : goal.returns-in-None
-returns-in-None g c i a there at =
+pub returns-in-None-clause-found : goal.returns-in-None-clause-found
+returns-in-None-clause-found g c i a there at =
     let t = c.args.self.now.torrent.now in
     let is = file_there t c.files.result.now c.args.number c.index-files-number.result c.files.ensures
     (omega (arith, c.requires.there, ap length c.files.ensures, length-map c.files.result.now file_entry)) c.index-files-number.is in
