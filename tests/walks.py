@@ -18,7 +18,7 @@ sys.path.insert(0, f"{TOP}/tools")
 import kit  # noqa: E402
 
 PROGRAM = f"{TOP}/build/plain/btcheck"
-BESIDE = ("lanes/", "sha1_lanes/", "sha256_lanes/", "file_windows/", "parts/src/windows.rt", "pieces/src/stages.rt")
+BESIDE = ("lanes/", "sha1_lanes/", "sha256_lanes/", "file_windows/", "pieces/src/stages.rt")
 FEW, MANY = 2, 5
 # Of each walk the commands whose calls are counted, and the functions within which they are.
 WALKS = {
