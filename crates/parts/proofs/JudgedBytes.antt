@@ -12,7 +12,7 @@ use Rattle.folders.specs.Verdicts.{Agrees, is_whole}
 use Rattle.parts.specs.FilePieces.{FindsPieces, FoundOfPieces, TakesRowBytes}
 use Rattle.parts.specs.Finding.{FindsWhole}
 use Rattle.parts.specs.Parts.{IsVersion1Good}
-use Rattle.parts.specs.Passing.{AreCutsGood, FindsAnswer, FindsContent, IsJudgedGood, IsReadToCheck}
+use Rattle.parts.specs.Passing.{AreCutsGood, JudgesAnswer, JudgesContent, IsJudgedGood, IsReadToCheck}
 use Rattle.parts.specs.Saying.{SaysRead}
 use Rattle.parts.specs.Spans.{IsWholeSpan, span_bytes}
 use Rattle.parts.specs.declared.row.Found.{Found}
@@ -43,7 +43,7 @@ judged_good t n f bytes sound there long cuts root = record {
 pub source_judged : (t : Description) (n : ℕ) (f : FileEntry) (bits : List ℕ) (s : Span) (found : Option Found) (v : Verdicts) (old new : SourceSeen)
     → IsSound t → slice_get t.files n ≡ Some f → IsWholeSpan t f s → bits ≡ [] → FindsPieces t f s old.left bits found
     → TakesRowBytes (span_bytes t f s) old new found → IsReadWithin (span_bytes t f s + 1) old new → SaysRead true f.first_piece (Ok found) v
-    → (bytes : List ℕ) × GivesContent (IsReadToCheck f.length) bytes old new × FindsContent t f bytes v
+    → (bytes : List ℕ) × GivesContent (IsReadToCheck f.length) bytes old new × JudgesContent t f bytes v
 source_judged t n f bits s found v old new sound there whole none finds takes within says =
     let bytes : List ℕ = finds.rest in
     let start : drop (t.piece_length * s.from) bytes ≡ bytes = ap (λ k. drop k bytes) (from_start t f s whole) in
@@ -51,7 +51,7 @@ source_judged t n f bits s found v old new sound there whole none finds takes wi
   where
     by_found : (bytes : List ℕ) (found : Option Found) → span_bytes t f s ≡ f.length → Agrees old.left bytes → FoundOfPieces t f s bits found bytes
         → TakesRowBytes (span_bytes t f s) old new found → SaysRead true f.first_piece (Ok found) v
-        → (bytes : List ℕ) × GivesContent (IsReadToCheck f.length) bytes old new × FindsContent t f bytes v
+        → (bytes : List ℕ) × GivesContent (IsReadToCheck f.length) bytes old new × JudgesContent t f bytes v
     by_found bytes None size agrees so takes says = (
       bytes,
       record {
@@ -88,9 +88,9 @@ same_held answers n a b one two =
 
 -- how a file is read, by the path that is wanted for it
 pub reads_as : (t : Description) (f i : FileEntry) (w : Want) (old new : SourceSeen) (h h' : HeldSeen) (r : Result (Option Verdicts) DeviceFault) → f ≡ i
-    → Some (record { path = i.path; most = i.length }) ≡ Some w → ReadsFor (FindsAnswer t f) (IsReadToCheck f.length) f.length old new h h' r
-    → ReadsFor (FindsAnswer t i) (IsReadToCheck i.length) w.most old new h h' r
+    → Some (record { path = i.path; most = i.length }) ≡ Some w → ReadsFor (JudgesAnswer t f) (IsReadToCheck f.length) f.length old new h h' r
+    → ReadsFor (JudgesAnswer t i) (IsReadToCheck i.length) w.most old new h h' r
 reads_as t f i w old new h h' r same wants reads =
-    subst (λ (x : Want). ReadsFor (FindsAnswer t i) (IsReadToCheck i.length) x.most old new h h' r)
+    subst (λ (x : Want). ReadsFor (JudgesAnswer t i) (IsReadToCheck i.length) x.most old new h h' r)
     (same_Some (record { path = i.path; most = i.length }) w wants)
-    (subst (λ (j : FileEntry). ReadsFor (FindsAnswer t j) (IsReadToCheck j.length) j.length old new h h' r) same reads)
+    (subst (λ (j : FileEntry). ReadsFor (JudgesAnswer t j) (IsReadToCheck j.length) j.length old new h h' r) same reads)

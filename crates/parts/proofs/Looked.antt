@@ -11,7 +11,7 @@ use Rattle.folders.specs.declared.report.FileVerdict.TheVariants as file
 use Rattle.folders.specs.declared.shelf.Shelf.{Ghosts}
 use Rattle.folders.proofs.Visiting.{handed_as}
 use Rattle.parts.specs.Finding.{FindsWhole}
-use Rattle.parts.specs.Passing.{FindsAnswer, IsReadToCheck}
+use Rattle.parts.specs.Passing.{JudgesAnswer, IsReadToCheck}
 use Rattle.parts.specs.Visiting.{VisitsFile, whole_visiting}
 use Rattle.parts.specs.declared.verdicts.Verdicts.{Verdicts}
 use Rattle.parts.proofs.FileReads.{had_failed, was_other, was_whole}
@@ -117,7 +117,7 @@ module _ {S F : Type 0} (shelf : Ghosts S F) (seen : F → SourceSeen) (t : Desc
   judged_content : (bytes : List ℕ) (v : Verdicts) (found : FindsWhole t f (Some (Some bytes)) [] v) → Some bytes ≡ found.content
   judged_content bytes v found = found.agrees (Some bytes) refl
 
-  says_so : (a : Answer) (v : Verdicts) → FindsAnswer t f a v → Says a v.file
+  says_so : (a : Answer) (v : Verdicts) → JudgesAnswer t f a v → Says a v.file
   says_so unasked v found = tt
   says_so missing v found = found.0
   says_so failed v found = found.0
@@ -127,7 +127,7 @@ module _ {S F : Type 0} (shelf : Ghosts S F) (seen : F → SourceSeen) (t : Desc
   )
   says_so (content bytes) v (inr (other, is)) = (subst (IsVerdict t f (Some bytes)) (sym is.0) (bytes, refl, other), inr (other, is.0))
 
-  finds_so : (a : Answer) (v : Verdicts) → LooksAt a → FindsAnswer t f a v → FindsWhole t f stated [] v
+  finds_so : (a : Answer) (v : Verdicts) → LooksAt a → JudgesAnswer t f a v → FindsWhole t f stated [] v
   finds_so unasked v looks found = absurd looks
   finds_so missing v looks found = finds_missing t f (whole_meaning t f) stated [] v looks.agrees found
   finds_so failed v looks found = finds_unreadable t f (whole_meaning t f) stated [] v found
@@ -142,10 +142,10 @@ module _ {S F : Type 0} (shelf : Ghosts S F) (seen : F → SourceSeen) (t : Desc
   finds_so (content bytes) v looks (inr (other, is)) =
       finds_other_length t f (whole_meaning t f) stated [] v bytes other looks.agrees (λ runs. (bytes, refl, λ j lt. absurd (omega (arith, lt)))) is
 
-  pub seen_found : (a : Answer) (v : Verdicts) → LooksAt a → FindsAnswer t f a v → IsSeen v.file
+  pub seen_found : (a : Answer) (v : Verdicts) → LooksAt a → JudgesAnswer t f a v → IsSeen v.file
   seen_found a v looks found = seen_so a v.file looks (says_so a v found)
 
-  pub visited_found : (a : Answer) (v : Verdicts) → LooksAt a → FindsAnswer t f a v → VisitsFile (whole_visiting shelf seen t) t s f [] v s'
+  pub visited_found : (a : Answer) (v : Verdicts) → LooksAt a → JudgesAnswer t f a v → VisitsFile (whole_visiting shelf seen t) t s f [] v s'
   visited_found a v looks found =
       let so = seen_found a v looks found in
       record { finds = finds_so a v looks found; visits = so.visits; counts = so.counts; stays = so.stays }

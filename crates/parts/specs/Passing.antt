@@ -39,7 +39,8 @@ pub record IsReadToCheck (size : ℕ) (bytes : List ℕ) (old new : SourceSeen) 
   pub taken : (length bytes ≡ size) ↔ (new.limit + size ≡ old.limit)
 
 -- these verdicts are true of a file with these bytes, as many as are stated
-pub record IsJudged (t : Description) (f : FileEntry) (bytes : List ℕ) (v : Verdicts) : Type 0 where
+pub record IsJudgedContent (t : Description) (f : FileEntry) (bytes : List ℕ)
+    (v : Verdicts) : Type 0 where
   pub long : length bytes ≡ f.length
   pub finds : FindsWhole t f (Some (Some bytes)) [] v
   pub whole : is_whole v.file ≡ true
@@ -47,19 +48,19 @@ pub record IsJudged (t : Description) (f : FileEntry) (bytes : List ℕ) (v : Ve
 -- a file with these bytes is good
 abbrev pub IsJudgedGood : Description → FileEntry → List ℕ → Type 0
 IsJudgedGood t f bytes =
-    IsJudged t f bytes (record { file = file.Good; v1 = version1.Good })
+    IsJudgedContent t f bytes (record { file = file.Good; v1 = version1.Good })
 
 -- these are the verdicts on a file with these bytes
-abbrev pub FindsContent : Description → FileEntry → List ℕ → Verdicts → Type 0
-FindsContent t f bytes v =
-    IsJudged t f bytes v ⊎ ((length bytes ≢ f.length) × IsNotWhole file.WrongLength v)
+abbrev pub JudgesContent : Description → FileEntry → List ℕ → Verdicts → Type 0
+JudgesContent t f bytes v =
+    IsJudgedContent t f bytes v ⊎ ((length bytes ≢ f.length) × IsNotWhole file.WrongLength v)
 
 -- these are the verdicts on a file of which this came
-abbrev pub FindsAnswer : Description → FileEntry → Answer → Verdicts → Type 0
-FindsAnswer t f unasked v = ⊤
-FindsAnswer t f missing v = IsNotWhole file.Missing v
-FindsAnswer t f failed v = IsNotWhole file.Unreadable v
-FindsAnswer t f (content bytes) v = FindsContent t f bytes v
+abbrev pub JudgesAnswer : Description → FileEntry → Answer → Verdicts → Type 0
+JudgesAnswer t f unasked v = ⊤
+JudgesAnswer t f missing v = IsNotWhole file.Missing v
+JudgesAnswer t f failed v = IsNotWhole file.Unreadable v
+JudgesAnswer t f (content bytes) v = JudgesContent t f bytes v
 
 -- none of a file's version 1 pieces, if the torrent has any, is cut short by the stream's end
 abbrev pub AreCutsWhole : Description → FileEntry → Type 0
@@ -96,7 +97,7 @@ module _ (spelled : Spelling) (t : Description) (telling : Telling) where
   pub record TakesAnswer (k : CheckState) (f : FileEntry) (a : Answer)
       (result : Result (Unit {0}) DeviceFault) (k' : CheckState) : Type 0 where
     pub verdicts : Verdicts
-    pub finds : FindsAnswer t f a verdicts
+    pub finds : JudgesAnswer t f a verdicts
     pub takes : TakesVerdicts k f verdicts result k'
 
   -- each file is opened, and may wait until its line is said
@@ -108,7 +109,7 @@ module _ (spelled : Spelling) (t : Description) (telling : Telling) where
     waits = λ f. ⊤;
     holds = IsCutFor t;
     is_hasty = false;
-    finds = FindsAnswer t;
+    finds = JudgesAnswer t;
     is_ready = IsReadyAt t;
     takes = TakesAnswer;
   }

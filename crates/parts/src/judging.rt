@@ -6,7 +6,7 @@ ghost use Rattle.folders.specs.TakeAll.{IsReadWithin};
 ghost use Rattle.folders.specs.Verdicts.{IsFileOf};
 ghost use Rattle.opening.specs.Description.{Description, FileEntry};
 ghost use Rattle.opening.specs.Seen.{file_entry};
-ghost use Rattle.parts.specs.Passing.{AreCutsGood, AreCutsWhole, FindsAnswer, FindsContent, IsCutFor, IsJudgedGood, IsReadToCheck};
+ghost use Rattle.parts.specs.Passing.{AreCutsGood, AreCutsWhole, JudgesAnswer, JudgesContent, IsCutFor, IsJudgedGood, IsReadToCheck};
 ghost use Rattle.passes.specs.Held.{GivesContent, as_answer, content};
 ghost use Rattle.passes.specs.Passing.{ReadsFor};
 
@@ -22,7 +22,7 @@ use std::alloc::Global;
 
 /// The verdicts on a file at whose path there is nothing to be held, for this reason.
 pub(crate) fn verdicts_of(nothing: Nothing) -> Verdicts
-    ensures { (t : Description) (f : FileEntry) → FindsAnswer t f (as_answer nothing) result }
+    ensures { (t : Description) (f : FileEntry) → JudgesAnswer t f (as_answer nothing) result }
 {
     match nothing {
         Nothing::Unasked | Nothing::Missing => Verdicts::not_whole(FileVerdict::Missing),
@@ -42,7 +42,7 @@ pub(crate) fn read_or_hold<F: Source>(
 ) -> Result<Option<Verdicts>, DeviceFault>
     requires some { 0 < length buffer.old }
     requires file { IsFileOf torrent.now (file_entry entry.now) }
-    ensures reads { ReadsFor (FindsAnswer torrent.now (file_entry entry.now))
+    ensures reads { ReadsFor (JudgesAnswer torrent.now (file_entry entry.now))
         (IsReadToCheck entry.now.length) entry.now.length (F.seen file.old) (F.seen file.new)
         held.old held.new result }
     ensures counts { CountsFault (F.seen file.old).faults (F.seen file.new).faults result }
@@ -67,7 +67,7 @@ pub(crate) fn judge_source<F: Source>(
     requires file { IsFileOf torrent.now (file_entry file.now) }
     ensures judged { IfOk result (λ v. (bytes : List ℕ)
         × GivesContent (IsReadToCheck file.now.length) bytes (F.seen source.old)
-        (F.seen source.new) × FindsContent torrent.now (file_entry file.now) bytes v) }
+        (F.seen source.new) × JudgesContent torrent.now (file_entry file.now) bytes v) }
     ensures early { OnErr result (IsReadWithin file.now.length (F.seen source.old)
         (F.seen source.new)) }
     ensures counts { CountsFault (F.seen source.old).faults (F.seen source.new).faults result }
@@ -96,7 +96,7 @@ pub(crate) fn judge_held(
     requires whole { (bytes : List ℕ)
         × (slice_get held.now.answers place ≡ Some (content bytes)) }
     ensures { (bytes : List ℕ) → slice_get held.now.answers place ≡ Some (content bytes)
-        → FindsContent torrent.now (file_entry file.now) bytes result }
+        → JudgesContent torrent.now (file_entry file.now) bytes result }
 {
     let bytes = held.bytes(place);
     if bytes.len() as u64 != file.length {
@@ -175,7 +175,7 @@ fn judge_bytes(
 ) -> Verdicts
     requires some { 0 < length buffer.old }
     requires file { IsFileOf torrent.now (file_entry file.now) }
-    ensures { FindsContent torrent.now (file_entry file.now) bytes.now result }
+    ensures { JudgesContent torrent.now (file_entry file.now) bytes.now result }
 {
     let mut source = HeldBytes { rest: bytes };
     match judge_source(alloc, torrent, file, &mut source, buffer) {

@@ -4,7 +4,7 @@ use Rattle.std.proofs.lemmas.Option.{same_Some}
 use Rattle.chains.proofs.Cases.{item_at}
 use Rattle.opening.specs.Seen.{file_entry}
 use Rattle.opening.proofs.Placing.{file_there}
-use Rattle.parts.specs.Passing.{FindsAnswer, FindsContent}
+use Rattle.parts.specs.Passing.{JudgesAnswer, JudgesContent}
 use Rattle.parts.proofs.job.CheckJobJobCheckScratchChecked.found.Goals as goal
 
 pub judge_held-requires-clause-file : goal.judge_held-requires-clause-file
@@ -27,5 +27,5 @@ returns-in-None-clause-found g c i a there at =
     (omega (arith, c.requires.there, ap length c.files.ensures, length-map c.files.result.now file_entry)) c.index-files-number.is in
     let same : file_entry c.index-files-number.result ≡ i = same_Some (file_entry c.index-files-number.result) i (sym is ∙ there) in
     let whole = c.in-None.ensures a at in
-    subst (λ x. FindsAnswer t i x c.judge_held.result) (sym whole.1)
-    (subst (λ f. FindsContent t f whole.0 c.judge_held.result) same (c.judge_held.ensures whole.0 (at ∙ ap Some whole.1)))
+    subst (λ x. JudgesAnswer t i x c.judge_held.result) (sym whole.1)
+    (subst (λ f. JudgesContent t f whole.0 c.judge_held.result) same (c.judge_held.ensures whole.0 (at ∙ ap Some whole.1)))
