@@ -1,5 +1,6 @@
 -- Where a pass stops: what was done before, and what was looked at behind.
-use Rattle.std.proofs.Common.{◌≡◌, ◌∙◌, ◌⊎◌, inl, inr, ℕ, zero, suc, ◌+◌, ◌-◌, ◌<◌, ◌≤◌, false, List, [], ◌∷◌, length, take, drop, slice_get, Option, Some, None}
+use Rattle.std.proofs.Common.{◌≡◌, ◌∙◌, ◌⊎◌, inl, inr, ℕ, zero, suc, ◌+◌, ◌-◌, ◌<◌, ◌≤◌, false, List, [], ◌∷◌, length, take, drop, slice_get}
+use Rattle.std.proofs.Common.{Option, Some, None}
 use Rattle.std.proofs.Common.{refl, sym, ap, subst, arith, take-take}
 use Rattle.std.proofs.lemmas.Bool.{cases_lt}
 use Rattle.std.proofs.lemmas.List.{drop-take, length-drop, length-take, nil_from_length, take-append-drop}
@@ -22,7 +23,8 @@ taken_item n xs j x is = subst (λ ys. slice_get ys j ≡ Some x) (take-append-d
 
 module _ {S F : Type 0} (shelf : Ghosts S F) (seen : F → SourceSeen) {Item State Found Stop : Type 0} (t : Task Item State Found Stop) where
   -- what is on the shelf stays
-  looked_still : (IsRead : Reach) (want : Option Want) (s : S) (a : Answer) (s' : S) → Looks shelf seen IsRead want s a s' → shelf.contents s' ≡ shelf.contents s
+  looked_still : (IsRead : Reach) (want : Option Want) (s : S) (a : Answer) (s' : S) → Looks shelf seen IsRead want s a s'
+      → shelf.contents s' ≡ shelf.contents s
   looked_still IsRead None s a s' looks = ap shelf.contents looks.1
   looked_still IsRead (Some w) s unasked s' looks = absurd looks
   looked_still IsRead (Some w) s missing s' looks = looks.stays

@@ -49,7 +49,8 @@ pub returns-in-Ok-clause-stays : goal.returns-in-Ok-clause-stays
 returns-in-Ok-clause-stays g c =
     let t = c.args.torrent.now in
     let all = c.in-Ok.ensures.all in
-    looks_still g.S.Shelf g.S.File.Source.seen (check_task g.L.LineSink.spelled t c.args.telling) c.args.shelf.now t.files all.answers c.pass.new.shelf all.looks
+    looks_still g.S.Shelf g.S.File.Source.seen (check_task g.L.LineSink.spelled t c.args.telling) c.args.shelf.now
+    t.files all.answers c.pass.new.shelf all.looks
 
 pub returns-clause-ends : goal.returns-clause-ends
 returns-clause-ends g c =
