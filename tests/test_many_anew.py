@@ -289,12 +289,14 @@ def test_a_run_that_is_killed():
             time.sleep(0.01)
         program.kill()
         program.communicate()
+        # (one more may have begun before the second one ended)
+        whole = len(names_in(f"{place}/kept/parts"))
         assert there.run(*words) == (2, "", "fault: another run is at work there\n")
         os.remove(f"{place}/halt")
         while there.run(*words)[0] == 2:
             assert time.monotonic() < end
             time.sleep(0.05)
-        assert len(there.ran()) == 4
+        assert len(there.ran()) == 6 - whole and whole in (2, 3)
 
 
 def test_a_look_tells_one_file_from_another():
